@@ -1,0 +1,78 @@
+-- `wide::division::digit` meets its contract. The invariant: q and r divide rest by d's upper digit, and q is not too small. Assumes nothing.
+use mathlib.Core.Path.{_≡_}
+use mathlib.Core.Logic.{⊎-elim}
+use Prim.Native.Nat.{ℕ, _+_, _*_, _/_, _%_, _^_, _≤_, _<_}
+use native.Mathlib.Nat.{div-add-mod'}
+use native.Mathlib.Omega.{arith}
+use Rattle.wide.proofs.Words.{top}
+use Rattle.wide.proofs.division.Laws.{pos, first, failed, long, passed, past, again}
+use Rattle.wide.proofs.division.digit.Statement.{statement}
+use Rattle.wide.proofs.division.digit.Tie as tie
+use Rattle.wide.proofs.division.digit.Reads as reads
+use Rattle.wide.proofs.division.digit.Lts as lts
+
+abbrev Inv-loop : tie.InvT-loop
+Inv-loop rest next d d1 d0 q₀ r₀ q r = (q * d1 + r ≡ rest) × (rest * 2 ^ 32 + next < q * d + d)
+
+abbrev μ-loop : tie.MeasureT-loop
+μ-loop rest next d d1 d0 q₀ r₀ q r = q
+
+div-q : tie.Need-div-q Inv-loop μ-loop
+div-q c = omega arith
+
+rem-r : tie.Need-rem-r Inv-loop μ-loop
+rem-r c = omega arith
+
+loop-holds : tie.Need-loop-holds Inv-loop μ-loop
+loop-holds c = (div-add-mod' _ _, first _ _ _ (c .args .d / 2 ^ 32) (c .args .d % 2 ^ 32) (omega arith) (omega arith) (omega arith))
+
+mul-if2 : tie.Need-mul-if2 Inv-loop μ-loop
+mul-if2 c = omega (arith, top (c .before .before .loop .q) (c .before .before .before .args .d % 2 ^ 32) (omega arith) (omega arith))
+
+mul-if2-2 : tie.Need-mul-if2-2 Inv-loop μ-loop
+mul-if2-2 c = omega arith
+
+add-if2 : tie.Need-add-if2 Inv-loop μ-loop
+add-if2 c = omega arith
+
+returns : tie.Need-returns Inv-loop μ-loop
+returns c =
+    let l = c .before .before .before .loop in
+    let a = c .before .before .before .before .args in
+    (passed _ _ _ (a .d / 2 ^ 32) (a .d % 2 ^ 32) (omega arith) (l .q) (l .r) (l .inv .0) (c .if2 .taken), l .inv .1)
+
+-- where the turn goes on, the estimate is too large
+large : (c : tie.Joined1 Inv-loop μ-loop) → c .before .before .before .args .rest * 2 ^ 32 + c .before .before .before .args .next < c .before .before .loop .q * c .before .before .before .args .d
+large c =
+    let l = c .before .before .loop in
+    let a = c .before .before .before .args in
+    ⊎-elim
+    (λ w. failed (a .rest) (a .next) (a .d) (a .d / 2 ^ 32) (a .d % 2 ^ 32) (omega arith) (l .q) (l .r) (l .inv .0) (w .1 .left))
+    (λ w. long (a .rest) (a .next) (a .d) (a .d / 2 ^ 32) (a .d % 2 ^ 32) (omega arith) (l .q) (omega arith) (omega arith) (w .left))
+    (c .if1 .came)
+
+above : (c : tie.Joined1 Inv-loop μ-loop) → 0 < c .before .before .loop .q
+above c = pos _ _ _ (large c)
+
+sub-q : tie.Need-sub-q Inv-loop μ-loop
+sub-q c = omega (arith, above c)
+
+add-r : tie.Need-add-r Inv-loop μ-loop
+add-r c = omega arith
+
+loop-less : tie.Need-loop-less Inv-loop μ-loop
+loop-less c = omega (arith, above c)
+
+loop-again : tie.Need-loop-again Inv-loop μ-loop
+loop-again c = again _ _ _ (c .before .before .loop .q) _ (c .before .before .loop .r) _ (omega (arith, above c)) (c .before .before .loop .inv .0) (large c)
+
+returns-2 : tie.Need-returns-2 Inv-loop μ-loop
+returns-2 c =
+    let l = c .before .loop in
+    let a = c .before .before .args in
+    (past _ _ _ (a .d / 2 ^ 32) (a .d % 2 ^ 32) (omega arith) (l .q) (l .r) (omega arith) (omega arith) (l .inv .0) (c .loop-test .left), l .inv .1)
+
+pub digit-spec : {M : Type 1} → statement M
+digit-spec =
+    tie.close
+    (tie.spec Inv-loop μ-loop div-q rem-r loop-holds mul-if2 mul-if2-2 add-if2 returns sub-q add-r loop-less loop-again returns-2)

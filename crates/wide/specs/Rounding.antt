@@ -1,0 +1,81 @@
+-- What rounded scaling keeps of a bracket, for all whole numbers: a lower bound, an upper bound, their order and their width.
+-- A value x is the fraction xn / xd, a factor f is fn / fd, and a bound b stands for the fraction b / U.
+use mathlib.Core.Path.{_≡_, ap, _∙_}
+use Prim.Native.Nat.{ℕ, zero, _+_, _-_, _*_, _/_, _≤_, _<_}
+use native.Mathlib.Nat.{le-of-eq, mul-le-mul, mul-le-mul-left, mul-le-mul-right, div-mul-le-self, lt-div-mul-add, le-of-mul-le-mul-right, mul-pos, eq-zero-or-pos, div-zero}
+use native.Mathlib.Omega.{arith}
+use mathlib.Core.Logic.{⊎-elim}
+use Rattle.wide.specs.Scaling.{floor, ceiling}
+
+-- THE WIDTH. A bracket low .. high is at most a + (r / R) * high wide
+pub record Narrow (R a r low high : ℕ) : Type 0 where
+  pub width : R * high ≤ R * low + R * a + r * high
+
+-- the two roundings by their products
+pub floor-le : (a n d : ℕ) → floor a n d * d ≤ a * n
+floor-le a n d = div-mul-le-self (a * n) d
+
+pub floor-lt : (a n d : ℕ) → zero < d → a * n < floor a n d * d + d
+floor-lt a n d h = lt-div-mul-add h
+
+pub ceiling-ge : (a n d : ℕ) → zero < d → a * n ≤ ceiling a n d * d
+ceiling-ge a n d h = omega (arith, lt-div-mul-add {a = a * n + (d - 1)} {b = d} h)
+
+pub ceiling-lt : (a n d : ℕ) → zero < d → ceiling a n d * d < a * n + d
+ceiling-lt a n d h = omega (arith, div-mul-le-self (a * n + (d - 1)) d)
+
+-- THE LOWER BOUND. lo / U ≤ x and ln / ld ≤ f give (lo * ln / ld) / U ≤ x * f. A division by 0 gives 0, so ld may be 0
+pub scaled-lower : (lo xn xd U ln ld fn fd : ℕ) → lo * xd ≤ xn * U → ln * fd ≤ fn * ld → floor lo ln ld * (xd * fd) ≤ (xn * fn) * U
+scaled-lower lo xn xd U ln ld fn fd below factor =
+    ⊎-elim
+    (λ e. omega (arith, mul-le-mul-right (xd * fd) (le-of-eq (ap (λ (d : ℕ). (lo * ln) / d) e ∙ div-zero (lo * ln)))))
+    (λ pos. le-of-mul-le-mul-right {k = ld} (omega (arith, mul-le-mul-right (xd * fd) (floor-le lo ln ld), mul-le-mul below factor)) pos)
+    (eq-zero-or-pos ld)
+
+-- THE UPPER BOUND. x ≤ hi / U and f ≤ hn / hd give x * f ≤ (hi * hn / hd, rounded up) / U
+pub scaled-upper : (hi xn xd U hn hd fn fd : ℕ) → zero < hd → xn * U ≤ hi * xd → fn * hd ≤ hn * fd → (xn * fn) * U ≤ ceiling hi hn hd * (xd * fd)
+scaled-upper hi xn xd U hn hd fn fd pos above factor =
+    le-of-mul-le-mul-right {k = hd}
+    (omega (arith, mul-le-mul-right (xd * fd) (ceiling-ge hi hn hd pos), mul-le-mul above factor))
+    pos
+
+-- the exact products of the bounds, before they are rounded. A is hn * ld, B is ln * hd and W is hd * ld
+exact : (R a b r rho lo hi A B W : ℕ) → lo ≤ hi → Narrow R a r lo hi → R * A ≤ R * B + rho * A → a * A ≤ b * W
+    → R * (hi * A) ≤ R * (lo * B) + R * (b * W) + (r + rho) * (hi * A)
+exact R a b r rho lo hi A B W order narrow factor most =
+    omega (arith, mul-le-mul-right A (narrow .width), mul-le-mul-left lo factor, mul-le-mul-right (rho * A) order, mul-le-mul-left R most)
+
+-- and rounded: X is hi * A, Y is lo * B
+rounded : (R b s lo' hi' X Y W : ℕ) → zero < W → R * X ≤ R * Y + R * (b * W) + s * X → hi' * W ≤ X + W → X ≤ hi' * W → Y ≤ lo' * W + W
+    → Narrow R (b + 2) s lo' hi'
+rounded R b s lo' hi' X Y W pos e up most low =
+    record {
+      width = le-of-mul-le-mul-right {m = R * hi'} {n = R * lo' + R * (b + 2) + s * hi'} {k = W}
+          (omega (arith, mul-le-mul-left R up, mul-le-mul-left s most, mul-le-mul-left R low))
+          pos;
+    }
+
+-- THE WIDTH. After scaling by a factor hn / hd that is itself rho / R wide, and that takes a to at most b, it is at most b + 2 + ((r + rho) / R) * hi' wide
+pub scaled-width : (R a b r rho lo hi ln ld hn hd : ℕ) → zero < ld → zero < hd → lo ≤ hi → Narrow R a r lo hi
+    → R * (hn * ld) ≤ R * (ln * hd) + rho * (hn * ld) → a * hn ≤ b * hd
+    → Narrow R (b + 2) (r + rho) (floor lo ln ld) (ceiling hi hn hd)
+scaled-width R a b r rho lo hi ln ld hn hd pl ph order narrow factor most =
+    rounded R b (r + rho) (floor lo ln ld) (ceiling hi hn hd) (hi * (hn * ld)) (lo * (ln * hd)) (hd * ld) (mul-pos ph pl)
+    (exact R a b r rho lo hi (hn * ld) (ln * hd) (hd * ld) order narrow factor (omega (arith, mul-le-mul-right ld most)))
+    (omega (arith, mul-le-mul-right ld (ceiling-lt hi hn hd ph)))
+    (omega (arith, mul-le-mul-right ld (ceiling-ge hi hn hd ph)))
+    (omega (arith, mul-le-mul-right hd (floor-lt lo ln ld pl)))
+
+-- the same for a factor that is at most F
+pub scaled-width-by : (R a r rho F lo hi ln ld hn hd : ℕ) → zero < ld → zero < hd → lo ≤ hi → Narrow R a r lo hi
+    → R * (hn * ld) ≤ R * (ln * hd) + rho * (hn * ld) → hn ≤ F * hd
+    → Narrow R (F * a + 2) (r + rho) (floor lo ln ld) (ceiling hi hn hd)
+scaled-width-by R a r rho F lo hi ln ld hn hd pl ph order narrow factor most =
+    scaled-width R a (F * a) r rho lo hi ln ld hn hd pl ph order narrow factor (omega (arith, mul-le-mul-left a most))
+
+-- the order of the bounds is kept
+pub scaled-order : (lo hi ln ld hn hd : ℕ) → zero < ld → zero < hd → lo ≤ hi → ln * hd ≤ hn * ld → floor lo ln ld ≤ ceiling hi hn hd
+scaled-order lo hi ln ld hn hd pl ph le factor =
+    le-of-mul-le-mul-right {k = ld * hd}
+    (omega (arith, mul-le-mul-right hd (floor-le lo ln ld), mul-le-mul-right ld (ceiling-ge hi hn hd ph), mul-le-mul le factor))
+    (mul-pos pl ph)

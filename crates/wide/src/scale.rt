@@ -1,0 +1,39 @@
+// a * n / d, rounded down and rounded up, with the product exact.
+ghost use mathlib.Core.Path.{_≡_};
+ghost use Rattle.wide.specs.Scaling.{scaledDown, scaledUp};
+use crate::division::divide;
+use crate::word::plus;
+use crate::word::product;
+
+// A quotient that fits 64 bits. A larger one, and a division by 0, is too large.
+pub enum Scaled {
+    Value(u64),
+    TooLarge,
+}
+
+// a * n / d, rounded down.
+pub fn scale_down(a: u64, n: u64, d: u64) -> Scaled
+    ensures { λ r. ⌜ r ≡ scaledDown a n d ⌝ }
+{
+    let w = product(a, n);
+    if w.high < d {
+        Scaled::Value(divide(w, d))
+    } else {
+        Scaled::TooLarge
+    }
+}
+
+// a * n / d, rounded up.
+pub fn scale_up(a: u64, n: u64, d: u64) -> Scaled
+    ensures { λ r. ⌜ r ≡ scaledUp a n d ⌝ }
+{
+    if d == 0 {
+        return Scaled::TooLarge;
+    }
+    let w = plus(product(a, n), d - 1);
+    if w.high < d {
+        Scaled::Value(divide(w, d))
+    } else {
+        Scaled::TooLarge
+    }
+}
