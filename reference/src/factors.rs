@@ -1,0 +1,163 @@
+//! The exact factors of a site, each a fraction.
+
+use crate::model::{
+    CrossingModel, SegmentModel, WidthTable, HEAVY_TRAFFIC, LIGHT_TRAFFIC, WIDTH_UNIT,
+};
+use crate::rational::Rational;
+use crate::record::Site;
+use crate::rules::Field;
+
+/// A width table's value at a column and a traffic.
+fn width_value<const N: usize>(table: &WidthTable<N>, column: usize, traffic: u64) -> Rational {
+    let value = if traffic < LIGHT_TRAFFIC {
+        table.light[column]
+    } else if traffic <= HEAVY_TRAFFIC {
+        table.light[column] + table.slope[column] * (traffic - LIGHT_TRAFFIC) as i64
+    } else {
+        table.heavy[column]
+    };
+    Rational::of(value as u64, WIDTH_UNIT)
+}
+
+/// 1 + share (value - 1), written so that no part is negative.
+fn of_related(model: &SegmentModel, value: &Rational) -> Rational {
+    let share = model.related_share.exact();
+    &(&Rational::one() - &share) + &(&share * value)
+}
+
+pub fn lane(model: &SegmentModel, width: u64, traffic: u64) -> Rational {
+    let column = width.clamp(9, 12) - 9;
+    of_related(model, &width_value(&model.lane, column as usize, traffic))
+}
+
+/// The columns are 0, 2, 4, 6 and 8 or more feet; an odd width takes the next
+/// lower one.
+pub fn shoulder(model: &SegmentModel, width: u64, shoulder_type: u64, traffic: u64) -> Rational {
+    let column = (width.min(8) / 2) as usize;
+    let by_width = width_value(&model.shoulder, column, traffic);
+    let by_type = Rational::of(model.shoulder_type[shoulder_type as usize][column], 100);
+    of_related(model, &(&by_width * &by_type))
+}
+
+/// The curve's length in thousandths of a mile, its radius in feet and how
+/// many of its ends have a spiral.
+pub fn curve(model: &SegmentModel, length: u64, radius: u64, spiral_ends: u64) -> Rational {
+    let base = &model.curve_length.exact() * &Rational::of(length, 1_000);
+    let sharp = &model.curve_radius.exact() * &Rational::of(1, radius);
+    let spiral = &model.curve_spiral.exact() * &Rational::of(spiral_ends, 2);
+    match sharp.checked_sub(&spiral) {
+        Some(added) => &(&base + &added) * &base.reciprocal(),
+        None => Rational::one(),
+    }
+}
+
+/// The deficiency in thousandths.
+pub fn superelevation(model: &SegmentModel, deficiency: u64) -> Rational {
+    let steps = &model.superelevation;
+    if deficiency < steps.start {
+        return Rational::one();
+    }
+    let (base, slope, from) = if deficiency <= steps.turn {
+        (Rational::one(), steps.first_slope, steps.start)
+    } else {
+        (steps.at_turn.exact(), steps.second_slope, steps.turn)
+    };
+    &base + &Rational::of(slope * (deficiency - from), 1_000)
+}
+
+pub fn grade(model: &SegmentModel, percent: u64) -> Rational {
+    model.grade.exact().pow(percent as u32)
+}
+
+pub fn two_way_lane(model: &SegmentModel, present: u64, driveways: u64) -> Rational {
+    if present == 0 || driveways < model.two_way_fewest_driveways {
+        return Rational::one();
+    }
+    let linear = &model.two_way_linear.exact() * &Rational::whole(driveways);
+    let square = &model.two_way_square.exact() * &Rational::whole(driveways * driveways);
+    let q = &linear + &square;
+    let share = &q * &(&model.two_way_offset.exact() + &q).reciprocal();
+    &Rational::one() - &(&model.two_way_share.exact() * &share)
+}
+
+pub fn passing(model: &SegmentModel, passing: u64) -> Rational {
+    Rational::of(model.passing[passing as usize], 100)
+}
+
+/// The driveway part at one value of ln A:
+/// (0.2 + c DD) / (0.2 + 5 c), c = 0.05 - 0.005 ln A.
+///
+/// No estimate of ln A passes 10 while A is at most 20,000, so c is not
+/// negative.
+pub fn driveway(model: &SegmentModel, driveways: u64, log_traffic: &Rational) -> Rational {
+    let fall = &model.driveway_log_slope.exact() * log_traffic;
+    let c = &model.driveway_slope.exact() - &fall;
+    let at = |count: u64| &model.driveway_offset.exact() + &(&c * &Rational::whole(count));
+    &at(driveways) * &at(model.driveway_base).reciprocal()
+}
+
+/// The product of a segment's exact factors.
+pub fn of_segment(model: &SegmentModel, site: &Site) -> Rational {
+    let traffic = site.value(Field::Traffic);
+    let parts = [
+        lane(model, site.value(Field::LaneWidth), traffic),
+        shoulder(
+            model,
+            site.value(Field::ShoulderWidth),
+            site.value(Field::ShoulderType),
+            traffic,
+        ),
+        of_curve(model, site),
+        grade(model, site.value(Field::Grade)),
+        two_way_lane(
+            model,
+            site.value(Field::TwoWayLane),
+            site.value(Field::Driveways),
+        ),
+        passing(model, site.value(Field::Passing)),
+    ];
+    product(&parts)
+}
+
+/// The curve's two factors; 1 on a straight road.
+fn of_curve(model: &SegmentModel, site: &Site) -> Rational {
+    if !site.is_curve() {
+        return Rational::one();
+    }
+    let bend = curve(
+        model,
+        site.value(Field::CurveLength),
+        site.value(Field::Radius),
+        site.value(Field::SpiralEnds),
+    );
+    &bend * &superelevation(model, site.value(Field::Deficiency))
+}
+
+pub fn left_turn(model: &CrossingModel, lanes: u64) -> Rational {
+    Rational::of(model.left_turn[lanes as usize], 1_000)
+}
+
+pub fn right_turn(model: &CrossingModel, lanes: u64) -> Rational {
+    Rational::of(model.right_turn[lanes as usize], 1_000)
+}
+
+pub fn sight(model: &CrossingModel, quadrants: u64) -> Rational {
+    let added = &model.sight_step.exact() * &Rational::whole(quadrants);
+    &Rational::one() + &added
+}
+
+/// The product of a crossing's exact factors.
+pub fn of_crossing(model: &CrossingModel, site: &Site) -> Rational {
+    let quadrants = site.get(Field::LimitedQuadrants).unwrap_or(0);
+    product(&[
+        left_turn(model, site.value(Field::LeftTurnLanes)),
+        right_turn(model, site.value(Field::RightTurnLanes)),
+        sight(model, u64::from(quadrants)),
+    ])
+}
+
+fn product(parts: &[Rational]) -> Rational {
+    parts
+        .iter()
+        .fold(Rational::one(), |whole, part| &whole * part)
+}

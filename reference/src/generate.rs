@@ -1,0 +1,288 @@
+//! Seeded projects, plain and extreme, and damaged files made from them.
+
+use crate::project::{encode_header, write_project, Header, Project};
+use crate::record::{encode_record, write_site, Site, RECORD_HEAD};
+use crate::rules::{
+    rules, Field, Presence, Rule, EDITION, KIND_NAMES, MOST_CALIBRATION, MOST_SITES, MOST_YEARS,
+};
+
+/// A small generator of numbers (splitmix64): the same seed, the same run.
+#[derive(Clone, Debug)]
+pub struct Random {
+    state: u64,
+}
+
+impl Random {
+    pub fn new(seed: u64) -> Random {
+        Random { state: seed }
+    }
+
+    pub fn next(&mut self) -> u64 {
+        self.state = self.state.wrapping_add(0x9E37_79B9_7F4A_7C15);
+        let mut z = self.state;
+        z = (z ^ z >> 30).wrapping_mul(0xBF58_476D_1CE4_E5B9);
+        z = (z ^ z >> 27).wrapping_mul(0x94D0_49BB_1331_11EB);
+        z ^ z >> 31
+    }
+
+    /// A number below `bound`, which is above 0.
+    pub fn below(&mut self, bound: usize) -> usize {
+        (self.next() % bound as u64) as usize
+    }
+
+    /// True once in `times`.
+    pub fn once_in(&mut self, times: usize) -> bool {
+        self.below(times) == 0
+    }
+
+    pub fn pick<T: Copy>(&mut self, items: &[T]) -> T {
+        items[self.below(items.len())]
+    }
+
+    pub fn between(&mut self, low: u16, high: u16) -> u16 {
+        low + self.below(usize::from(high - low) + 1) as u16
+    }
+}
+
+/// Traffic where the model's cases meet: the stored powers end at 256, the
+/// width tables turn at 400 and 2,000.
+const TRAFFIC_EDGES: [u16; 12] = [
+    1, 2, 255, 256, 257, 399, 400, 401, 1_999, 2_000, 2_001, 20_000,
+];
+
+/// A value in a rule's range, often at an edge.
+fn value(random: &mut Random, rule: &Rule) -> u16 {
+    let traffic = matches!(rule.field, Field::Traffic | Field::MinorTraffic);
+    match random.below(4) {
+        0 if traffic => random.pick(&TRAFFIC_EDGES),
+        0 => random.pick(&[rule.low, rule.high]),
+        1 => {
+            let step = random.between(0, 2).min(rule.high - rule.low);
+            random.pick(&[rule.low + step, rule.high - step])
+        }
+        _ => random.between(rule.low, rule.high),
+    }
+}
+
+/// A site that the writer accepts.
+pub fn site(random: &mut Random) -> Site {
+    let kind = random.below(KIND_NAMES.len()) as u8;
+    let mut site = Site::empty(kind);
+    let curve = random.once_in(2);
+    let history = random.once_in(2);
+    // Some sites are plain, some have every field, most are mixed.
+    let share = random.pick(&[1, 2, 2, 3, 1_000]);
+    for rule in rules(kind).unwrap_or(&[]) {
+        let spelled = random.once_in(share);
+        let drawn = value(random, rule);
+        let chosen = match rule.presence {
+            Presence::Needed => Some(drawn),
+            Presence::History => history.then_some(drawn),
+            Presence::Curve => curve.then_some(drawn),
+            Presence::Default(default) => Some(if spelled { drawn } else { default }),
+            Presence::CurveDefault(default) => {
+                curve.then_some(if spelled { drawn } else { default })
+            }
+        };
+        site.set(rule.field, chosen);
+    }
+    site
+}
+
+fn header(random: &mut Random) -> Header {
+    let calibration = |random: &mut Random| match random.below(3) {
+        0 => random.pick(&[1, 2, 1_000, MOST_CALIBRATION - 1, MOST_CALIBRATION]),
+        _ => random.between(1, MOST_CALIBRATION),
+    };
+    Header {
+        edition: EDITION,
+        years: random.between(1, u16::from(MOST_YEARS)) as u8,
+        segment_calibration: calibration(random),
+        crossing_calibration: calibration(random),
+    }
+}
+
+/// A project with this many sites.
+pub fn project_of(random: &mut Random, sites: usize) -> Project {
+    Project {
+        header: header(random),
+        sites: (0..sites).map(|_| site(random)).collect(),
+    }
+}
+
+/// A project, most often small.
+pub fn project(random: &mut Random) -> Project {
+    let sites = match random.below(200) {
+        0 => random.below(120),
+        1..=9 => random.below(20),
+        _ => random.below(7),
+    };
+    project_of(random, sites)
+}
+
+/// A project of the largest size.
+pub fn largest_project(random: &mut Random) -> Project {
+    project_of(random, usize::from(MOST_SITES))
+}
+
+/// The records of a project, one list of bytes each.
+fn records(project: &Project) -> Vec<Vec<u8>> {
+    let record = |site| write_site(site, usize::MAX).expect("a site that the writer takes");
+    project.sites.iter().map(record).collect()
+}
+
+fn assemble(header: &Header, count: u16, records: &[Vec<u8>]) -> Vec<u8> {
+    let mut file = encode_header(header, count);
+    file.extend(records.iter().flatten());
+    file
+}
+
+/// A record taken apart, free to be made wrong.
+struct RawRecord {
+    kind: u8,
+    map: u16,
+    fields: Vec<u16>,
+}
+
+impl RawRecord {
+    fn of(record: &[u8]) -> RawRecord {
+        let fields = record[RECORD_HEAD..].chunks(2);
+        RawRecord {
+            kind: record[0],
+            map: u16::from_be_bytes([record[1], record[2]]),
+            fields: fields.map(|f| u16::from_be_bytes([f[0], f[1]])).collect(),
+        }
+    }
+
+    fn encode(&self) -> Vec<u8> {
+        encode_record(self.kind, self.map, &self.fields)
+    }
+
+    /// The fields before a bit's own.
+    fn position(&self, bit: u32) -> usize {
+        (self.map & ((1 << bit) - 1)).count_ones() as usize
+    }
+
+    /// Makes a bit stand with this value.
+    fn put(&mut self, bit: u32, value: u16) {
+        let at = self.position(bit);
+        if self.map >> bit & 1 == 1 {
+            self.fields[at] = value;
+        } else {
+            self.map |= 1 << bit;
+            self.fields.insert(at, value);
+        }
+    }
+
+    /// Takes a bit and its field away.
+    fn take(&mut self, bit: u32) {
+        if self.map >> bit & 1 == 1 {
+            let at = self.position(bit);
+            self.map &= !(1 << bit);
+            self.fields.remove(at);
+        }
+    }
+}
+
+/// A value outside a rule's range, often just outside.
+fn outside(random: &mut Random, rule: &Rule) -> u16 {
+    if rule.low > 0 && random.once_in(2) {
+        random.pick(&[0, rule.low - 1])
+    } else {
+        let far = random.between(rule.high + 1, u16::MAX);
+        random.pick(&[rule.high + 1, far])
+    }
+}
+
+/// Makes one record wrong in its kind, its map or a field.
+fn damage_record(random: &mut Random, record: &[u8]) -> Vec<u8> {
+    let mut raw = RawRecord::of(record);
+    let rules = rules(raw.kind).unwrap_or(&[]);
+    let rule = random.pick(rules);
+    match random.below(8) {
+        0 => raw.kind = random.pick(&[4, 5, 6, 128, 255]),
+        1 => raw.kind = random.below(4) as u8,
+        2 => {
+            let drawn = random.next() as u16;
+            raw.put(random.below(16) as u32, drawn);
+        }
+        3 => raw.take(random.below(16) as u32),
+        4 => raw.map ^= 1 << random.below(16),
+        5 => raw.put(rule.bit, outside(random, &rule)),
+        _ => spell_default(random, &mut raw, rules),
+    }
+    raw.encode()
+}
+
+/// Writes out the default of one field.
+fn spell_default(random: &mut Random, raw: &mut RawRecord, rules: &[Rule]) {
+    let spell = |rule: &Rule| rule.default().map(|default| (rule.bit, default));
+    let defaults: Vec<(u32, u16)> = rules.iter().filter_map(spell).collect();
+    let (bit, default) = random.pick(&defaults);
+    raw.put(bit, default);
+}
+
+/// Makes the header wrong, most often in one number.
+fn damage_header(random: &mut Random, file: &mut [u8]) {
+    let zero_or_above = [0, MOST_CALIBRATION + 1, 65_535];
+    let (at, bytes) = match random.below(5) {
+        0 => (0, vec![random.pick(&[0, 2, 3, 255])]),
+        1 => (1, vec![random.pick(&[0, MOST_YEARS + 1, 255])]),
+        2 => (2, random.pick(&zero_or_above).to_be_bytes().to_vec()),
+        3 => (4, random.pick(&zero_or_above).to_be_bytes().to_vec()),
+        _ => {
+            let sites = [MOST_SITES + 1, 65_535, MOST_SITES, 1, 0];
+            (6, random.pick(&sites).to_be_bytes().to_vec())
+        }
+    };
+    file[at..at + bytes.len()].copy_from_slice(&bytes);
+}
+
+fn flip_bits(random: &mut Random, file: &mut [u8]) {
+    for _ in 0..1 + random.below(3) {
+        let at = random.below(file.len());
+        file[at] ^= 1 << random.below(8);
+    }
+}
+
+/// A file that damage was done to. Now and then it is still a project, as when
+/// a flipped bit leaves a value in its range.
+pub fn damaged_file(random: &mut Random) -> Vec<u8> {
+    let project = project(random);
+    let mut file = write_project(&project).expect("a project that the writer takes");
+    match random.below(10) {
+        0 => flip_bits(random, &mut file),
+        1 => file.truncate(random.below(file.len())),
+        2 => {
+            let extra = 1 + random.below(6);
+            file.extend((0..extra).map(|_| random.next() as u8));
+        }
+        3 => damage_header(random, &mut file),
+        4 => {
+            let off = random.pick(&[1, u16::MAX]);
+            let count = (project.sites.len() as u16).wrapping_add(off);
+            file[6..8].copy_from_slice(&count.to_be_bytes());
+        }
+        _ => file = with_damaged_records(random, &project),
+    }
+    file
+}
+
+/// The project's file with one record, or rarely two, made wrong.
+fn with_damaged_records(random: &mut Random, project: &Project) -> Vec<u8> {
+    let mut records = records(project);
+    if records.is_empty() {
+        records = vec![write_site(&site(random), usize::MAX).expect("a writable site")];
+    }
+    let first = random.below(records.len());
+    records[first] = damage_record(random, &records[first]);
+    if records.len() > 1 && random.once_in(4) {
+        let second = (first + 1) % records.len();
+        records[second] = damage_record(random, &records[second]);
+    }
+    let mut file = assemble(&project.header, records.len() as u16, &records);
+    if random.once_in(8) {
+        file.truncate(random.below(file.len()));
+    }
+    file
+}

@@ -1,0 +1,31 @@
+//! An independent reference for crash totals of two-lane rural projects.
+//!
+//! Written from document 01 (`01-scope.md`) and the report it names,
+//! FHWA-RD-99-207. It shares no code with the engine, so agreement of the two
+//! says something about both. Arithmetic is exact throughout: natural numbers
+//! of any size and fractions of two of them.
+//!
+//! - numbers: [`natural`], [`rational`], [`sum`]
+//! - brackets, apart from roads: [`estimates`]
+//! - the file: [`rules`], [`record`], [`project`], [`lines`]
+//! - the road model: [`model`], [`factors`], [`prediction`]
+//! - the report: [`report`], [`checker`]
+//! - generated inputs and programs: [`generate`], [`program`]
+
+#![forbid(unsafe_code)]
+
+pub mod checker;
+pub mod estimates;
+pub mod factors;
+pub mod generate;
+pub mod lines;
+pub mod model;
+pub mod natural;
+pub mod prediction;
+pub mod program;
+pub mod project;
+pub mod rational;
+pub mod record;
+pub mod report;
+pub mod rules;
+pub mod sum;

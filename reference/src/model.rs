@@ -1,0 +1,236 @@
+//! The numbers of the crash model (FHWA-RD-99-207 as document 01 states it),
+//! each in one place. Another edition is another `Model`.
+
+use crate::rational::Rational;
+use crate::rules;
+
+/// A number of the model, as a fraction of two whole numbers.
+#[derive(Clone, Copy, Debug)]
+pub struct Fraction(pub u64, pub u64);
+
+impl Fraction {
+    pub fn exact(self) -> Rational {
+        Rational::of(self.0, self.1)
+    }
+}
+
+/// Values by width in hundred-millionths: constant below the light traffic,
+/// rising (or falling) with traffic up to the heavy traffic, constant above.
+#[derive(Clone, Copy, Debug)]
+pub struct WidthTable<const COLUMNS: usize> {
+    pub light: [i64; COLUMNS],
+    pub slope: [i64; COLUMNS],
+    pub heavy: [i64; COLUMNS],
+}
+
+/// The unit of the width tables.
+pub const WIDTH_UNIT: u64 = 100_000_000;
+/// Traffic below this is light; from here the slopes count.
+pub const LIGHT_TRAFFIC: u64 = 400;
+/// Traffic above this is heavy.
+pub const HEAVY_TRAFFIC: u64 = 2_000;
+
+/// Turns hundredths into the width tables' unit.
+const fn hundredths<const N: usize>(values: [i64; N]) -> [i64; N] {
+    let mut scaled = values;
+    let mut i = 0;
+    while i < N {
+        scaled[i] *= WIDTH_UNIT as i64 / 100;
+        i += 1;
+    }
+    scaled
+}
+
+/// The factor of a superelevation deficiency: 1 below `start`, then rising by
+/// `first_slope` from 1, above `turn` by `second_slope` from `at_turn`. Start
+/// and turn are in thousandths.
+#[derive(Clone, Copy, Debug)]
+pub struct Superelevation {
+    pub start: u64,
+    pub turn: u64,
+    pub first_slope: u64,
+    pub at_turn: Fraction,
+    pub second_slope: u64,
+}
+
+#[derive(Clone, Copy, Debug)]
+pub struct SegmentModel {
+    /// The base model is e to the power of minus this.
+    pub base_exponent: Fraction,
+    /// Million vehicle-miles for a vehicle a day over a mile for a year.
+    pub exposure: Fraction,
+    /// Share of crashes that lane and shoulder bear on.
+    pub related_share: Fraction,
+    pub lane: WidthTable<4>,
+    pub shoulder: WidthTable<5>,
+    /// Hundredths by shoulder type and the same five widths.
+    pub shoulder_type: [[u64; 5]; 4],
+    /// 1.55, 80.2 and 0.012 of the curve's formula.
+    pub curve_length: Fraction,
+    pub curve_radius: Fraction,
+    pub curve_spiral: Fraction,
+    pub superelevation: Superelevation,
+    /// Base of the grade's power.
+    pub grade: Fraction,
+    /// 0.0047, 0.0024, 1.199 and 0.35 of the two-way lane's formula.
+    pub two_way_linear: Fraction,
+    pub two_way_square: Fraction,
+    pub two_way_offset: Fraction,
+    pub two_way_share: Fraction,
+    pub two_way_fewest_driveways: u64,
+    /// Hundredths: none, passing lane, short four-lane section.
+    pub passing: [u64; 3],
+    pub hazard_slope: Fraction,
+    pub hazard_base: u64,
+    /// 0.2, 0.05, 0.005 and 5 of the driveway part.
+    pub driveway_offset: Fraction,
+    pub driveway_slope: Fraction,
+    pub driveway_log_slope: Fraction,
+    pub driveway_base: u64,
+    pub overdispersion: Fraction,
+}
+
+#[derive(Clone, Copy, Debug)]
+pub struct CrossingModel {
+    /// The base model is e to the power of minus this.
+    pub base_exponent: Fraction,
+    /// Powers of the major and the minor traffic, over `power_unit`.
+    pub major_power: u32,
+    pub minor_power: u32,
+    pub power_unit: u32,
+    /// Factors in thousandths for none, one and two lanes.
+    pub left_turn: [u64; 3],
+    pub right_turn: [u64; 3],
+    /// Exponent for each degree of skew; none where skew does not count.
+    pub skew_slope: Option<Fraction>,
+    /// Added for each quadrant with limited sight.
+    pub sight_step: Fraction,
+    pub overdispersion: Fraction,
+}
+
+#[derive(Clone, Copy, Debug)]
+pub struct Model {
+    pub segment: SegmentModel,
+    pub three_leg_stop: CrossingModel,
+    pub four_leg_stop: CrossingModel,
+    pub four_leg_signal: CrossingModel,
+}
+
+/// The model of edition 1.
+pub const FIRST_EDITION: Model = Model {
+    segment: SEGMENT,
+    three_leg_stop: THREE_LEG_STOP,
+    four_leg_stop: FOUR_LEG_STOP,
+    four_leg_signal: FOUR_LEG_SIGNAL,
+};
+
+const SEGMENT: SegmentModel = SegmentModel {
+    base_exponent: Fraction(4_865, 10_000),
+    exposure: Fraction(365, 1_000_000),
+    related_share: Fraction(35, 100),
+    lane: WidthTable {
+        light: hundredths([105, 102, 101, 100]),
+        slope: [28_100, 17_500, 2_500, 0],
+        heavy: hundredths([150, 130, 105, 100]),
+    },
+    shoulder: WidthTable {
+        light: hundredths([110, 107, 102, 100, 98]),
+        slope: [25_000, 14_300, 8_125, 0, -6_875],
+        heavy: hundredths([150, 130, 115, 100, 87]),
+    },
+    shoulder_type: [
+        [100, 100, 100, 100, 100],
+        [100, 101, 101, 102, 102],
+        [100, 102, 103, 104, 106],
+        [100, 103, 105, 108, 111],
+    ],
+    curve_length: Fraction(155, 100),
+    curve_radius: Fraction(802, 10),
+    curve_spiral: Fraction(12, 1_000),
+    superelevation: Superelevation {
+        start: 10,
+        turn: 20,
+        first_slope: 6,
+        at_turn: Fraction(106, 100),
+        second_slope: 3,
+    },
+    grade: Fraction(1_016, 1_000),
+    two_way_linear: Fraction(47, 10_000),
+    two_way_square: Fraction(24, 10_000),
+    two_way_offset: Fraction(1_199, 1_000),
+    two_way_share: Fraction(35, 100),
+    two_way_fewest_driveways: 5,
+    passing: [100, 75, 65],
+    hazard_slope: Fraction(668, 10_000),
+    hazard_base: 3,
+    driveway_offset: Fraction(2, 10),
+    driveway_slope: Fraction(5, 100),
+    driveway_log_slope: Fraction(5, 1_000),
+    driveway_base: 5,
+    overdispersion: Fraction(31, 100),
+};
+
+const THREE_LEG_STOP: CrossingModel = CrossingModel {
+    base_exponent: Fraction(109, 10),
+    major_power: 79,
+    minor_power: 49,
+    power_unit: 100,
+    // 3ST has one lane at most; the third entry is never read.
+    left_turn: [1_000, 780, 780],
+    right_turn: [1_000, 950, 950],
+    skew_slope: Some(Fraction(40, 10_000)),
+    sight_step: Fraction(5, 100),
+    overdispersion: Fraction(54, 100),
+};
+
+const FOUR_LEG_STOP: CrossingModel = CrossingModel {
+    base_exponent: Fraction(934, 100),
+    major_power: 60,
+    minor_power: 61,
+    power_unit: 100,
+    left_turn: [1_000, 760, 580],
+    right_turn: [1_000, 950, 900],
+    skew_slope: Some(Fraction(54, 10_000)),
+    sight_step: Fraction(5, 100),
+    overdispersion: Fraction(24, 100),
+};
+
+const FOUR_LEG_SIGNAL: CrossingModel = CrossingModel {
+    base_exponent: Fraction(573, 100),
+    major_power: 60,
+    minor_power: 20,
+    power_unit: 100,
+    left_turn: [1_000, 820, 670],
+    right_turn: [1_000, 975, 950],
+    skew_slope: None,
+    // 4SG has no quadrants; its count is always none.
+    sight_step: Fraction(5, 100),
+    overdispersion: Fraction(11, 100),
+};
+
+/// What a kind's prediction is made from.
+pub enum KindModel<'a> {
+    Segment(&'a SegmentModel),
+    Crossing(&'a CrossingModel),
+}
+
+impl Model {
+    /// The model of a kind. Panics for a kind above 3.
+    pub fn of_kind(&self, kind: u8) -> KindModel<'_> {
+        match kind {
+            rules::SEGMENT => KindModel::Segment(&self.segment),
+            rules::THREE_LEG_STOP => KindModel::Crossing(&self.three_leg_stop),
+            rules::FOUR_LEG_STOP => KindModel::Crossing(&self.four_leg_stop),
+            rules::FOUR_LEG_SIGNAL => KindModel::Crossing(&self.four_leg_signal),
+            _ => panic!("a kind that the model has"),
+        }
+    }
+
+    /// k of the Empirical Bayes formula. Panics for a kind above 3.
+    pub fn overdispersion(&self, kind: u8) -> Fraction {
+        match self.of_kind(kind) {
+            KindModel::Segment(segment) => segment.overdispersion,
+            KindModel::Crossing(crossing) => crossing.overdispersion,
+        }
+    }
+}

@@ -1,0 +1,129 @@
+//! The project file: header and records, with document 01's refusals in
+//! their order.
+
+use crate::record::{cause, read_site, write_site, Refusal, Site};
+use crate::rules::{EDITION, MOST_CALIBRATION, MOST_SITES, MOST_YEARS};
+
+/// Bytes of the header.
+pub const HEADER: usize = 8;
+
+/// The longest project file: the header and the most sites with every bit.
+pub const LONGEST_FILE: usize = HEADER + MOST_SITES as usize * (3 + 2 * 15);
+
+/// The header's values apart from the count of sites.
+#[derive(Clone, Copy, Debug, PartialEq, Eq)]
+pub struct Header {
+    pub edition: u8,
+    pub years: u8,
+    /// Calibrations in thousandths.
+    pub segment_calibration: u16,
+    pub crossing_calibration: u16,
+}
+
+#[derive(Clone, Debug, PartialEq, Eq)]
+pub struct Project {
+    pub header: Header,
+    pub sites: Vec<Site>,
+}
+
+impl Project {
+    /// Numbers in the report: four for each site and four totals.
+    pub fn report_length(&self) -> usize {
+        4 * (self.sites.len() + 1)
+    }
+
+    /// The observed crashes of the sites that have a history.
+    pub fn observed(&self) -> u64 {
+        self.sites.iter().filter_map(Site::observed).sum()
+    }
+}
+
+fn refuse<T>(number: u8, place: usize) -> Result<T, Refusal> {
+    Err(Refusal { number, place })
+}
+
+fn limits_kept(header: &Header, sites: usize) -> bool {
+    let calibrated = |value| (1..=MOST_CALIBRATION).contains(&value);
+    (1..=MOST_YEARS).contains(&header.years)
+        && calibrated(header.segment_calibration)
+        && calibrated(header.crossing_calibration)
+        && sites <= usize::from(MOST_SITES)
+}
+
+/// Reads the header and the count of sites: refusals 1, 3 and 4.
+fn read_header(file: &[u8]) -> Result<(Header, usize), Refusal> {
+    if file.len() < HEADER {
+        return refuse(cause::RUNS_PAST_END, 0);
+    }
+    let number = |at: usize| u16::from_be_bytes([file[at], file[at + 1]]);
+    let header = Header {
+        edition: file[0],
+        years: file[1],
+        segment_calibration: number(2),
+        crossing_calibration: number(4),
+    };
+    let sites = usize::from(number(6));
+    if header.edition != EDITION {
+        return refuse(cause::EDITION, 0);
+    }
+    if !limits_kept(&header, sites) {
+        return refuse(cause::HEADER_LIMITS, 0);
+    }
+    Ok((header, sites))
+}
+
+/// Reads a project file whose report has space: refusals 1 to 9.
+pub fn parse_project(file: &[u8]) -> Result<Project, Refusal> {
+    let (header, count) = read_header(file)?;
+    let mut sites = Vec::with_capacity(count);
+    let mut at = HEADER;
+    for _ in 0..count {
+        let (site, length) =
+            read_site(&file[at..]).map_err(|number| Refusal { number, place: at })?;
+        sites.push(site);
+        at += length;
+    }
+    if at < file.len() {
+        return refuse(cause::BYTES_AFTER, at);
+    }
+    Ok(Project { header, sites })
+}
+
+/// Reads a project file for a report of `room` numbers: refusals 1 to 10.
+pub fn read_project(file: &[u8], room: usize) -> Result<Project, Refusal> {
+    let project = parse_project(file)?;
+    if room < project.report_length() {
+        return refuse(cause::TOO_SHORT, 0);
+    }
+    Ok(project)
+}
+
+/// The header's bytes, unchecked.
+pub fn encode_header(header: &Header, sites: u16) -> Vec<u8> {
+    let mut file = vec![header.edition, header.years];
+    file.extend(header.segment_calibration.to_be_bytes());
+    file.extend(header.crossing_calibration.to_be_bytes());
+    file.extend(sites.to_be_bytes());
+    file
+}
+
+/// Writes a project file. A header outside the limits is 3 or 4 at place 0; a
+/// site that the site writer refuses is 8 at its index.
+pub fn write_project(project: &Project) -> Result<Vec<u8>, Refusal> {
+    let header = &project.header;
+    if header.edition != EDITION {
+        return refuse(cause::EDITION, 0);
+    }
+    if !limits_kept(header, project.sites.len()) {
+        return refuse(cause::HEADER_LIMITS, 0);
+    }
+    let mut file = encode_header(header, project.sites.len() as u16);
+    for (index, site) in project.sites.iter().enumerate() {
+        let record = write_site(site, usize::MAX).map_err(|number| Refusal {
+            number,
+            place: index,
+        })?;
+        file.extend(record);
+    }
+    Ok(file)
+}

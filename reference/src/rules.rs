@@ -1,0 +1,186 @@
+//! The limits, kinds, fields and defaults of document 01: one table for each
+//! kind, read by the reader, the writer, the generator and the text form.
+
+/// Limits of the header.
+pub const EDITION: u8 = 1;
+pub const MOST_YEARS: u8 = 10;
+pub const MOST_CALIBRATION: u16 = 9_999;
+pub const MOST_SITES: u16 = 1_900;
+
+/// Kinds of site, as their byte in a record.
+pub const SEGMENT: u8 = 0;
+pub const THREE_LEG_STOP: u8 = 1;
+pub const FOUR_LEG_STOP: u8 = 2;
+pub const FOUR_LEG_SIGNAL: u8 = 3;
+
+/// The kinds of the first edition with their names in the text form.
+pub const KIND_NAMES: [&str; 4] = ["segment", "3st", "4st", "4sg"];
+
+/// The values that a site may hold.
+#[derive(Clone, Copy, Debug, PartialEq, Eq, Hash)]
+pub enum Field {
+    Traffic,
+    Length,
+    Observed,
+    LaneWidth,
+    ShoulderWidth,
+    ShoulderType,
+    CurveLength,
+    Radius,
+    SpiralEnds,
+    Deficiency,
+    Grade,
+    Driveways,
+    TwoWayLane,
+    Passing,
+    HazardRating,
+    MinorTraffic,
+    Skew,
+    LeftTurnLanes,
+    RightTurnLanes,
+    LimitedQuadrants,
+}
+
+/// Every field with its name in the text form, in the order of a site's
+/// values.
+pub const FIELD_NAMES: [(Field, &str); 20] = [
+    (Field::Traffic, "traffic"),
+    (Field::Length, "length"),
+    (Field::Observed, "observed"),
+    (Field::LaneWidth, "lane"),
+    (Field::ShoulderWidth, "shoulder"),
+    (Field::ShoulderType, "shoulder-type"),
+    (Field::CurveLength, "curve-length"),
+    (Field::Radius, "radius"),
+    (Field::SpiralEnds, "spiral-ends"),
+    (Field::Deficiency, "deficiency"),
+    (Field::Grade, "grade"),
+    (Field::Driveways, "driveways"),
+    (Field::TwoWayLane, "two-way-lane"),
+    (Field::Passing, "passing"),
+    (Field::HazardRating, "hazard-rating"),
+    (Field::MinorTraffic, "minor-traffic"),
+    (Field::Skew, "skew"),
+    (Field::LeftTurnLanes, "left-turn-lanes"),
+    (Field::RightTurnLanes, "right-turn-lanes"),
+    (Field::LimitedQuadrants, "limited-quadrants"),
+];
+
+/// When a field stands in a record, and what its absence means.
+#[derive(Clone, Copy, Debug, PartialEq, Eq)]
+pub enum Presence {
+    /// Always stands.
+    Needed,
+    /// Stands where there is a history.
+    History,
+    /// Curve length or radius: both stand, or the road is straight.
+    Curve,
+    /// Absent, it has this default, which is never spelled out.
+    Default(u16),
+    /// As `Default` on a curve; on a straight road it may not stand.
+    CurveDefault(u16),
+}
+
+/// One bit of a kind's map.
+#[derive(Clone, Copy, Debug)]
+pub struct Rule {
+    pub bit: u32,
+    pub field: Field,
+    pub low: u16,
+    pub high: u16,
+    pub presence: Presence,
+}
+
+impl Rule {
+    pub fn allows(&self, value: u16) -> bool {
+        self.low <= value && value <= self.high
+    }
+
+    pub fn default(&self) -> Option<u16> {
+        match self.presence {
+            Presence::Default(value) | Presence::CurveDefault(value) => Some(value),
+            _ => None,
+        }
+    }
+
+    /// Whether the field says something about a curve.
+    pub fn is_of_curve(&self) -> bool {
+        matches!(self.presence, Presence::Curve | Presence::CurveDefault(_))
+    }
+}
+
+const fn rule(bit: u32, field: Field, low: u16, high: u16, presence: Presence) -> Rule {
+    Rule {
+        bit,
+        field,
+        low,
+        high,
+        presence,
+    }
+}
+
+const TRAFFIC: Rule = rule(0, Field::Traffic, 1, 20_000, Presence::Needed);
+const MINOR_TRAFFIC: Rule = rule(1, Field::MinorTraffic, 1, 20_000, Presence::Needed);
+const OBSERVED: Rule = rule(2, Field::Observed, 0, 500, Presence::History);
+
+const SEGMENT_RULES: [Rule; 15] = [
+    TRAFFIC,
+    rule(1, Field::Length, 1, 20_000, Presence::Needed),
+    OBSERVED,
+    rule(3, Field::LaneWidth, 8, 14, Presence::Default(12)),
+    rule(4, Field::ShoulderWidth, 0, 10, Presence::Default(6)),
+    rule(5, Field::ShoulderType, 0, 3, Presence::Default(0)),
+    rule(6, Field::CurveLength, 1, 20_000, Presence::Curve),
+    rule(7, Field::Radius, 100, 30_000, Presence::Curve),
+    rule(8, Field::SpiralEnds, 0, 2, Presence::CurveDefault(0)),
+    rule(9, Field::Deficiency, 0, 100, Presence::CurveDefault(0)),
+    rule(10, Field::Grade, 0, 12, Presence::Default(0)),
+    rule(11, Field::Driveways, 0, 50, Presence::Default(5)),
+    rule(12, Field::TwoWayLane, 0, 1, Presence::Default(0)),
+    rule(13, Field::Passing, 0, 2, Presence::Default(0)),
+    rule(14, Field::HazardRating, 1, 7, Presence::Default(3)),
+];
+
+/// A crossing's field whose absence means none.
+const fn count(bit: u32, field: Field, high: u16) -> Rule {
+    rule(bit, field, 0, high, Presence::Default(0))
+}
+
+const THREE_LEG_STOP_RULES: [Rule; 7] = [
+    TRAFFIC,
+    MINOR_TRAFFIC,
+    OBSERVED,
+    count(3, Field::Skew, 60),
+    count(4, Field::LeftTurnLanes, 1),
+    count(5, Field::RightTurnLanes, 1),
+    count(6, Field::LimitedQuadrants, 2),
+];
+
+const FOUR_LEG_STOP_RULES: [Rule; 7] = [
+    TRAFFIC,
+    MINOR_TRAFFIC,
+    OBSERVED,
+    count(3, Field::Skew, 60),
+    count(4, Field::LeftTurnLanes, 2),
+    count(5, Field::RightTurnLanes, 2),
+    count(6, Field::LimitedQuadrants, 4),
+];
+
+const FOUR_LEG_SIGNAL_RULES: [Rule; 5] = [
+    TRAFFIC,
+    MINOR_TRAFFIC,
+    OBSERVED,
+    count(4, Field::LeftTurnLanes, 2),
+    count(5, Field::RightTurnLanes, 2),
+];
+
+/// The rules of a kind in rising bit order, or nothing for a kind above 3.
+pub fn rules(kind: u8) -> Option<&'static [Rule]> {
+    match kind {
+        SEGMENT => Some(&SEGMENT_RULES),
+        THREE_LEG_STOP => Some(&THREE_LEG_STOP_RULES),
+        FOUR_LEG_STOP => Some(&FOUR_LEG_STOP_RULES),
+        FOUR_LEG_SIGNAL => Some(&FOUR_LEG_SIGNAL_RULES),
+        _ => None,
+    }
+}

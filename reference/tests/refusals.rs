@@ -1,0 +1,437 @@
+//! Every refusal with its place and its order, for the project reader, the
+//! site reader and the site writer; round trips.
+
+use reference::generate::{damaged_file, largest_project, project, site, Random};
+use reference::lines;
+use reference::project::{
+    encode_header, parse_project, read_project, write_project, Header, Project, LONGEST_FILE,
+};
+use reference::record::{encode_record, read_site, write_site, Refusal, Site};
+use reference::rules::{rules, Field, Presence, FIELD_NAMES};
+
+const HEADER: Header = Header {
+    edition: 1,
+    years: 5,
+    segment_calibration: 1_000,
+    crossing_calibration: 1_000,
+};
+
+/// Needed bits with traffic 500 and length (or minor traffic) 600.
+const PLAIN: [u16; 2] = [500, 600];
+
+/// A file of a good segment record and then these bytes, said to hold `sites`.
+fn after_segment(sites: u16, rest: &[u8]) -> Vec<u8> {
+    let mut file = encode_header(&HEADER, sites);
+    file.extend(encode_record(0, 0b11, &PLAIN));
+    file.extend(rest);
+    file
+}
+
+/// Where the second record of `after_segment` starts.
+const SECOND: usize = 8 + 7;
+
+fn refused(file: &[u8], number: u8, place: usize) {
+    assert_eq!(parse_project(file), Err(Refusal { number, place }));
+}
+
+/// The second record of a file and the record alone are refused alike.
+fn record_refused(record: &[u8], number: u8) {
+    refused(&after_segment(2, record), number, SECOND);
+    assert_eq!(read_site(record), Err(number));
+}
+
+#[test]
+fn one_header_kind_map_or_field_runs_past_the_end() {
+    let file = encode_header(&HEADER, 0);
+    for length in 0..8 {
+        refused(&file[..length], 1, 0);
+    }
+    refused(&encode_header(&HEADER, 1), 1, 8);
+    let record = encode_record(0, 0b111, &[500, 600, 7]);
+    for length in 0..record.len() {
+        record_refused(&record[..length], 1);
+    }
+    // A missing map is tried before a wrong kind.
+    record_refused(&[9], 1);
+    record_refused(&[9, 0], 1);
+}
+
+#[test]
+fn two_bytes_after_the_last_record() {
+    refused(&after_segment(1, &[0]), 2, SECOND);
+    refused(
+        &after_segment(1, &encode_record(0, 0b11, &PLAIN)),
+        2,
+        SECOND,
+    );
+    refused(&after_segment(0, &[]), 2, 8);
+}
+
+#[test]
+fn three_edition() {
+    for edition in [0, 2, 3, 255] {
+        let header = Header { edition, ..HEADER };
+        refused(&encode_header(&header, 0), 3, 0);
+        // Tried before the limits.
+        let both = Header { years: 0, ..header };
+        refused(&encode_header(&both, 0), 3, 0);
+    }
+}
+
+#[test]
+fn four_header_limits() {
+    let accepted = |header: &Header| parse_project(&encode_header(header, 0)).is_ok();
+    for years in [1, 10] {
+        assert!(accepted(&Header { years, ..HEADER }));
+    }
+    for years in [0, 11, 255] {
+        refused(&encode_header(&Header { years, ..HEADER }, 0), 4, 0);
+    }
+    for calibration in [1, 9_999] {
+        let segment_calibration = calibration;
+        let crossing_calibration = calibration;
+        assert!(accepted(&Header {
+            segment_calibration,
+            ..HEADER
+        }));
+        assert!(accepted(&Header {
+            crossing_calibration,
+            ..HEADER
+        }));
+    }
+    for calibration in [0, 10_000, 65_535] {
+        let segment_calibration = calibration;
+        let crossing_calibration = calibration;
+        let segment = Header {
+            segment_calibration,
+            ..HEADER
+        };
+        let crossing = Header {
+            crossing_calibration,
+            ..HEADER
+        };
+        refused(&encode_header(&segment, 0), 4, 0);
+        refused(&encode_header(&crossing, 0), 4, 0);
+    }
+    refused(&encode_header(&HEADER, 1_901), 4, 0);
+    refused(&encode_header(&HEADER, 1_900), 1, 8);
+}
+
+#[test]
+fn five_kind() {
+    for kind in 4..=255 {
+        record_refused(&encode_record(kind, 0b11, &PLAIN), 5);
+        // Tried before the map and the fields.
+        record_refused(&[kind, 0xFF, 0xFF], 5);
+    }
+}
+
+#[test]
+fn six_bit_that_the_kind_lacks() {
+    for (kind, lacking) in [
+        (0, vec![15]),
+        (1, (7..16).collect()),
+        (2, (7..16).collect()),
+        (3, vec![3, 6, 7, 15]),
+    ] {
+        for bit in lacking {
+            record_refused(&encode_record(kind, 1 << bit, &[]), 6);
+            record_refused(&encode_record(kind, 0b11 | 1 << bit, &[500, 600, 1]), 6);
+        }
+    }
+}
+
+#[test]
+fn seven_needed_and_curve_bits() {
+    for kind in 0..4 {
+        for map in [0b00, 0b01, 0b10, 0b101] {
+            record_refused(&encode_record(kind, map, &[]), 7);
+        }
+    }
+    for curve in [0x040, 0x080, 0x100, 0x200, 0x140, 0x280, 0x300, 0x340] {
+        record_refused(&encode_record(0, 0b11 | curve, &[]), 7);
+    }
+    for curve in [0x0C0, 0x1C0, 0x2C0, 0x3C0] {
+        // The map is right, so what is missing now is the fields.
+        record_refused(&encode_record(0, 0b11 | curve, &[]), 1);
+    }
+}
+
+/// The map and fields of a record in which this bit stands with this value,
+/// on a curve where the bit needs one.
+fn record_with(kind: u8, bit: u32, value: u16) -> Vec<u8> {
+    let curve = kind == 0 && (6..10).contains(&bit);
+    let map = 0b11 | 1 << bit | if curve { 0xC0 } else { 0 };
+    let mut fields = Vec::new();
+    for each in (0..16).filter(|each| map >> each & 1 == 1) {
+        let plain = [500, 600, 0, 0, 0, 0, 700, 800];
+        let other = plain.get(each as usize).copied().unwrap_or(0);
+        fields.push(if each == bit { value } else { other });
+    }
+    encode_record(kind, map, &fields)
+}
+
+#[test]
+fn eight_and_nine_for_every_field() {
+    for kind in 0..4 {
+        for rule in rules(kind).expect("a kind") {
+            let outcome = |value| read_site(&record_with(kind, rule.bit, value));
+            for value in [rule.low, rule.high] {
+                let default = rule.default() == Some(value);
+                assert_eq!(outcome(value).err(), default.then_some(9));
+            }
+            if let Some(default) = rule.default() {
+                record_refused(&record_with(kind, rule.bit, default), 9);
+            }
+            record_refused(&record_with(kind, rule.bit, rule.high + 1), 8);
+            record_refused(&record_with(kind, rule.bit, u16::MAX), 8);
+            if rule.low > 0 {
+                record_refused(&record_with(kind, rule.bit, rule.low - 1), 8);
+            }
+        }
+    }
+}
+
+#[test]
+fn fields_are_tried_in_rising_order() {
+    // Lane 12 spelled out (9) before shoulder 11 (8), and the other way about.
+    record_refused(&encode_record(0, 0b11011, &[500, 600, 12, 11]), 9);
+    record_refused(&encode_record(0, 0b11011, &[500, 600, 15, 6]), 8);
+    // A missing field is tried before every range.
+    record_refused(&encode_record(0, 0b1011, &[0, 0]), 1);
+    // The first bad record counts, wherever the later ones fail.
+    let mut file = encode_header(&HEADER, 3);
+    file.extend(encode_record(0, 0b11, &PLAIN));
+    file.extend(encode_record(1, 0b11, &[500, 20_001]));
+    file.extend([9, 9, 9]);
+    refused(&file, 8, SECOND);
+}
+
+#[test]
+fn ten_comes_last() {
+    let file = after_segment(1, &[]);
+    assert!(read_project(&file, 8).is_ok());
+    let short = Refusal {
+        number: 10,
+        place: 0,
+    };
+    assert_eq!(read_project(&file, 7), Err(short));
+    let extra = after_segment(1, &[0]);
+    let after = Refusal {
+        number: 2,
+        place: SECOND,
+    };
+    assert_eq!(read_project(&extra, 0), Err(after));
+}
+
+#[test]
+fn nothing_past_a_record_bears_on_it() {
+    let record = encode_record(2, 0b101_0011, &[500, 600, 2, 4]);
+    let (wanted, length) = read_site(&record).expect("a record");
+    assert_eq!(length, record.len());
+    let mut longer = record.clone();
+    longer.extend([0xFF; 9]);
+    assert_eq!(read_site(&longer), Ok((wanted, length)));
+}
+
+#[test]
+fn absent_fields_read_as_document_01_says() {
+    let (straight, _) = read_site(&encode_record(0, 0b11, &PLAIN)).expect("a record");
+    assert_eq!(straight, Site::plain(0, 500, 600));
+    let held = |site: &Site| {
+        let names = FIELD_NAMES
+            .iter()
+            .filter(|(field, _)| site.get(*field).is_some());
+        names.map(|(_, name)| *name).collect::<Vec<_>>().join(" ")
+    };
+    assert_eq!(
+        held(&straight),
+        "traffic length lane shoulder shoulder-type grade driveways two-way-lane passing hazard-rating"
+    );
+    let (curve, _) = read_site(&encode_record(0, 0xC3, &[500, 600, 7, 100])).expect("a record");
+    assert_eq!(curve, Site::plain(0, 500, 600).with_curve(7, 100));
+    let (signal, _) = read_site(&encode_record(3, 0b111, &[1, 2, 0])).expect("a record");
+    assert_eq!(
+        held(&signal),
+        "traffic observed minor-traffic left-turn-lanes right-turn-lanes"
+    );
+    assert_eq!(signal.observed(), Some(0));
+    assert_eq!(straight.observed(), None);
+}
+
+#[test]
+fn the_writer_refuses_what_the_kind_has_not() {
+    for kind in 0..4 {
+        let good = Site::plain(kind, 500, 600);
+        assert!(write_site(&good, 7).is_ok());
+        for (field, _) in FIELD_NAMES {
+            let known = rules(kind)
+                .expect("a kind")
+                .iter()
+                .find(|rule| rule.field == field);
+            let mut changed = good;
+            match known {
+                None => changed.set(field, Some(1)),
+                Some(rule) if rule.presence == Presence::History => continue,
+                Some(rule) if rule.is_of_curve() => changed.set(field, Some(rule.high)),
+                Some(_) => changed.set(field, None),
+            }
+            assert_eq!(write_site(&changed, 99), Err(8), "{kind} {field:?}");
+        }
+    }
+    assert_eq!(write_site(&Site::plain(4, 1, 1), 99), Err(8));
+    assert_eq!(write_site(&Site::empty(255), 0), Err(8));
+}
+
+#[test]
+fn the_writer_refuses_parts_of_a_curve() {
+    let curve = Site::plain(0, 500, 600).with_curve(700, 800);
+    assert!(write_site(&curve, 11).is_ok());
+    for field in [
+        Field::CurveLength,
+        Field::Radius,
+        Field::SpiralEnds,
+        Field::Deficiency,
+    ] {
+        let mut part = curve;
+        part.set(field, None);
+        assert_eq!(write_site(&part, 99), Err(8), "{field:?}");
+    }
+}
+
+#[test]
+fn the_writer_refuses_values_outside_their_ranges() {
+    for kind in 0..4 {
+        for rule in rules(kind).expect("a kind") {
+            let plain = Site::plain(kind, 500, 600);
+            let good = if rule.is_of_curve() {
+                plain.with_curve(700, 800)
+            } else {
+                plain
+            };
+            for value in [rule.low, rule.high] {
+                assert!(write_site(&good.with(rule.field, value), 99).is_ok());
+            }
+            assert_eq!(
+                write_site(&good.with(rule.field, rule.high + 1), 99),
+                Err(8)
+            );
+            if rule.low > 0 {
+                assert_eq!(write_site(&good.with(rule.field, rule.low - 1), 99), Err(8));
+            }
+        }
+    }
+}
+
+#[test]
+fn the_writer_needs_just_the_records_length() {
+    let mut random = Random::new(11);
+    for _ in 0..500 {
+        let site = site(&mut random);
+        let record = write_site(&site, usize::MAX).expect("a site");
+        assert_eq!(write_site(&site, record.len()), Ok(record.clone()));
+        assert_eq!(write_site(&site, record.len() - 1), Err(10));
+        // 8 is tried before 10.
+        assert_eq!(write_site(&site.with(Field::Traffic, 0), 0), Err(8));
+    }
+}
+
+#[test]
+fn sites_come_back_from_their_records() {
+    let mut random = Random::new(12);
+    for _ in 0..5_000 {
+        let site = site(&mut random);
+        let record = write_site(&site, usize::MAX).expect("a site");
+        assert_eq!(read_site(&record), Ok((site, record.len())));
+    }
+}
+
+/// The accepted projects among generated and damaged files.
+fn accepted_files() -> Vec<(Vec<u8>, Project)> {
+    let mut random = Random::new(13);
+    let mut files: Vec<Vec<u8>> = Vec::new();
+    files.push(write_project(&largest_project(&mut random)).expect("a project"));
+    for _ in 0..1_000 {
+        files.push(write_project(&project(&mut random)).expect("a project"));
+        files.push(damaged_file(&mut random));
+    }
+    let read = |file: Vec<u8>| parse_project(&file).ok().map(|project| (file, project));
+    files.into_iter().filter_map(read).collect()
+}
+
+#[test]
+fn accepted_files_come_back_from_their_projects_and_lines() {
+    let files = accepted_files();
+    assert!(files.len() > 1_000);
+    for (file, project) in files {
+        assert_eq!(write_project(&project).as_ref(), Ok(&file));
+        assert_eq!(lines::make(&lines::dump(&project)), Ok(file));
+    }
+}
+
+#[test]
+fn damaged_files_meet_every_number() {
+    let mut random = Random::new(14);
+    let mut seen = [0; 10];
+    for _ in 0..3_000 {
+        let outcome = parse_project(&damaged_file(&mut random));
+        let number = outcome.map_or_else(|refusal| refusal.number, |_| 0);
+        seen[usize::from(number)] += 1;
+    }
+    assert!(seen.iter().all(|count| *count >= 30), "{seen:?}");
+    assert!(seen[0] < 900, "{seen:?}");
+}
+
+#[test]
+fn the_longest_file_is_within_its_bound() {
+    let mut full = Site::plain(0, 20_000, 20_000)
+        .with_curve(20_000, 30_000)
+        .with(Field::Observed, 500);
+    for rule in rules(0)
+        .expect("a kind")
+        .iter()
+        .filter(|rule| rule.default().is_some())
+    {
+        let other = if rule.default() == Some(rule.low) {
+            rule.high
+        } else {
+            rule.low
+        };
+        full.set(rule.field, Some(other));
+    }
+    let project = Project {
+        header: HEADER,
+        sites: vec![full; 1_900],
+    };
+    assert_eq!(
+        write_project(&project).map(|file| file.len()),
+        Ok(LONGEST_FILE)
+    );
+}
+
+#[test]
+fn lines_with_faults_are_not_taken() {
+    let head = "edition 1\nyears 2\nsegment-calibration 1000\ncrossing-calibration 900\n";
+    let made = |line: &str| lines::make(&format!("{head}{line}\n"));
+    assert!(made("segment traffic 5 length 6").is_ok());
+    assert_eq!(
+        made("segment traffic 5 length 6 lane 12"),
+        made("segment length 6 traffic 5")
+    );
+    for line in [
+        "motorway traffic 5 length 6",
+        "segment traffic 5 length 6 lane",
+        "segment traffic 5 length 6 lane +11",
+        "segment traffic 5 length 70000",
+        "segment traffic 5 length 6 lane 11 lane 11",
+        "segment traffic 5 length 6 width 11",
+        "segment traffic 5",
+        "segment traffic 5 length 6 radius 500",
+        "segment traffic 5 length 6 spiral-ends 1",
+        "4sg traffic 5 minor-traffic 6 skew 3",
+    ] {
+        assert!(made(line).is_err(), "{line}");
+    }
+    assert!(lines::make("years 2\nedition 1\n").is_err());
+    assert!(lines::make("edition 2\nyears 2\n").is_err());
+}

@@ -1,0 +1,348 @@
+//! The checker takes a right report and rejects each kind of wrong one.
+
+use reference::checker::{report_faults, site_line_faults, Fault, Line, Pair, Wrong};
+use reference::generate::{largest_project, project, Random};
+use reference::model::{Model, FIRST_EDITION};
+use reference::prediction::{report, totals};
+use reference::project::{Header, Project};
+use reference::record::Site;
+use reference::rules::{Field, FOUR_LEG_SIGNAL, FOUR_LEG_STOP, SEGMENT, THREE_LEG_STOP};
+
+const MODEL: &Model = &FIRST_EDITION;
+const DEPTHS: [u32; 3] = [1, 3, 9];
+
+/// One site of each kind; the first and the last have a history.
+fn sample() -> Project {
+    let header = Header {
+        edition: 1,
+        years: 5,
+        segment_calibration: 1_100,
+        crossing_calibration: 900,
+    };
+    let segment = Site::plain(SEGMENT, 8_000, 2_500)
+        .with(Field::Driveways, 20)
+        .with(Field::HazardRating, 1)
+        .with(Field::Observed, 30);
+    let signal = Site::plain(FOUR_LEG_SIGNAL, 10_000, 1_000).with(Field::Observed, 5);
+    let sites = vec![
+        segment,
+        Site::plain(THREE_LEG_STOP, 4_000, 300).with(Field::Skew, 20),
+        Site::plain(FOUR_LEG_STOP, 4_000, 300),
+        signal,
+    ];
+    Project { header, sites }
+}
+
+fn faults(project: &Project, numbers: &[u64]) -> Vec<Fault> {
+    report_faults(MODEL, project, numbers, &DEPTHS)
+}
+
+fn site_fault(index: usize, wrong: Wrong) -> Fault {
+    let line = Line::Site(index);
+    Fault { line, wrong }
+}
+
+fn total_fault(wrong: Wrong) -> Fault {
+    let line = Line::Totals;
+    Fault { line, wrong }
+}
+
+/// The report with its totals made anew.
+fn with_totals(mut numbers: Vec<u64>) -> Vec<u64> {
+    let lines = numbers.len() - 4;
+    let sums = totals(&numbers[..lines]);
+    numbers[lines..].copy_from_slice(&sums);
+    numbers
+}
+
+#[test]
+fn right_reports_have_no_faults() {
+    let project = sample();
+    for depth in [6, 9, 12] {
+        let report = report(MODEL, &project, depth);
+        assert_eq!(faults(&project, &report), []);
+    }
+}
+
+#[test]
+fn generated_projects_have_no_faults() {
+    let mut random = Random::new(21);
+    for _ in 0..60 {
+        let project = project(&mut random);
+        let report = report(MODEL, &project, 9);
+        assert_eq!(
+            report_faults(MODEL, &project, &report, &[1, 2, 3, 6, 9]),
+            []
+        );
+    }
+}
+
+#[test]
+fn the_largest_project_has_no_faults() {
+    let project = largest_project(&mut Random::new(23));
+    let right = report(MODEL, &project, 9);
+    assert_eq!(report_faults(MODEL, &project, &right, &[9]), []);
+    let mut off = right;
+    let last = off.len() - 8;
+    off[last] += 1_000_000_000;
+    assert!(!report_faults(MODEL, &project, &off, &[9]).is_empty());
+}
+
+#[test]
+fn the_empty_project_has_zeros_only() {
+    let project = Project {
+        sites: Vec::new(),
+        ..sample()
+    };
+    assert_eq!(faults(&project, &[0; 4]), []);
+    let wrong = faults(&project, &[1, 1, 0, 0]);
+    assert!(wrong.contains(&total_fault(Wrong::NotSum(0))));
+    assert!(wrong.contains(&total_fault(Wrong::LowAboveOver(Pair::Predicted, 9))));
+}
+
+#[test]
+fn zeros_are_rejected() {
+    let project = sample();
+    let wrong = faults(&project, &vec![0; project.report_length()]);
+    for index in 0..4 {
+        for pair in [Pair::Predicted, Pair::Expected] {
+            assert!(wrong.contains(&site_fault(index, Wrong::HighBelowUnder(pair, 9))));
+        }
+    }
+    assert!(wrong.contains(&total_fault(Wrong::HighBelowUnder(Pair::Predicted, 1))));
+    assert!(wrong.contains(&total_fault(Wrong::HighBelowUnder(Pair::Expected, 9))));
+}
+
+#[test]
+fn a_pair_from_zero_to_the_top_is_rejected() {
+    let project = sample();
+    let top = [0, u64::MAX, 0, u64::MAX];
+    let wrong = faults(&project, &top.repeat(5));
+    for index in 0..4 {
+        assert!(wrong.contains(&site_fault(index, Wrong::Wide(Pair::Predicted))));
+        assert!(wrong.contains(&site_fault(index, Wrong::Wide(Pair::Expected))));
+    }
+    assert!(wrong.contains(&total_fault(Wrong::Wide(Pair::Predicted))));
+}
+
+#[test]
+fn the_first_site_only_is_rejected() {
+    let project = sample();
+    let right = report(MODEL, &project, 9);
+    let mut first_only = vec![0; right.len()];
+    first_only[..4].copy_from_slice(&right[..4]);
+    let wrong = faults(&project, &with_totals(first_only));
+    assert!(!wrong.iter().any(|fault| fault.line == Line::Site(0)));
+    assert!(wrong.contains(&site_fault(1, Wrong::HighBelowUnder(Pair::Predicted, 1))));
+    let short = &right[..right.len() - 4];
+    let count = Fault {
+        line: Line::Report,
+        wrong: Wrong::Count,
+    };
+    assert_eq!(faults(&project, short), [count]);
+}
+
+#[test]
+fn swapped_numbers_and_lines_are_rejected() {
+    let project = sample();
+    let right = report(MODEL, &project, 9);
+    let mut swapped = right.clone();
+    swapped.swap(4, 5);
+    assert!(faults(&project, &swapped).contains(&site_fault(1, Wrong::Crossed(Pair::Predicted))));
+    let mut lines = right.clone();
+    let (first, second) = lines.split_at_mut(8);
+    first[4..].swap_with_slice(&mut second[..4]);
+    let wrong = faults(&project, &lines);
+    assert!(wrong.iter().all(|fault| fault.line != Line::Totals));
+    assert!(wrong.iter().any(|fault| fault.line == Line::Site(1)));
+    assert!(wrong.iter().any(|fault| fault.line == Line::Site(2)));
+}
+
+#[test]
+fn a_total_off_by_one_is_rejected() {
+    let project = sample();
+    let right = report(MODEL, &project, 9);
+    for column in 0..4 {
+        for step in [1, u64::MAX] {
+            let mut off = right.clone();
+            let at = off.len() - 4 + column;
+            off[at] = off[at].wrapping_add(step);
+            assert!(faults(&project, &off).contains(&total_fault(Wrong::NotSum(column))));
+        }
+    }
+}
+
+#[test]
+fn an_expected_number_rounded_the_other_way_is_rejected() {
+    // The low is rounded down and the high up; one more or less is wrong.
+    let project = sample();
+    let right = report(MODEL, &project, 9);
+    for (at, step) in [(12 + 2, 1), (12 + 3, u64::MAX), (2, 1), (3, u64::MAX)] {
+        let mut off = right.clone();
+        off[at] = off[at].wrapping_add(step);
+        let wrong = faults(&project, &with_totals(off));
+        assert!(wrong.contains(&site_fault(at / 4, Wrong::NotFromPredicted)));
+    }
+}
+
+#[test]
+fn without_history_the_expected_pair_is_the_predicted() {
+    let project = sample();
+    let mut off = report(MODEL, &project, 9);
+    off[6] -= 1;
+    let wrong = faults(&project, &with_totals(off));
+    assert_eq!(wrong, [site_fault(1, Wrong::NotFromPredicted)]);
+}
+
+#[test]
+fn history_read_as_none_is_rejected() {
+    let project = sample();
+    let mut off = report(MODEL, &project, 9);
+    off.copy_within(0..2, 2);
+    let wrong = faults(&project, &with_totals(off));
+    assert!(wrong.contains(&site_fault(0, Wrong::NotFromPredicted)));
+    assert!(wrong.contains(&site_fault(0, Wrong::HighBelowUnder(Pair::Expected, 9))));
+}
+
+#[test]
+fn an_expected_pair_beyond_the_history_is_rejected() {
+    let project = sample();
+    let mut off = report(MODEL, &project, 9);
+    off[3] = 30_000_001;
+    let wrong = faults(&project, &with_totals(off));
+    assert!(wrong.contains(&site_fault(0, Wrong::NotBetween)));
+    assert!(wrong.contains(&site_fault(0, Wrong::NotFromPredicted)));
+}
+
+/// A report whose predicted pair of one site is moved, all else following.
+fn moved(project: &Project, index: usize, low: i64, high: i64) -> Vec<u64> {
+    let mut numbers = report(MODEL, project, 9);
+    let line = &mut numbers[4 * index..4 * index + 4];
+    line[0] = line[0].saturating_add_signed(low);
+    line[1] = line[1].saturating_add_signed(high);
+    let site = &project.sites[index];
+    let (low, high) = reference::prediction::expected_pair(MODEL, site, line[0], line[1]);
+    line[2] = low.to_u64().expect("a number of millionths");
+    line[3] = high.to_u64().expect("a number of millionths");
+    with_totals(numbers)
+}
+
+#[test]
+fn a_pair_may_be_as_wide_as_document_01_says_and_no_wider() {
+    let project = sample();
+    for index in 0..4 {
+        let right = report(MODEL, &project, 9);
+        let (low, high) = (right[4 * index], right[4 * index + 1]);
+        // The most by which the low may fall: 4 + high / 100,000 in all.
+        let room = 4 + (high / 100_000) as i64 - (high - low) as i64;
+        assert_eq!(faults(&project, &moved(&project, index, -room, 0)), []);
+        let wrong = faults(&project, &moved(&project, index, -room - 1, 0));
+        assert!(wrong.contains(&site_fault(index, Wrong::Wide(Pair::Predicted))));
+    }
+}
+
+#[test]
+fn a_pair_beside_the_exact_figure_is_rejected() {
+    let project = sample();
+    for index in 0..4 {
+        let wrong = faults(&project, &moved(&project, index, 2, 2));
+        assert!(wrong.contains(&site_fault(index, Wrong::LowAboveOver(Pair::Predicted, 9))));
+        let wrong = faults(&project, &moved(&project, index, -2, -2));
+        assert!(wrong.contains(&site_fault(
+            index,
+            Wrong::HighBelowUnder(Pair::Predicted, 9)
+        )));
+    }
+    // The totals are judged against the sums of the estimates too.
+    let wrong = faults(&project, &moved(&project, 0, 4, 4));
+    assert!(wrong.contains(&total_fault(Wrong::LowAboveOver(Pair::Predicted, 9))));
+    let wrong = faults(&project, &moved(&project, 0, -4, -4));
+    assert!(wrong.contains(&total_fault(Wrong::HighBelowUnder(Pair::Predicted, 9))));
+}
+
+#[test]
+fn totals_have_a_width_of_their_own() {
+    // Two sites of no width at all, and totals wide by more than 8 + high's
+    // part: only the totals' width can tell.
+    let project = Project {
+        sites: vec![sample().sites[1]; 2],
+        ..sample()
+    };
+    let mut off = report(MODEL, &project, 9);
+    off[8] -= 100;
+    assert!(faults(&project, &off).contains(&total_fault(Wrong::Wide(Pair::Predicted))));
+    off[8] += 100;
+    off[11] += 200;
+    assert!(faults(&project, &off).contains(&total_fault(Wrong::Wide(Pair::Expected))));
+}
+
+#[test]
+fn one_report_for_every_project_is_rejected() {
+    let mut random = Random::new(22);
+    let project = sample();
+    let right = report(MODEL, &project, 9);
+    for field in [
+        Field::Traffic,
+        Field::LaneWidth,
+        Field::Grade,
+        Field::HazardRating,
+    ] {
+        let mut other = project.clone();
+        let rule = reference::rules::rules(SEGMENT)
+            .and_then(|rules| rules.iter().find(|rule| rule.field == field).copied())
+            .expect("a field of a segment");
+        let before = other.sites[0].get(field);
+        while other.sites[0].get(field) == before {
+            let value = random.between(rule.low, rule.high);
+            // Widths from 12 feet up are one column.
+            other.sites[0].set(
+                field,
+                Some(value)
+                    .filter(|v| field != Field::LaneWidth || *v < 12)
+                    .or(before),
+            );
+        }
+        assert!(!faults(&other, &right).is_empty(), "{field:?}");
+    }
+}
+
+/// Whether a line is said to be too wide in its predicted and expected pair.
+fn too_wide(wrongs: &[Wrong]) -> (bool, bool) {
+    let wide = |pair| wrongs.contains(&Wrong::Wide(pair));
+    (wide(Pair::Predicted), wide(Pair::Expected))
+}
+
+#[test]
+fn a_sites_widths_end_where_document_01_says() {
+    // 4 + high / 100,000 and 8 (1 + O) + high / 100,000, with a high that has
+    // a whole number of hundred-thousandths and one that falls just short.
+    let signal = Site::plain(FOUR_LEG_SIGNAL, 10_000, 1_000);
+    for (site, observed) in [(signal, 0), (signal.with(Field::Observed, 5), 5)] {
+        for (high, part) in [(700_000, 7), (699_999, 6)] {
+            let (predicted, expected) = (4 + part, 8 * (1 + observed) + part);
+            let line = |more: u64| {
+                let lows = [high - predicted - more, high - expected - more];
+                site_line_faults(MODEL, &site, &[lows[0], high, lows[1], high])
+            };
+            assert_eq!(too_wide(&line(0)), (false, false));
+            assert_eq!(too_wide(&line(1)), (true, true));
+        }
+    }
+}
+
+#[test]
+fn the_totals_widths_end_where_document_01_says() {
+    // Four sites with 35 observed crashes: 16 and 8 (4 + 35), and high's part.
+    let project = sample();
+    let (high, part) = (900_000, 9);
+    let totals = |more: u64| {
+        let mut numbers = vec![0; 16];
+        let lows = [high - 16 - part - more, high - 8 * 39 - part - more];
+        numbers.extend([lows[0], high, lows[1], high]);
+        let faults = report_faults(MODEL, &project, &numbers, &[]);
+        let of_totals = faults.iter().filter(|fault| fault.line == Line::Totals);
+        of_totals.map(|fault| fault.wrong).collect::<Vec<_>>()
+    };
+    assert_eq!(too_wide(&totals(0)), (false, false));
+    assert_eq!(too_wide(&totals(1)), (true, true));
+}
