@@ -1,0 +1,2 @@
+-- What the proof of `carry` uses.
+mod Laws

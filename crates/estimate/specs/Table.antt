@@ -1,0 +1,50 @@
+-- A rule of a table: one test, computed entry after entry, and one law that carries it to each entry.
+-- Assumes nothing.
+use mathlib.Core.Path.{_∙_, subst, sym}
+use mathlib.Core.Bool.{Bool, true, false}
+use mathlib.Core.List.{List, [], _∷_, _++_}
+use Prim.Native.Nat.{ℕ, zero, suc, _+_, _<_}
+use native.Mathlib.Nat.{add-zero, zero-add, add-suc, suc-add, le-of-suc-le-suc, not-suc-le-zero}
+use lib.Dec.{T}
+use lib.ListN.{length, getD}
+
+-- both tests pass
+abbrev pub both : Bool → Bool → Bool
+both true b = b
+both false b = false
+
+pub both-left : (a b : Bool) → T (both a b) → T a
+both-left true b t = tt
+both-left false b t = t
+
+pub both-right : (a b : Bool) → T (both a b) → T b
+both-right true b t = t
+both-right false b t = absurd t
+
+pub both-of : (a b : Bool) → T a → T b → T (both a b)
+both-of true b s t = t
+both-of false b s t = s
+
+-- the test passes at each entry of the list and its place, counted from i
+abbrev pub every : (ℕ → ℕ → Bool) → ℕ → List ℕ → Bool
+every test i [] = true
+every test i (x ∷ xs) = both (test i x) (every test (suc i) xs)
+
+at-from : (test : ℕ → ℕ → Bool) (xs : List ℕ) (i : ℕ) → T (every test i xs) → (k : ℕ) → k < length xs → T (test (i + k) (getD xs k 0))
+at-from test [] i t k h = absurd (not-suc-le-zero h)
+at-from test (x ∷ xs) i t zero h = subst (λ (m : ℕ). T (test m x)) (sym (add-zero i)) (both-left (test i x) (every test (suc i) xs) t)
+at-from test (x ∷ xs) i t (suc k) h =
+    subst (λ (m : ℕ). T (test m (getD xs k 0))) (suc-add i k ∙ sym (add-suc i k))
+    (at-from test xs (suc i) (both-right (test i x) (every test (suc i) xs) t) k (le-of-suc-le-suc h))
+
+-- what every entry passes, the k-th passes
+pub at : (test : ℕ → ℕ → Bool) (xs : List ℕ) → T (every test 0 xs) → (k : ℕ) → k < length xs → T (test k (getD xs k 0))
+at test xs t k h = subst (λ (m : ℕ). T (test m (getD xs k 0))) (zero-add k) (at-from test xs 0 t k h)
+
+-- a long table, in parts
+pub every-append : (test : ℕ → ℕ → Bool) (xs ys : List ℕ) (i : ℕ) → T (every test i xs) → T (every test (i + length xs) ys) → T (every test i (xs ++ ys))
+every-append test [] ys i s t = subst (λ (m : ℕ). T (every test m ys)) (add-zero i) t
+every-append test (x ∷ xs) ys i s t =
+    both-of (test i x) (every test (suc i) (xs ++ ys)) (both-left (test i x) (every test (suc i) xs) s)
+    (every-append test xs ys (suc i) (both-right (test i x) (every test (suc i) xs) s)
+    (subst (λ (m : ℕ). T (every test m ys)) (add-suc i (length xs) ∙ sym (suc-add i (length xs))) t))
