@@ -1,8 +1,8 @@
 -- What rounded scaling keeps of a bracket, for all whole numbers: a lower bound, an upper bound, their order and their width.
 -- A value x is the fraction xn / xd, a factor f is fn / fd, and a bound b stands for the fraction b / U.
 use mathlib.Core.Path.{_≡_, ap, _∙_}
-use Prim.Native.Nat.{ℕ, zero, _+_, _-_, _*_, _/_, _≤_, _<_}
-use native.Mathlib.Nat.{le-of-eq, mul-le-mul, mul-le-mul-left, mul-le-mul-right, div-mul-le-self, lt-div-mul-add, le-of-mul-le-mul-right, mul-pos, eq-zero-or-pos, div-zero}
+use Prim.Native.Nat.{ℕ, zero, _+_, _-_, _*_, _/_, _^_, _≤_, _<_}
+use native.Mathlib.Nat.{le-of-eq, mul-le-mul, mul-le-mul-left, mul-le-mul-right, div-mul-le-self, lt-div-mul-add, le-of-mul-le-mul-right, lt-of-mul-lt-mul-right, mul-pos, eq-zero-or-pos, div-zero}
 use native.Mathlib.Omega.{arith}
 use mathlib.Core.Logic.{⊎-elim}
 use Rattle.wide.specs.Scaling.{floor, ceiling}
@@ -23,6 +23,27 @@ ceiling-ge a n d h = omega (arith, lt-div-mul-add {a = a * n + (d - 1)} {b = d} 
 
 pub ceiling-lt : (a n d : ℕ) → zero < d → ceiling a n d * d < a * n + d
 ceiling-lt a n d h = omega (arith, div-mul-le-self (a * n + (d - 1)) d)
+
+-- a whole number on one side of a fraction is on that side of its roundings
+module _ (a n d t : ℕ) (h : zero < d) where
+  pub ≤-floor : t * d ≤ a * n → t ≤ floor a n d
+  ≤-floor l = omega (arith, lt-of-mul-lt-mul-right d {m = t} {n = floor a n d + 1} (omega (arith, floor-lt a n d h)))
+
+  pub floor-≤ : a * n ≤ t * d → floor a n d ≤ t
+  floor-≤ l = le-of-mul-le-mul-right {k = d} (omega (arith, floor-le a n d)) h
+
+  pub ≤-ceiling : t * d ≤ a * n → t ≤ ceiling a n d
+  ≤-ceiling l = le-of-mul-le-mul-right {k = d} (omega (arith, ceiling-ge a n d h)) h
+
+  pub ceiling-≤ : a * n ≤ t * d → ceiling a n d ≤ t
+  ceiling-≤ l = omega (arith, lt-of-mul-lt-mul-right d {m = ceiling a n d} {n = t + 1} (omega (arith, ceiling-lt a n d h)))
+
+-- a scaling fits 64 bits where its product does over the divisor
+pub floor-fits : (a n d : ℕ) → zero < d → a * n + d ≤ d * 2 ^ 64 → floor a n d < 2 ^ 64
+floor-fits a n d h l = lt-of-mul-lt-mul-right d {m = floor a n d} {n = 2 ^ 64} (omega (arith, floor-le a n d))
+
+pub ceiling-fits : (a n d : ℕ) → zero < d → a * n + d ≤ d * 2 ^ 64 → ceiling a n d < 2 ^ 64
+ceiling-fits a n d h l = lt-of-mul-lt-mul-right d {m = ceiling a n d} {n = 2 ^ 64} (omega (arith, ceiling-lt a n d h))
 
 -- THE LOWER BOUND. lo / U ≤ x and ln / ld ≤ f give (lo * ln / ld) / U ≤ x * f. A division by 0 gives 0, so ld may be 0
 pub scaled-lower : (lo xn xd U ln ld fn fd : ℕ) → lo * xd ≤ xn * U → ln * fd ≤ fn * ld → floor lo ln ld * (xd * fd) ≤ (xn * fn) * U
@@ -45,10 +66,10 @@ exact : (R a b r rho lo hi A B W : ℕ) → lo ≤ hi → Narrow R a r lo hi →
 exact R a b r rho lo hi A B W order narrow factor most =
     omega (arith, mul-le-mul-right A (narrow .width), mul-le-mul-left lo factor, mul-le-mul-right (rho * A) order, mul-le-mul-left R most)
 
--- and rounded: X is hi * A, Y is lo * B
-rounded : (R b s lo' hi' X Y W : ℕ) → zero < W → R * X ≤ R * Y + R * (b * W) + s * X → hi' * W ≤ X + W → X ≤ hi' * W → Y ≤ lo' * W + W
+-- two fractions X / W and Y / W that are a known width apart, rounded outward: each rounding adds at most 1
+pub rounded-width : (R b s lo' hi' X Y W : ℕ) → zero < W → R * X ≤ R * Y + R * (b * W) + s * X → hi' * W ≤ X + W → X ≤ hi' * W → Y ≤ lo' * W + W
     → Narrow R (b + 2) s lo' hi'
-rounded R b s lo' hi' X Y W pos e up most low =
+rounded-width R b s lo' hi' X Y W pos e up most low =
     record {
       width = le-of-mul-le-mul-right {m = R * hi'} {n = R * lo' + R * (b + 2) + s * hi'} {k = W}
           (omega (arith, mul-le-mul-left R up, mul-le-mul-left s most, mul-le-mul-left R low))
@@ -60,7 +81,7 @@ pub scaled-width : (R a b r rho lo hi ln ld hn hd : ℕ) → zero < ld → zero 
     → R * (hn * ld) ≤ R * (ln * hd) + rho * (hn * ld) → a * hn ≤ b * hd
     → Narrow R (b + 2) (r + rho) (floor lo ln ld) (ceiling hi hn hd)
 scaled-width R a b r rho lo hi ln ld hn hd pl ph order narrow factor most =
-    rounded R b (r + rho) (floor lo ln ld) (ceiling hi hn hd) (hi * (hn * ld)) (lo * (ln * hd)) (hd * ld) (mul-pos ph pl)
+    rounded-width R b (r + rho) (floor lo ln ld) (ceiling hi hn hd) (hi * (hn * ld)) (lo * (ln * hd)) (hd * ld) (mul-pos ph pl)
     (exact R a b r rho lo hi (hn * ld) (ln * hd) (hd * ld) order narrow factor (omega (arith, mul-le-mul-right ld most)))
     (omega (arith, mul-le-mul-right ld (ceiling-lt hi hn hd ph)))
     (omega (arith, mul-le-mul-right ld (ceiling-ge hi hn hd ph)))

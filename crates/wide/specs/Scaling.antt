@@ -57,3 +57,7 @@ value-is d q v e = either (decLt 0 d) (decLt q (2 ^ 64))
     either (yes h) (yes l) = record { divisor = h; is = let t = answered-value d q h l in cc }
     either (yes h) (no f) = absurd (never (answered-large d q (omega arith)))
     either (no f) r = absurd (never (answered-zero d q (omega arith)))
+
+-- what fits is never too large
+pub fits-never-large : (d q : ℕ) → 0 < d → q < 2 ^ 64 → answered d q ≡ TooLarge → ⊥
+fits-never-large d q h l e = let v = answered-value d q h l in let z : _≡_ {A = ℕ} 0 1 = cc in omega arith

@@ -1,6 +1,7 @@
 // a * n / d, rounded down and rounded up, with the product exact.
 ghost use mathlib.Core.Path.{_≡_};
-ghost use Rattle.wide.specs.Scaling.{scaledDown, scaledUp};
+ghost use Prim.Native.Nat.{_^_, _<_};
+ghost use Rattle.wide.specs.Scaling.{floor, ceiling, scaledDown, scaledUp};
 use crate::division::divide;
 use crate::word::plus;
 use crate::word::product;
@@ -35,5 +36,27 @@ pub fn scale_up(a: u64, n: u64, d: u64) -> Scaled
         Scaled::Value(divide(w, d))
     } else {
         Scaled::TooLarge
+    }
+}
+
+// a * n / d, rounded down, for a caller that has shown that it fits.
+pub fn times_down(a: u64, n: u64, d: u64) -> u64
+    requires { ⌜ (0 < d) × (floor a n d < 2 ^ 64) ⌝ }
+    ensures { λ r. ⌜ r ≡ floor a n d ⌝ }
+{
+    match scale_down(a, n, d) {
+        Scaled::Value(v) => v,
+        Scaled::TooLarge => 0,
+    }
+}
+
+// a * n / d, rounded up, for a caller that has shown that it fits.
+pub fn times_up(a: u64, n: u64, d: u64) -> u64
+    requires { ⌜ (0 < d) × (ceiling a n d < 2 ^ 64) ⌝ }
+    ensures { λ r. ⌜ r ≡ ceiling a n d ⌝ }
+{
+    match scale_up(a, n, d) {
+        Scaled::Value(v) => v,
+        Scaled::TooLarge => 0,
     }
 }

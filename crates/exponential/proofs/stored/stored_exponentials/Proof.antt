@@ -1,0 +1,15 @@
+-- The table is the definition's, entry by entry: one computed test. Assumes nothing.
+use mathlib.Core.Path.{refl}
+use Rattle.estimate.specs.Fraction.{whole, fraction}
+use Rattle.estimate.specs.Exponential.{termNum, termDen, sumNum, partialSum, expUnder}
+use Rattle.exponential.specs.Stored.{storedExp}
+use Rattle.exponential.specs.StoredLaws.{isStored, stored-by-test}
+use Rattle.exponential.proofs.stored.stored_exponentials.Statement.{statement}
+use Rattle.exponential.proofs.stored.stored_exponentials.Tie as tie
+
+returns : tie.Need-returns
+unfolding isStored storedExp expUnder partialSum sumNum termNum termDen whole fraction
+returns c = stored-by-test _ refl tt
+
+pub stored-exponentials-spec : {M : Type 1} → statement M
+stored-exponentials-spec = tie.close (tie.spec returns)

@@ -1,0 +1,2 @@
+-- What the proof of `taylor` uses.
+mod Laws

@@ -1,0 +1,5 @@
+-- What the proofs share.
+pub mod Entries
+pub mod Fitting
+pub mod Ends
+pub mod Answers

@@ -1,0 +1,54 @@
+use mathlib.Core.Path.{sym}
+use native.Mathlib.Omega.{arith}
+use borrow.Author.Needs.{needs}
+use Rattle.power.specs.Power.{PowerRange}
+use Rattle.power.proofs.Answers.{refused, given}
+use Rattle.power.proofs.power.Statement.{statement}
+use Rattle.power.proofs.power.Tie as tie
+
+returns : tie.Need-returns
+returns c = let a = c .before .args in refused (a .base) (a .num) (a .den) (λ r. omega (arith, r .from-one))
+
+returns-2 : tie.Need-returns-2
+returns-2 c = let a = c .before .before .args in refused (a .base) (a .num) (a .den) (λ r. omega (arith, r .to-20000))
+
+returns-3 : tie.Need-returns-3
+returns-3 c = let a = c .before .before .before .args in refused (a .base) (a .num) (a .den) (λ r. c .if3 .taken (r .hundredths))
+
+exponent-place-requires : tie.Need-exponent-place-requires
+exponent-place-requires c κs = search needs
+
+returns-4 : tie.Need-returns-4
+returns-4 c =
+    let b = c .before in
+    let a = b .before .before .before .before .args in
+    refused (a .base) (a .num) (a .den) (λ r. omega (arith, r .stored, b .exponent-place .ensures))
+
+stored-powers-requires : tie.Need-stored-powers-requires
+stored-powers-requires c κs = search needs
+
+power-with-requires : tie.Need-power-with-requires
+power-with-requires c κs = search needs
+
+returns-5 : tie.Need-returns-5
+returns-5 c =
+    let e = c .before .before .before in
+    let b = e .before in
+    let t = b .before in
+    let a = t .before .before .before .args in
+    let is = b .exponent-place .ensures in
+    let range : PowerRange (a .base) (a .num) (a .den) = record { from-one = omega arith; to-20000 = omega arith; hundredths = t .if3 .left; stored = omega (arith, is, e .if4 .left) } in
+    given (a .base) (a .num) (a .den) is range (c .power-with .ensures)
+
+pub power-spec : {M : Type 1} → statement M
+power-spec =
+    tie.close
+    (tie.spec
+    returns
+    returns-2
+    returns-3
+    exponent-place-requires
+    returns-4
+    stored-powers-requires
+    power-with-requires
+    returns-5)

@@ -1,0 +1,15 @@
+use borrow.Author.Needs.{needs}
+use Rattle.power.proofs.power_with.Statement.{statement}
+use Rattle.power.proofs.power_with.Tie as tie
+
+power-low-with-requires : tie.Need-power-low-with-requires
+power-low-with-requires c κs = search needs
+
+power-high-with-requires : tie.Need-power-high-with-requires
+power-high-with-requires c κs = search needs
+
+returns : tie.Need-returns
+returns c = rw (c .before .power-low-with .ensures, c .power-high-with .ensures)
+
+pub power-with-spec : {M : Type 1} → statement M
+power-with-spec = tie.close (tie.spec power-low-with-requires power-high-with-requires returns)

@@ -1,0 +1,61 @@
+-- "Stored bounds of powers for A from 1 to 256 at the five exponents are one constant table, checked against these definitions": the estimates at depth 9.
+-- Assumes nothing.
+use Prim.Native.Nat.{ℕ, _+_, _-_, _*_, _^_, _≤_, _<_}
+use mathlib.Core.List.{List}
+use mathlib.Core.Path.{_≡_, refl}
+use native.Mathlib.Nat.{le-trans, le-of-lt, lt-of-not-le, not-suc-le-self, mul-le-mul-right, one-le-pow, pow-le-pow-right}
+use native.Mathlib.Numerals.{add-one}
+use native.Mathlib.Omega.{arith}
+use lib.ListN.{getD}
+use Rattle.estimate.specs.WholePower.{mul-pow, pow-le-cancel}
+use Rattle.estimate.specs.Power.{powerLargest, power-largest-is}
+use Rattle.remainder.specs.Remainder.{Exponent}
+use Rattle.power.specs.Exponents.{exponentAt}
+
+-- the bounds' denominator
+abbrev pub billion : ℕ
+billion = 10 ^ 9
+
+-- the under-estimate of k^(p/q) at depth 9, in billionths
+unfoldable pub storedLow : (k p q : ℕ) → ℕ
+storedLow k p q = powerLargest 9 k p q
+
+-- and the over-estimate
+unfoldable pub storedHigh : (k p q : ℕ) → ℕ
+storedHigh k p q = powerLargest 9 k p q + 1
+
+-- where the table has the bounds of k at the exponent of a place: the lower here, the upper next to it
+abbrev pub entry : (e k : ℕ) → ℕ
+entry e k = 2 * (e * 256 + (k - 1))
+
+-- a table that has the stored bounds at each entry
+pub record StoredPowers (table : List ℕ) : Type 0 where
+  pub low : (e k : ℕ) → e < 5 → 1 ≤ k → k ≤ 256 → getD table (entry e k) 0 ≡ storedLow k (exponentAt e) 100
+  pub high : (e k : ℕ) → e < 5 → 1 ≤ k → k ≤ 256 → getD table (entry e k + 1) 0 ≡ storedHigh k (exponentAt e) 100
+
+-- THEY ARE BOUNDS, FOR EVERY BASE AND EXPONENT
+
+module _ (k p q : ℕ) (e : Exponent p q) where
+  pub stored-low-stands : storedLow k p q ^ q ≤ k ^ p * billion ^ q
+  unfolding storedLow
+  stored-low-stands = power-largest-is 9 k p q (e .positive) .holds
+
+  pub stored-high-stands : k ^ p * billion ^ q ≤ storedHigh k p q ^ q
+  unfolding storedHigh
+  stored-high-stands =
+      le-of-lt (lt-of-not-le (λ h. not-suc-le-self (powerLargest 9 k p q) (rw add-one at (power-largest-is 9 k p q (e .positive) .most (powerLargest 9 k p q + 1) h))))
+
+  pub stored-near : storedHigh k p q ≡ storedLow k p q + 1
+  unfolding storedLow storedHigh
+  stored-near = refl
+
+  module _ (h : 1 ≤ k) where
+    pub stored-from-one : billion ≤ storedLow k p q
+    unfolding storedLow
+    stored-from-one = power-largest-is 9 k p q (e .positive) .most billion (omega (arith, mul-le-mul-right (billion ^ q) (one-le-pow p k h)))
+
+    -- at most k itself
+    pub stored-small : storedLow k p q ≤ k * billion
+    stored-small =
+        pow-le-cancel q (e .positive)
+        (le-trans stored-low-stands (rw (mul-pow k billion q) (mul-le-mul-right (billion ^ q) (pow-le-pow-right h (e .at-most-one)))))

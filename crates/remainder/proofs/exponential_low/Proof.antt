@@ -1,0 +1,58 @@
+use native.Mathlib.Omega.{arith}
+use mathlib.Core.Path.{refl}
+use Prim.Native.Nat.{_*_}
+use lib.Dec.{lit<}
+use Rattle.remainder.specs.Quotient.{rounded-down}
+use Rattle.remainder.specs.Remainder.{scale, exponentialLow}
+use Rattle.remainder.specs.ExponentialBounds.{square-fits, square-down-small, cube-down-small, term-fits}
+use borrow.Author.Needs.{needs}
+use Rattle.remainder.proofs.exponential_low.Statement.{statement}
+use Rattle.remainder.proofs.exponential_low.Tie as tie
+
+mul-square : tie.Need-mul-square
+mul-square c = omega (arith, square-fits (c .pre))
+
+mul-square-2 : tie.Need-mul-square-2
+mul-square-2 c = search needs
+
+div-square : tie.Need-div-square
+div-square c = search needs
+
+mul-cube : tie.Need-mul-cube
+mul-cube c = omega (arith, term-fits (c .pre) (square-down-small (c .pre) (rounded-down _ _ (lit< tt))))
+
+mul-cube-2 : tie.Need-mul-cube-2
+mul-cube-2 c = search needs
+
+div-cube : tie.Need-div-cube
+div-cube c = search needs
+
+add-result : tie.Need-add-result
+add-result c = search needs
+
+add-result-2 : tie.Need-add-result-2
+add-result-2 c = omega (arith, square-down-small (c .pre) (rounded-down _ _ (lit< tt)))
+
+add-result-3 : tie.Need-add-result-3
+add-result-3 c =
+    let f = rounded-down (c .args .x * c .args .x) (2 * scale) (lit< tt) in
+    omega (arith, square-down-small (c .pre) f, cube-down-small (c .pre) f (rounded-down _ _ (lit< tt)))
+
+returns : tie.Need-returns
+unfolding exponentialLow
+returns c = refl
+
+pub exponential-low-spec : {M : Type 1} → statement M
+exponential-low-spec =
+    tie.close
+    (tie.spec
+    mul-square
+    mul-square-2
+    div-square
+    mul-cube
+    mul-cube-2
+    div-cube
+    add-result
+    add-result-2
+    add-result-3
+    returns)

@@ -1,0 +1,144 @@
+-- The bounds of e^x for an x up to 0.004: the sums of their rounded terms, over any scale R where that is possible.
+-- Assumes nothing.
+use Prim.Native.Nat.{ℕ, _+_, _*_, _^_, _≤_, _<_}
+use mathlib.Core.Path.{_≡_}
+use native.Mathlib.Nat.{mul-le-mul, mul-le-mul-left, mul-le-mul-right}
+use native.Mathlib.Omega.{arith}
+use lib.Dec.{lit<, lit≤}
+use Rattle.estimate.specs.Exponential.{termNum, termDen, sumNum}
+use Rattle.remainder.specs.Quotient.{quotientDown, quotientUp, RoundedDown, RoundedUp, rounded-down, quotient-up, at-most, product-down-≤, product-up-≤}
+use Rattle.remainder.specs.Remainder.{scale, exponentialLow, exponentialHigh}
+
+-- the first sums of e^(x/R), multiplied out
+third-sum : (x R : ℕ) → sumNum x R 3 ≡ 6 * (R * R * R) + 6 * (R * R * x) + 3 * (R * x * x) + x * x * x
+unfolding sumNum termNum
+third-sum x R = omega arith
+
+third-den : (R : ℕ) → termDen R 3 ≡ 6 * (R * R * R)
+unfolding termDen
+third-den R = omega arith
+
+fourth-term : (x : ℕ) → termNum x 4 ≡ x * x * x * x
+unfolding termNum
+fourth-term x = omega arith
+
+fourth-den : (R : ℕ) → termDen R 4 ≡ 24 * (R * R * R * R)
+unfolding termDen
+fourth-den R = omega arith
+
+-- THE LOW SUM
+
+low-sum-stands : (R x square cube : ℕ) → square * (2 * R) ≤ x * x → cube * (3 * R) ≤ square * x → (R + x + square + cube) * termDen R 3 ≤ sumNum x R 3 * R
+low-sum-stands R x square cube a b =
+    rw (third-sum x R, third-den R) (omega (arith, mul-le-mul-right (3 * (R * R)) a, mul-le-mul-right (R * x) a, mul-le-mul-right (2 * (R * R)) b))
+
+low-sum-near : (R x square cube : ℕ) → x ≤ R → x * x ≤ square * (2 * R) + 2 * R → square * x ≤ cube * (3 * R) + 3 * R
+    → sumNum x R 3 * R ≤ (R + x + square + cube + 3) * termDen R 3
+low-sum-near R x square cube s a b =
+    rw (third-sum x R, third-den R)
+    (omega (arith, mul-le-mul-right (3 * (R * R)) a, mul-le-mul-right (R * x) a, mul-le-mul-right (2 * (R * R)) b, mul-le-mul-left (R * R) s))
+
+-- THE HIGH SUM
+
+high-sum-stands : (R x square cube fourth : ℕ) → x * x ≤ square * (2 * R) → square * x ≤ cube * (3 * R) → cube * x ≤ fourth * (4 * R)
+    → (sumNum x R 3 * (R * 4) + 2 * termNum x 4) * R ≤ (R + x + square + cube + 2 * fourth) * termDen R 4
+high-sum-stands R x square cube fourth a b c =
+    let t3 : x * x * x ≤ 6 * (R * R * cube) = omega (arith, mul-le-mul-right x a, mul-le-mul-right (2 * R) b) in
+    let t4 : x * x * x * x ≤ 24 * (R * R * R * fourth) = omega (arith, mul-le-mul-right x t3, mul-le-mul-right (6 * (R * R)) c) in
+    rw (third-sum x R, fourth-den R, fourth-term x)
+    (omega (arith, mul-le-mul-right (12 * (R * R * R)) a, mul-le-mul-right (4 * (R * R)) t3, mul-le-mul-right (2 * R) t4))
+
+high-sum-near : (R x square cube fourth : ℕ) → x ≤ R → fourth ≤ 13 → square * (2 * R) ≤ x * x + 2 * R → cube * (3 * R) ≤ square * x + 3 * R
+    → (R + x + square + cube + 2 * fourth) * termDen R 3 ≤ sumNum x R 3 * R + 30 * termDen R 3
+high-sum-near R x square cube fourth s t a b =
+    rw (third-sum x R, third-den R)
+    (omega (arith, mul-le-mul-right (3 * (R * R)) a, mul-le-mul-right (R * x) a, mul-le-mul-right (2 * (R * R)) b, mul-le-mul-left (R * R) s, mul-le-mul-left (R * R * R) t))
+
+-- HOW LARGE THE TERMS ARE
+
+module _ {x : ℕ} (h : x ≤ 4000000000) where
+  pub square-fits : x * x ≤ 4000000000 * 4000000000
+  square-fits = mul-le-mul h h
+
+  module _ {square : ℕ} (f : RoundedDown (x * x) (2 * scale) square) where
+    pub square-down-small : square ≤ 8000000
+    square-down-small = product-down-≤ h h f (lit< tt)
+
+    pub cube-down-small : {cube : ℕ} → RoundedDown (square * x) (3 * scale) cube → cube ≤ 10667
+    cube-down-small k = product-down-≤ square-down-small h k (lit< tt)
+
+  module _ {square : ℕ} (f : RoundedUp (x * x) (2 * scale) square) where
+    pub square-up-small : square ≤ 8000001
+    square-up-small = product-up-≤ h h f (lit≤ tt)
+
+    module _ {cube : ℕ} (g : RoundedUp (square * x) (3 * scale) cube) where
+      pub cube-up-small : cube ≤ 10668
+      cube-up-small = product-up-≤ square-up-small h g (lit≤ tt)
+
+      pub fourth-small : {fourth : ℕ} → RoundedUp (cube * x) (4 * scale) fourth → fourth ≤ 13
+      fourth-small k = product-up-≤ cube-up-small h k (lit≤ tt)
+
+-- a term up to the numeral t, times x
+pub term-fits : {x u t : ℕ} → x ≤ 4000000000 → u ≤ t → u * x ≤ t * 4000000000
+term-fits h k = mul-le-mul k h
+
+-- WHAT IS SHOWN OF THE TWO BOUNDS
+
+pub record ExponentialLow (x w : ℕ) : Type 0 where
+  pub stands : w * termDen scale 3 ≤ sumNum x scale 3 * scale
+  pub near : sumNum x scale 3 * scale ≤ (w + 3) * termDen scale 3
+  pub from-one : scale ≤ w
+  pub small : w ≤ 1005 * 10 ^ 9
+
+pub record ExponentialHigh (x w : ℕ) : Type 0 where
+  pub stands : (sumNum x scale 3 * (scale * 4) + 2 * termNum x 4) * scale ≤ w * termDen scale 4
+  pub near : w * termDen scale 3 ≤ sumNum x scale 3 * scale + 30 * termDen scale 3
+  pub from-one : scale ≤ w
+  pub small : w ≤ 1005 * 10 ^ 9
+
+pub exponential-low-is : (x : ℕ) → x ≤ 4000000000 → ExponentialLow x (exponentialLow x)
+unfolding exponentialLow
+exponential-low-is x h =
+    let square = quotientDown (x * x) (2 * scale) in
+    let cube = quotientDown (square * x) (3 * scale) in
+    let f : RoundedDown (x * x) (2 * scale) square = rounded-down (x * x) (2 * scale) (lit< tt) in
+    let g : RoundedDown (square * x) (3 * scale) cube = rounded-down (square * x) (3 * scale) (lit< tt) in
+    record {
+      stands = low-sum-stands scale x square cube (f .below) (g .below);
+      near = low-sum-near scale x square cube (omega arith) (omega (arith, f .near)) (omega (arith, g .near));
+      from-one = omega arith;
+      small = omega (arith, square-down-small h f, cube-down-small h f g);
+    }
+
+pub exponential-high-is : (x : ℕ) → x ≤ 4000000000 → ExponentialHigh x (exponentialHigh x)
+unfolding exponentialHigh
+exponential-high-is x h =
+    let square = quotientUp (x * x) (2 * scale) in
+    let cube = quotientUp (square * x) (3 * scale) in
+    let fourth = quotientUp (cube * x) (4 * scale) in
+    let f = quotient-up (x * x) (2 * scale) (lit< tt) in
+    let g = quotient-up (square * x) (3 * scale) (lit< tt) in
+    let k = quotient-up (cube * x) (4 * scale) (lit< tt) in
+    record {
+      stands = high-sum-stands scale x square cube fourth (f .above) (g .above) (k .above);
+      near = high-sum-near scale x square cube fourth (omega arith) (fourth-small h f g k) (omega (arith, f .near)) (omega (arith, g .near));
+      from-one = omega arith;
+      small = omega (arith, square-up-small h f, cube-up-small h f g, fourth-small h f g k);
+    }
+
+-- TWO CLOSE ARGUMENTS HAVE CLOSE SUMS
+
+sums-near : (R x y : ℕ) → 250 * x ≤ R → 250 * y ≤ R → y ≤ x + 7502 → sumNum y R 3 * R ≤ sumNum x R 3 * R + 7550 * termDen R 3
+sums-near R x y s t h =
+    let t2 : y * y ≤ x * x + 62 * R = omega (arith, mul-le-mul-left y h, mul-le-mul-left x h) in
+    let t3 : y * y * y ≤ x * x * x + R * R =
+    omega (arith, mul-le-mul-left y t2, mul-le-mul-right (x * x) h, mul-le-mul-left x s, mul-le-mul-left R s, mul-le-mul-left R t) in
+    rw (third-sum x R, third-sum y R, third-den R) (omega (arith, mul-le-mul-left (R * R * R) h, mul-le-mul-left (3 * (R * R)) t2, mul-le-mul-left R t3))
+
+bounds-near : (K P Q v w : ℕ) → P ≤ (v + 3) * K → w * K ≤ Q + 30 * K → Q ≤ P + 7550 * K → 0 < K → w ≤ v + 7583
+bounds-near K P Q v w a b c h = at-most w K (v + 7583) (omega arith)
+
+pub exponentials-near : (x y : ℕ) → x ≤ 4000000000 → y ≤ 4000000000 → y ≤ x + 7502 → exponentialHigh y ≤ exponentialLow x + 7583
+exponentials-near x y s t h =
+    bounds-near (termDen scale 3) (sumNum x scale 3 * scale) (sumNum y scale 3 * scale) (exponentialLow x) (exponentialHigh y)
+    (exponential-low-is x s .near) (exponential-high-is y t .near) (sums-near scale x y (omega arith) (omega arith) h) (rw (third-den scale) (lit< tt))

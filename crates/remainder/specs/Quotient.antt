@@ -1,0 +1,45 @@
+-- a / d, rounded down and rounded up, by its product with d.
+-- Assumes nothing.
+use Prim.Native.Nat.{ℕ, _+_, _-_, _*_, _/_, _≤_, _<_}
+use mathlib.Core.Path.{_≡_, refl}
+use native.Mathlib.Nat.{mul-le-mul, lt-of-mul-lt-mul-right, div-mul-le-self, lt-div-mul-add}
+use native.Mathlib.Omega.{arith}
+
+abbrev pub quotientDown : (a d : ℕ) → ℕ
+quotientDown a d = a / d
+
+unfoldable pub quotientUp : (a d : ℕ) → ℕ
+quotientUp a d = (a + (d - 1)) / d
+
+pub record RoundedDown (a d q : ℕ) : Type 0 where
+  pub below : q * d ≤ a
+  pub near : a < q * d + d
+
+pub record RoundedUp (a d q : ℕ) : Type 0 where
+  pub above : a ≤ q * d
+  pub near : q * d < a + d
+
+pub rounded-down : (a d : ℕ) → 0 < d → RoundedDown a d (quotientDown a d)
+rounded-down a d h = record { below = div-mul-le-self a d; near = lt-div-mul-add h }
+
+pub rounded-up : {a d q : ℕ} → 0 < d → q ≡ quotientUp a d → RoundedUp a d q
+unfolding quotientUp
+rounded-up {a} {d} {q} h e =
+    let x = div-mul-le-self (a + (d - 1)) d in
+    let y : a + (d - 1) < (a + (d - 1)) / d * d + d = lt-div-mul-add h in
+    rw e (record { above = omega arith; near = omega arith })
+
+pub quotient-up : (a d : ℕ) → 0 < d → RoundedUp a d (quotientUp a d)
+quotient-up a d h = rounded-up h refl
+
+-- a quotient by d is at most b where its product is below that of b + 1
+pub at-most : (q d b : ℕ) → q * d < (b + 1) * d → q ≤ b
+at-most q d b h = omega (arith, lt-of-mul-lt-mul-right d {m = q} {n = b + 1} h)
+
+-- how large a rounded product of a ≤ A and b ≤ B is
+module _ {a b A B d q m : ℕ} (ha : a ≤ A) (hb : b ≤ B) where
+  pub product-down-≤ : RoundedDown (a * b) d q → A * B < (m + 1) * d → q ≤ m
+  product-down-≤ f h = at-most q d m (omega (arith, f .below, mul-le-mul ha hb, h))
+
+  pub product-up-≤ : RoundedUp (a * b) d q → A * B + d ≤ (m + 1) * d → q ≤ m
+  product-up-≤ f h = at-most q d m (omega (arith, f .near, mul-le-mul ha hb, h))

@@ -1,0 +1,91 @@
+// A number up to 65536 as a product of two up to 256 and a small rest, and bounds of what the rest adds to its logarithm
+// and to its powers. Bounds are whole numbers over 10^12.
+ghost use mathlib.Core.Path.{_≡_};
+ghost use Prim.Native.Nat.{_+_, _^_, _≤_, _<_};
+ghost use Rattle.remainder.specs.Quotient.{quotientUp};
+ghost use Rattle.remainder.specs.Split.{splitOf};
+ghost use Rattle.remainder.specs.Remainder.{SmallRest, Exponent, logLow, logHigh, exponentialLow, exponentialHigh, remainderLow, remainderHigh};
+
+const SCALE: u64 = 1_000_000_000_000;
+
+// The number n * m + r.
+pub struct Parts {
+    pub n: u64,
+    pub m: u64,
+    pub r: u64,
+}
+
+// a / d, rounded up.
+fn up(a: u64, d: u64) -> u64
+    requires { ⌜ (0 < d) × (a + d < 2 ^ 64) ⌝ }
+    ensures { λ q. ⌜ q ≡ quotientUp a d ⌝ }
+{
+    (a + (d - 1)) / d
+}
+
+// a = n * m + r, with n and m at most 256 and r at most n * m / 255.
+pub fn split(a: u64) -> Parts
+    requires { ⌜ (1 ≤ a) × (a ≤ 65536) ⌝ }
+    ensures { λ s. ⌜ s ≡ splitOf a ⌝ }
+{
+    let n = up(a, 256);
+    let m = a / n;
+    Parts { n, m, r: a - n * m }
+}
+
+// A number below ln((product + rest) / product).
+pub fn log_low(product: u64, rest: u64) -> u64
+    requires { ⌜ SmallRest product rest ⌝ }
+    ensures { λ y. ⌜ y ≡ logLow product rest ⌝ }
+{
+    2 * rest * SCALE / (2 * product + rest)
+}
+
+// A number above ln((product + rest) / product).
+pub fn log_high(product: u64, rest: u64) -> u64
+    requires { ⌜ SmallRest product rest ⌝ }
+    ensures { λ y. ⌜ y ≡ logHigh product rest ⌝ }
+{
+    let d = 2 * product + rest;
+    let z = up(rest * SCALE, d);
+    let square = up(z * z, SCALE);
+    let cube = up(square * z, SCALE);
+    up(2 * rest * SCALE, d) + cube
+}
+
+// A number below e^x.
+fn exponential_low(x: u64) -> u64
+    requires { ⌜ x ≤ 4000000000 ⌝ }
+    ensures { λ w. ⌜ w ≡ exponentialLow x ⌝ }
+{
+    let square = x * x / (2 * SCALE);
+    let cube = square * x / (3 * SCALE);
+    SCALE + x + square + cube
+}
+
+// A number above e^x.
+fn exponential_high(x: u64) -> u64
+    requires { ⌜ x ≤ 4000000000 ⌝ }
+    ensures { λ w. ⌜ w ≡ exponentialHigh x ⌝ }
+{
+    let square = up(x * x, 2 * SCALE);
+    let cube = up(square * x, 3 * SCALE);
+    let fourth = up(cube * x, 4 * SCALE);
+    SCALE + x + square + cube + 2 * fourth
+}
+
+// A number below ((product + rest) / product)^(num / den).
+pub fn remainder_low(product: u64, rest: u64, num: u64, den: u64) -> u64
+    requires { ⌜ SmallRest product rest × Exponent num den ⌝ }
+    ensures { λ w. ⌜ w ≡ remainderLow product rest num den ⌝ }
+{
+    exponential_low(log_low(product, rest) * num / den)
+}
+
+// A number above ((product + rest) / product)^(num / den).
+pub fn remainder_high(product: u64, rest: u64, num: u64, den: u64) -> u64
+    requires { ⌜ SmallRest product rest × Exponent num den ⌝ }
+    ensures { λ w. ⌜ w ≡ remainderHigh product rest num den ⌝ }
+{
+    exponential_high(up(log_high(product, rest) * num, den))
+}
