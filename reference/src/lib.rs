@@ -6,7 +6,7 @@
 //! of any size and fractions of two of them.
 //!
 //! - numbers: [`natural`], [`rational`], [`sum`]
-//! - brackets, apart from roads: [`estimates`]
+//! - brackets, apart from roads: [`estimates`], [`stored`], [`figures`]
 //! - the file: [`rules`], [`record`], [`project`], [`lines`]
 //! - the road model: [`model`], [`factors`], [`prediction`]
 //! - the report: [`report`], [`checker`]
@@ -17,6 +17,7 @@
 pub mod checker;
 pub mod estimates;
 pub mod factors;
+pub mod figures;
 pub mod generate;
 pub mod lines;
 pub mod model;
@@ -28,4 +29,5 @@ pub mod rational;
 pub mod record;
 pub mod report;
 pub mod rules;
+pub mod stored;
 pub mod sum;

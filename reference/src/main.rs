@@ -8,7 +8,7 @@ use reference::program::check;
 use reference::project::{parse_project, Project};
 use reference::report::print_report;
 use reference::sum::Sum;
-use reference::{lines, program};
+use reference::{figures, lines, program, stored};
 use std::io::{Read, Write};
 use std::process::ExitCode;
 
@@ -24,6 +24,9 @@ usage: reference COMMAND ...
                            standard output
   report                   a project file on standard input to a report made
                            from the estimates at depth 9
+  stored NAME              the numbers that the engine stores of powers,
+                           logarithms or exponentials, one a line
+  figures                  what the engine's program bracket_figures prints
 PROJECT is a project file or a file of lines as `dump` prints them; `-` is
 standard input. A file that is refused prints `refused NUMBER at PLACE`.
 ";
@@ -44,6 +47,11 @@ fn main() -> ExitCode {
         ["dump", project] => dump(project),
         ["make"] => make(),
         ["report"] => print_own_report(),
+        ["stored", name] => print_stored(name),
+        ["figures"] => {
+            print!("{}", figures::figures());
+            Ok(ExitCode::SUCCESS)
+        }
         _ => Err(USAGE.to_string()),
     };
     match outcome {
@@ -53,6 +61,19 @@ fn main() -> ExitCode {
             ExitCode::FAILURE
         }
     }
+}
+
+fn print_stored(name: &str) -> Result<ExitCode, String> {
+    let numbers = match name {
+        "powers" => stored::powers(),
+        "logarithms" => stored::logarithms(),
+        "exponentials" => stored::exponentials(),
+        _ => return Err(USAGE.to_string()),
+    };
+    for number in numbers {
+        println!("{number}");
+    }
+    Ok(ExitCode::SUCCESS)
 }
 
 fn read_input(path: &str) -> Result<Vec<u8>, String> {

@@ -9,8 +9,6 @@ use Rattle.wide.specs.Rounding.{floor-le, ceiling-lt, floor-fits, ceiling-fits}
 use Rattle.remainder.specs.Remainder.{Exponent, scale}
 use Rattle.power.specs.Stored.{billion, storedLow, storedHigh, stored-near, stored-small}
 
--- THE PRODUCTS OF A POWER
-
 -- a stored bound of a number up to 256
 module _ (k p q : ℕ) (e : Exponent p q) (from : 1 ≤ k) (to : k ≤ 256) where
   pub stored-low-fits : storedLow k p q ≤ 257 * billion

@@ -1,16 +1,15 @@
 -- The answer of the public call: where a bracket is given, and that it stands.
 -- Assumes nothing.
-use Prim.Native.Nat.{ℕ, _≤_, _<_}
+use Prim.Native.Nat.{ℕ}
 use mathlib.Core.Bool.{Bool, true, false, cond}
-use mathlib.Core.Path.{_≡_, refl, ap, _∙_}
+use mathlib.Core.Path.{_≡_, refl}
 use native.Mathlib.Omega.{arith}
 use borrow.Author.Tests.{le-leb, lt-ltb, eq-eqb}
-use lib.Dec.{T, leb, ltb, eqb, leb→le, ltb→lt, eqb→eq}
-use Rattle.estimate.specs.Table.{both, both-left, both-right}
-use Rattle.bracket.specs.declared.BracketAnswer.{BracketAnswer}
+use lib.Dec.{T, leb, eqb, leb→le, ltb→lt, eqb→eq}
+use Rattle.estimate.specs.Table.{both-left, both-right}
 use Rattle.bracket.specs.declared.BracketAnswer.the-variants.{Between, OutOfRange}
 use Rattle.remainder.specs.Remainder.{Exponent}
-use Rattle.power.specs.Exponents.{exponentAt, placeOf, place-of-holds, exponent-small}
+use Rattle.power.specs.Exponents.{placeOf, place-of-holds, exponent-small}
 use Rattle.power.specs.Power.{powerBracket, PowerRange, inRange, powerAnswer, PowerStands}
 use Rattle.power.specs.PowerLaws.{power-standing}
 

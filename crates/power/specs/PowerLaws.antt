@@ -1,8 +1,9 @@
--- The bracket of A^(p/q) stands at every depth and is narrow, for every exponent up to 1; how large its ends are.
+-- The bracket of A^(p/q) stands at every depth and is narrow; how large its ends are.
+-- "The shared laws of powers are shown over the exponent, not for each": p/q is any exponent up to 1.
 -- Assumes nothing.
 use Prim.Native.Nat.{ℕ, _+_, _*_, _^_, _≤_, _<_}
-use mathlib.Core.Path.{_≡_, refl}
-use native.Mathlib.Nat.{le-trans, mul-le-mul, mul-le-mul-right, pow-le-pow-left, pow-le-pow-right}
+use mathlib.Core.Path.{refl}
+use native.Mathlib.Nat.{le-trans, mul-le-mul-right, pow-le-pow-left, pow-le-pow-right}
 use native.Mathlib.Omega.{arith}
 use lib.Dec.{lit<, lit≤}
 use Rattle.estimate.specs.Fraction.{fraction}
@@ -12,13 +13,13 @@ use Rattle.estimate.specs.PowerLaws.{power-low-stands, power-high-stands, power
 use Rattle.wide.specs.Scaling.{floor, ceiling}
 use Rattle.wide.specs.Rounding.{floor-le, ceiling-ge}
 use Rattle.bracket.specs.Bracket.{Stands, RelativeWidth, powerWidth}
-use Rattle.remainder.specs.Quotient.{RoundedDown, RoundedUp}
 use Rattle.remainder.specs.Split.{firstFactor, secondFactor, restOf, Splits, split-is}
 use Rattle.remainder.specs.Remainder.{Exponent, scale, remainderLow, remainderHigh}
 use Rattle.remainder.specs.RemainderLaws.{remainder-low-stands, remainder-high-stands, remainder-near, remainder-low-from-one, remainder-low-small}
+use Rattle.power.specs.Exponents.{exponentAt, exponent-small, exponent-is}
 use Rattle.power.specs.Stored.{billion, storedLow, storedHigh, stored-low-stands, stored-high-stands, stored-near, stored-from-one}
 use Rattle.power.specs.Power.{powerLow, powerHigh, powerBracket, StandingPower}
-use Rattle.power.specs.PowerWidth.{floor-rounded, ceiling-rounded, at-least, ends-near, first-≤-low}
+use Rattle.power.specs.PowerWidth.{floor-rounded, ceiling-rounded, at-least, ends-near}
 
 -- the width that is shown, 2 * 10^-8 of the high; the stated width follows from it
 unfoldable pub shownWidth : ℕ
@@ -123,13 +124,14 @@ module _ (A p q : ℕ) (from : 1 ≤ A) (to : A ≤ 65536) (e : Exponent p q) wh
   pub power-high-from-one : billion ≤ powerHigh A p q
   power-high-from-one = omega (arith, power-low-from-one, power-in-order)
 
-  -- a bound c of (B/1)^(P/q) in billionths, for a B from A on and a P from p on, bounds the low end
-  power-low-below : (B P c : ℕ) → A ≤ B → p ≤ P → 0 < B → B ^ P * billion ^ q ≤ c ^ q → powerLow A p q ≤ c
+  -- c billionths bound B^(P/q), for a B from A on and a P from p on: they bound the low end
+  pub power-low-below : (B P c : ℕ) → A ≤ B → p ≤ P → 0 < B → B ^ P * billion ^ q ≤ c ^ q → powerLow A p q ≤ c
   power-low-below B P c hA hp hB h =
       pow-le-cancel q (e .positive)
       (le-trans power-low-≤ (le-trans (mul-le-mul-right (billion ^ q) (le-trans (pow-le-pow-left hA p) (pow-le-pow-right hB hp))) h))
 
--- 20,000^0.79 is below 2,500, and the high end below 2,600
+-- AT A STORED EXPONENT: 20,000^0.79 is below 2,500, and the high end below 2,600
+
 pub power-high-small : (A p : ℕ) → 1 ≤ A → A ≤ 20000 → p ≤ 79 → powerHigh A p 100 ≤ 2600 * billion
 unfolding shownWidth
 power-high-small A p from to hp =
@@ -137,3 +139,13 @@ power-high-small A p from to hp =
     let e : Exponent p 100 = record { at-most-one = omega arith; positive = omega arith; few = omega arith } in
     let low = power-low-below A p 100 from big e 20000 79 (2500 * billion) to hp (lit< tt) (lit≤ tt) in
     omega (arith, low, power-shown-width A p 100 from big e .width)
+
+module _ (base e : ℕ) (from : 1 ≤ base) (to : base ≤ 20000) (h : e < 5) where
+  pub stored-exponent-standing : StandingPower base (exponentAt e) 100 (powerBracket base (exponentAt e) 100)
+  stored-exponent-standing = power-standing base (exponentAt e) 100 from (omega arith) (exponent-is e h)
+
+  pub stored-exponent-low-from-one : billion ≤ powerLow base (exponentAt e) 100
+  stored-exponent-low-from-one = power-low-from-one base (exponentAt e) 100 from (omega arith) (exponent-is e h)
+
+  pub stored-exponent-high-small : powerHigh base (exponentAt e) 100 ≤ 2600 * billion
+  stored-exponent-high-small = power-high-small base (exponentAt e) from to (exponent-small e h)

@@ -46,6 +46,3 @@ module _ (S R s t u u' g g' v v' : ℕ) (hS : 0 < S) (hs : S ≤ s) (ht : S ≤ 
 
   pub ends-near : v' * R ≤ v * R + 17584 * u
   ends-near = le-of-mul-le-mul-right {k = S} second hS
-
-  pub first-≤-low : u ≤ v
-  first-≤-low = at-least u g R v hg c

@@ -1,15 +1,14 @@
 -- The bounds of ln((N+r)/N): that they are bounds, how near they are and how large.
 -- Assumes nothing.
-use Prim.Native.Nat.{ℕ, _+_, _*_, _^_, _≤_, _<_}
-use mathlib.Core.Path.{_≡_}
+use Prim.Native.Nat.{ℕ, _+_, _*_, _≤_, _<_}
 use native.Mathlib.Nat.{mul-le-mul, mul-le-mul-left, mul-le-mul-right, mul-pos, le-of-mul-le-mul-right}
 use native.Mathlib.Omega.{arith}
 use lib.Dec.{lit<, lit≤}
-use Rattle.estimate.specs.Fraction.{Fraction, _≤ᶠ_, fraction, decimal}
+use Rattle.estimate.specs.Fraction.{_≤ᶠ_, fraction, decimal}
 use Rattle.estimate.specs.FractionLaws.{≤ᶠ-refl}
 use Rattle.estimate.specs.ExponentialBounds.{AtMostExp, AtLeastExp, at-most-weaker, at-least-weaker}
 use Rattle.estimate.specs.Remainder.{ratio, twiceZ, twiceZAndCube, ratio-at-least, ratio-at-most}
-use Rattle.remainder.specs.Quotient.{quotientUp, RoundedDown, RoundedUp, rounded-down, rounded-up, quotient-up, at-most, product-up-≤}
+use Rattle.remainder.specs.Quotient.{RoundedDown, RoundedUp, rounded-down, quotient-up, at-most, product-up-≤}
 use Rattle.remainder.specs.Remainder.{SmallRest, scale, logLow, logHigh}
 
 module _ (N r : ℕ) (s : SmallRest N r) where

@@ -1,13 +1,12 @@
 -- The bounds of ((N+r)/N)^(p/q), for every exponent p/q up to 1: that they are bounds, how near they are and how large.
 -- Assumes nothing.
 use Prim.Native.Nat.{ℕ, _+_, _*_, _^_, _≤_, _<_}
-use mathlib.Core.Path.{_≡_}
 use native.Mathlib.Nat.{mul-le-mul, mul-le-mul-left, mul-le-mul-right, le-of-mul-le-mul-right}
 use native.Mathlib.Omega.{arith}
 use lib.Dec.{lit<}
 use Rattle.estimate.specs.Remainder.{ratio-power-low-whole, ratio-power-high-whole}
 use Rattle.remainder.specs.Quotient.{quotientDown, quotientUp, RoundedDown, RoundedUp, rounded-down, quotient-up, at-most}
-use Rattle.remainder.specs.Remainder.{SmallRest, Exponent, scale, logLow, logHigh, exponentialLow, exponentialHigh, remainderLow, remainderHigh}
+use Rattle.remainder.specs.Remainder.{SmallRest, Exponent, scale, logLow, logHigh, remainderLow, remainderHigh}
 use Rattle.remainder.specs.LogarithmBounds.{log-low-stands, log-low-small, log-high-stands, log-high-small, log-near}
 use Rattle.remainder.specs.ExponentialBounds.{ExponentialLow, ExponentialHigh, exponential-low-is, exponential-high-is, exponentials-near}
 

@@ -1,0 +1,16 @@
+-- The bracket of e^x, its fractions turned over and exchanged. Assumes nothing.
+use mathlib.Core.Path.{ap}
+use Rattle.exponential.specs.Exponential.{reciprocal, expNegBracket}
+use borrow.Author.Needs.{needs}
+use Rattle.exponential.proofs.exponential_negative_with.Statement.{statement}
+use Rattle.exponential.proofs.exponential_negative_with.Tie as tie
+
+exponential-with-requires : tie.Need-exponential-with-requires
+exponential-with-requires c κs = search needs
+
+returns : tie.Need-returns
+unfolding expNegBracket
+returns c = ap reciprocal (c .exponential-with .ensures)
+
+pub exponential-negative-with-spec : {M : Type 1} → statement M
+exponential-negative-with-spec = tie.close (tie.spec exponential-with-requires returns)

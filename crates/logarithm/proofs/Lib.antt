@@ -1,0 +1,4 @@
+-- What the proofs share.
+pub mod Entries
+pub mod Ends
+pub mod Answers

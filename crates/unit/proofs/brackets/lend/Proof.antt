@@ -1,0 +1,55 @@
+use native.Mathlib.Omega.{arith}
+use borrow.Author.Needs.{needs}
+use lib.ListN.{length-set}
+use Rattle.unit.proofs.Lending.{no-space, lent}
+use Rattle.unit.proofs.brackets.lend.Statement.{statement}
+use Rattle.unit.proofs.brackets.lend.Tie as tie
+
+enum-known-answer : tie.Need-enum-known-answer
+enum-known-answer c = search needs
+
+enum-told : tie.Need-enum-told
+enum-told c = search needs
+
+returns : tie.Need-returns
+returns c = search needs
+
+returns-2 : tie.Need-returns-2
+returns-2 c =
+    let a = c .before .before in
+    no-space _ (a .answer .given .0 .0) _ (a .answer .given .1) (c .if1 .taken)
+
+slice-write-ends : tie.Need-slice-write-ends
+slice-write-ends c = search needs
+
+slice-write-ends-2 : tie.Need-slice-write-ends-2
+slice-write-ends-2 c = simp length-set (omega arith)
+
+slice-write-ends-3 : tie.Need-slice-write-ends-3
+slice-write-ends-3 c = simp length-set (omega arith)
+
+slice-write-ends-4 : tie.Need-slice-write-ends-4
+slice-write-ends-4 c = search needs
+
+same-length : tie.Need-same-length
+same-length c = search needs
+
+returns-3 : tie.Need-returns-3
+returns-3 c =
+    let a = c .before .before in
+    lent _ (a .answer .given .0 .0) _ (a .answer .given .1) (c .if1 .left)
+
+pub lend-spec : {M : Type 1} → statement M
+lend-spec =
+    tie.close
+    (tie.spec
+    enum-known-answer
+    enum-told
+    returns
+    returns-2
+    slice-write-ends
+    slice-write-ends-2
+    slice-write-ends-3
+    slice-write-ends-4
+    same-length
+    returns-3)

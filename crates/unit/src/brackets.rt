@@ -1,0 +1,57 @@
+// Brackets of powers, logarithms and exponentials, left in a lent run of numbers.
+ghost use mathlib.Core.Path.{_≡_};
+ghost use Rattle.power.specs.Power.{powerAnswer};
+ghost use Rattle.logarithm.specs.Logarithm.{logarithmAnswer};
+ghost use Rattle.exponential.specs.Exponential.{exponentialAnswer, exponentialNegativeAnswer};
+ghost use Rattle.unit.specs.Lent.{Lends};
+use bracket::BracketAnswer;
+
+// Leaves a bracket's four numbers at the start of `ends`: 0; or 8 where there is no bracket, then 10 where `ends` is too
+// short, with nothing written.
+fn lend(answer: BracketAnswer, ends: &mut [u64]) -> u64
+    ensures { λ r. ⌜ Lends answer (now (ends .entry)) (now (ends .exit)) r ⌝ }
+{
+    let BracketAnswer::Between(b) = answer else {
+        return 8;
+    };
+    if ends.len() < 4 {
+        return 10;
+    }
+    ends[0] = b.low_num;
+    ends[1] = b.low_den;
+    ends[2] = b.high_num;
+    ends[3] = b.high_den;
+    0
+}
+
+// base^(num / den).
+#[no_mangle]
+pub extern "C" fn crash_power(base: u64, num: u64, den: u64, ends: &mut [u64]) -> u64
+    ensures { λ r. ⌜ Lends (powerAnswer base num den) (now (ends .entry)) (now (ends .exit)) r ⌝ }
+{
+    lend(power::power(base, num, den), ends)
+}
+
+// ln argument.
+#[no_mangle]
+pub extern "C" fn crash_logarithm(argument: u64, ends: &mut [u64]) -> u64
+    ensures { λ r. ⌜ Lends (logarithmAnswer argument) (now (ends .entry)) (now (ends .exit)) r ⌝ }
+{
+    lend(logarithm::logarithm(argument), ends)
+}
+
+// e^x, x in ten-thousandths.
+#[no_mangle]
+pub extern "C" fn crash_exponential(x: u64, ends: &mut [u64]) -> u64
+    ensures { λ r. ⌜ Lends (exponentialAnswer x) (now (ends .entry)) (now (ends .exit)) r ⌝ }
+{
+    lend(exponential::exponential(x), ends)
+}
+
+// e^(-x), x in ten-thousandths.
+#[no_mangle]
+pub extern "C" fn crash_exponential_negative(x: u64, ends: &mut [u64]) -> u64
+    ensures { λ r. ⌜ Lends (exponentialNegativeAnswer x) (now (ends .entry)) (now (ends .exit)) r ⌝ }
+{
+    lend(exponential::exponential_negative(x), ends)
+}

@@ -1,0 +1,2 @@
+// The calls that C and Rust link: numbers and lent runs of numbers only, none with a precondition.
+pub mod brackets;

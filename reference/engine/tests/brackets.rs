@@ -1,0 +1,109 @@
+//! Every bracket the engine can be asked for, against the reference's own
+//! estimates.
+
+use engine::Bracket;
+use reference::estimates::{self, Estimates};
+use reference::rational::Rational;
+
+/// The exponents that the engine stores, in hundredths.
+const EXPONENTS: [u64; 5] = [79, 49, 60, 61, 20];
+const LARGEST_BASE: u64 = 20_000;
+const LARGEST_X: u64 = 140_000;
+
+/// The depth at which every argument is compared, and those at which some are.
+const EVERY: u32 = 9;
+const SOME: [u32; 4] = [1, 2, 3, 6];
+const SOME_STEP: u64 = 997;
+
+/// The depths for an argument.
+fn depths(argument: u64) -> Vec<u32> {
+    let some = argument % SOME_STEP == 1 || argument == LARGEST_BASE || argument == LARGEST_X;
+    let rest = if some { &SOME[..] } else { &[] };
+    std::iter::once(EVERY).chain(rest.iter().copied()).collect()
+}
+
+/// "A low is right when it is at most the over-estimate, a high when it is at
+/// least the under-estimate. No low passes its high."
+fn stands(bracket: &Bracket, estimates: &Estimates) -> bool {
+    bracket.low <= estimates.over && estimates.under <= bracket.high && bracket.low <= bracket.high
+}
+
+/// Relative width at most 10^-6.
+fn is_narrow(bracket: &Bracket) -> bool {
+    &bracket.width() * &Rational::whole(1_000_000) <= bracket.high
+}
+
+#[test]
+fn every_base_at_every_exponent() {
+    for exponent in EXPONENTS {
+        for base in 1..=LARGEST_BASE {
+            let bracket = engine::power(base, exponent, 100).expect("a base in range");
+            assert!(is_narrow(&bracket), "{base}^({exponent}/100) is too wide");
+            for depth in depths(base) {
+                let estimates = estimates::power(base, exponent as u32, 100, depth);
+                let right = stands(&bracket, &estimates);
+                assert!(right, "{base}^({exponent}/100) at depth {depth}");
+            }
+        }
+    }
+}
+
+#[test]
+fn every_logarithm() {
+    let widest = Rational::of(1, 1_000_000);
+    for argument in 1..=LARGEST_BASE {
+        let bracket = engine::logarithm(argument).expect("an argument in range");
+        assert!(bracket.width() <= widest, "ln {argument} is too wide");
+        for depth in depths(argument) {
+            let estimates = estimates::logarithm(argument, depth);
+            assert!(stands(&bracket, &estimates), "ln {argument} at {depth}");
+        }
+    }
+}
+
+#[test]
+fn every_exponential_and_its_reciprocal() {
+    for x in 0..=LARGEST_X {
+        let rising = engine::exponential(x).expect("an x in range");
+        let falling = engine::exponential_negative(x).expect("an x in range");
+        assert!(is_narrow(&rising) && is_narrow(&falling), "e^{x} too wide");
+        for depth in depths(x) {
+            let estimates = estimates::exponential(&Rational::of(x, 10_000), depth);
+            assert!(stands(&rising, &estimates), "e^{x} at {depth}");
+            let reciprocal = estimates.reciprocal();
+            assert!(stands(&falling, &reciprocal), "e^-{x} at {depth}");
+        }
+    }
+}
+
+#[test]
+fn arguments_out_of_range_have_no_bracket() {
+    for (base, num, den) in [
+        (0, 79, 100),
+        (LARGEST_BASE + 1, 79, 100),
+        (2, 79, 0),
+        (2, 3, 5),
+        (2, 80, 100),
+        (2, 120, 200),
+        (u64::MAX, 60, 100),
+    ] {
+        assert!(
+            engine::power(base, num, den).is_none(),
+            "{base} {num}/{den}"
+        );
+    }
+    assert!(engine::logarithm(0).is_none());
+    assert!(engine::logarithm(LARGEST_BASE + 1).is_none());
+    assert!(engine::exponential(LARGEST_X + 1).is_none());
+    assert!(engine::exponential_negative(u64::MAX).is_none());
+}
+
+#[test]
+fn a_short_buffer_is_left_as_it_was() {
+    let mut ends = [7; 3];
+    assert_eq!(engine::power_into(2, 60, 100, &mut ends), engine::TOO_SHORT);
+    assert_eq!(ends, [7; 3]);
+    let mut ends = [7; 5];
+    assert_eq!(engine::power_into(2, 60, 100, &mut ends), engine::DONE);
+    assert_eq!(ends[4], 7);
+}
