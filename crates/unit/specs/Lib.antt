@@ -1,2 +1,4 @@
 -- What the exported calls leave in lent runs of numbers.
 pub mod Lent
+pub mod SiteNumbers
+pub mod Malformed

@@ -1,2 +1,3 @@
 // The calls that C and Rust link: numbers and lent runs of numbers only, none with a precondition.
 pub mod brackets;
+pub mod sites;

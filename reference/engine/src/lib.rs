@@ -3,6 +3,8 @@
 
 use reference::rational::Rational;
 
+pub mod sites;
+
 extern "C" {
     fn crash_power(base: u64, num: u64, den: u64, ends: *mut u64, ends_len: usize) -> u64;
     fn crash_logarithm(argument: u64, ends: *mut u64, ends_len: usize) -> u64;

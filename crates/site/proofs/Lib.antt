@@ -1,0 +1,4 @@
+pub mod Walk
+pub mod ReadSteps
+pub mod WriteSteps
+pub mod WriteWhole

@@ -1,0 +1,58 @@
+-- What the public calls promise, in one record each, with equations for the answer and for every lent number afterwards.
+use mathlib.Core.Path.{_≡_, refl, ap, sym, _∙_}
+use mathlib.Core.Bool.{Bool, true, false, cond}
+use mathlib.Core.List.{List}
+use Prim.Native.Nat.{ℕ}
+use lib.ListN.{length}
+use lib.Dec.{eqb}
+use borrow.Author.Tests.{eqb-true}
+use Rattle.site.specs.declared.values.Site.{Site}
+use Rattle.site.specs.declared.values.SiteAnswer.{SiteAnswer}
+use Rattle.site.specs.declared.values.SiteAnswer.the-variants.{Read}
+use Rattle.site.specs.declared.values.WriteAnswer.{WriteAnswer}
+use Rattle.site.specs.declared.values.WriteAnswer.the-variants.{Written, Unwritten}
+use Rattle.site.specs.Answers.{readNumber, writeNumber, wroteAnswer}
+use Rattle.site.specs.Record.{refusalOf, readSite}
+use Rattle.site.specs.Writing.{recordOf, Valid, writeRefusal, writeAnswer, writeInto}
+use Rattle.site.specs.Accepted.{number-read}
+use Rattle.site.specs.ReadWrite.{read-valid}
+use Rattle.site.specs.Theorems.{RecordLength, read-length}
+
+-- the site reader: its answer, document 01's number for it, and what is so of a site that it reads
+pub record ReadsSite (part : List ℕ) (answer : SiteAnswer) : Type 0 where
+  pub answer-is : answer ≡ readSite part
+  pub number-is : readNumber answer ≡ refusalOf part
+  pub valid : (site : Site) (n : ℕ) → answer ≡ Read site n → Valid site
+  pub bounds : (site : Site) (n : ℕ) → answer ≡ Read site n → RecordLength part n
+
+pub reads-site : (part : List ℕ) (answer : SiteAnswer) → answer ≡ readSite part → ReadsSite part answer
+reads-site part answer e =
+    record {
+      answer-is = e;
+      number-is = ap readNumber e ∙ number-read part;
+      valid = λ site n q. read-valid part site n (sym e ∙ q);
+      bounds = λ site n q. read-length part site n (sym e ∙ q);
+    }
+
+-- the site writer: its answer, document 01's number for it, and the buffer afterwards, byte for byte
+pub record WritesSite (site : Site) (before afterwards : List ℕ) (answer : WriteAnswer) : Type 0 where
+  pub answer-is : answer ≡ writeAnswer site (length before)
+  pub number-is : writeNumber answer ≡ writeRefusal site (length before)
+  pub buffer-is : afterwards ≡ writeInto site before
+
+number-wrote : (number n : ℕ) → writeNumber (wroteAnswer number n) ≡ number
+number-wrote number n = by (eqb number 0) refl
+  where
+    by : (b : Bool) → eqb number 0 ≡ b → writeNumber (cond b (Written n) (Unwritten number)) ≡ number
+    by true e = sym (eqb-true number 0 e)
+    by false e = refl
+
+pub number-written : (site : Site) (room : ℕ) → writeNumber (writeAnswer site room) ≡ writeRefusal site room
+unfolding writeAnswer
+number-written site room = number-wrote (writeRefusal site room) (length (recordOf site))
+
+pub writes-site : (site : Site) (before afterwards : List ℕ) (answer : WriteAnswer)
+    → answer ≡ writeAnswer site (length before) → afterwards ≡ writeInto site before
+    → WritesSite site before afterwards answer
+writes-site site before afterwards answer e b =
+    record { answer-is = e; number-is = ap writeNumber e ∙ number-written site (length before); buffer-is = b }

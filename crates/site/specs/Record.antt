@@ -1,0 +1,152 @@
+-- Reading: what the site reader answers for the bytes of a part, which starts at the record's kind byte.
+use Prim.Native.Nat.{ℕ, _+_, _*_, _/_, _%_}
+use mathlib.Core.Bool.{Bool, false, cond, _&&_, _||_, not}
+use mathlib.Core.List.{List, [], _∷_}
+use lib.ListN.{length, getD, drop}
+use lib.Dec.{ltb, eqb}
+use Rattle.site.specs.declared.rules.Rule.{Rule}
+use Rattle.site.specs.declared.rules.Entry.{Entry}
+use Rattle.site.specs.declared.values.Slot.{Slot}
+use Rattle.site.specs.declared.values.Slot.the-variants.{Absent, Number}
+use Rattle.site.specs.declared.values.Site.{Site}
+use Rattle.site.specs.declared.values.SiteAnswer.{SiteAnswer}
+use Rattle.site.specs.Rules.{entriesOf, lastKind, allows, absentOf, needed, lacking, bits, ruleOf, onCurve, settle, holds}
+use Rattle.site.specs.Answers.{readAnswer}
+
+-- "Two-byte numbers are unsigned, high byte first": the one that a list starts with
+abbrev pub word : List ℕ → ℕ
+word s = getD s 0 0 * 256 + getD s 1 0
+
+-- "a two-byte bit map (bit 0 the lowest)": the bit of the next field, and what is left of the map after it
+abbrev pub bitOf : Rule → ℕ → ℕ
+bitOf rule map = map % (1 + bits rule)
+
+abbrev pub restOf : Rule → ℕ → ℕ
+restOf rule map = map / (1 + bits rule)
+
+abbrev pub stands : Rule → ℕ → Bool
+stands rule map = eqb (bitOf rule map) 1
+
+-- some field passes a test as the bits are taken one by one, or what is left of the map passes the last
+unfoldable pub anyField : {A : Type 0} → (A → Rule) → (A → ℕ → Bool) → (ℕ → Bool) → List A → ℕ → Bool
+anyField rule test last [] map = last map
+anyField rule test last (x ∷ xs) map = test x map || anyField rule test last xs (restOf (rule x) map)
+
+-- 6, "bit the kind lacks": it stands, or a bit past the last field does
+abbrev pub strays : Rule → ℕ → Bool
+strays rule map = lacking rule && stands rule map
+
+abbrev pub lacks : List Rule → ℕ → Bool
+lacks rules map = anyField (λ (rule : Rule). rule) strays (λ (left : ℕ). ltb 0 left) rules map
+
+-- 7, "needed bit absent"
+abbrev pub wants : Rule → ℕ → Bool
+wants rule map = needed rule && not (stands rule map)
+
+abbrev pub misses : List Rule → ℕ → Bool
+misses rules map = anyField (λ (rule : Rule). rule) wants (λ (left : ℕ). false) rules map
+
+-- a record has a curve where a bit of the curve stands. The rules are then those of a curve, by which both its needed bits
+-- must stand: 7, "curve bits unmatched"
+abbrev pub bends : Entry → ℕ → Bool
+bends entry map = onCurve entry && stands (ruleOf entry) map
+
+abbrev pub curved : List Entry → ℕ → Bool
+curved entries map = anyField ruleOf bends (λ (left : ℕ). false) entries map
+
+abbrev pub rulesRead : ℕ → ℕ → List Rule
+rulesRead kind map = settle (curved (entriesOf kind) map) (entriesOf kind)
+
+-- "then two bytes for each bit that stands": the two-byte numbers of a field, and of a record
+abbrev pub fieldWords : Rule → ℕ → ℕ
+fieldWords rule map = bitOf rule map
+
+unfoldable pub words : List Rule → ℕ → ℕ
+words [] map = 0
+words (rule ∷ rules) map = fieldWords rule map + words rules (restOf rule map)
+
+-- a field that stands: 8, "field outside its range", then 9, "default spelled out"; otherwise 0
+abbrev pub valueNumber : Rule → ℕ → ℕ
+valueNumber rule value = cond (allows rule value) (cond (holds (absentOf rule) value) 9 0) 8
+
+-- the next field, whose bytes a list starts with: its refusal or 0, its value, and what follows it
+abbrev pub fieldNumber : Rule → ℕ → List ℕ → ℕ
+fieldNumber rule map s = cond (stands rule map) (valueNumber rule (word s)) 0
+
+abbrev pub fieldValue : Rule → ℕ → List ℕ → Slot
+fieldValue rule map s = cond (stands rule map) (Number (word s)) (absentOf rule)
+
+abbrev pub after : Rule → ℕ → List ℕ → List ℕ
+after rule map s = drop (2 * fieldWords rule map) s
+
+-- "then field by field 8, 9": the first refusal, or 0
+unfoldable pub fieldsNumber : List Rule → ℕ → List ℕ → ℕ
+fieldsNumber [] map s = 0
+fieldsNumber (rule ∷ rules) map s =
+    cond (eqb (fieldNumber rule map s) 0) (fieldsNumber rules (restOf rule map) (after rule map s)) (fieldNumber rule map s)
+
+unfoldable pub fieldsValues : List Rule → ℕ → List ℕ → List Slot
+fieldsValues [] map s = []
+fieldsValues (rule ∷ rules) map s = fieldValue rule map s ∷ fieldsValues rules (restOf rule map) (after rule map s)
+
+-- a site of its kind and its slots
+abbrev pub siteOf : ℕ → List Slot → Site
+siteOf kind slots =
+    record {
+      kind = kind;
+      traffic = getD slots 0 Absent;
+      length = getD slots 1 Absent;
+      «minor_traffic» = getD slots 2 Absent;
+      observed = getD slots 3 Absent;
+      «lane_width» = getD slots 4 Absent;
+      «shoulder_width» = getD slots 5 Absent;
+      «shoulder_type» = getD slots 6 Absent;
+      «curve_length» = getD slots 7 Absent;
+      radius = getD slots 8 Absent;
+      «spiral_ends» = getD slots 9 Absent;
+      deficiency = getD slots 10 Absent;
+      grade = getD slots 11 Absent;
+      driveways = getD slots 12 Absent;
+      «two_way_lane» = getD slots 13 Absent;
+      passing = getD slots 14 Absent;
+      «hazard_rating» = getD slots 15 Absent;
+      skew = getD slots 16 Absent;
+      «left_lanes» = getD slots 17 Absent;
+      «right_lanes» = getD slots 18 Absent;
+      «limited_sight» = getD slots 19 Absent;
+    }
+
+-- the parts of a record
+abbrev pub kindIn : List ℕ → ℕ
+kindIn s = getD s 0 0
+
+abbrev pub mapIn : List ℕ → ℕ
+mapIn s = word (drop 1 s)
+
+abbrev pub rulesIn : List ℕ → List Rule
+rulesIn s = rulesRead (kindIn s) (mapIn s)
+
+abbrev pub lengthIn : List ℕ → ℕ
+lengthIn s = 3 + 2 * words (rulesIn s) (mapIn s)
+
+abbrev pub siteIn : List ℕ → Site
+siteIn s = siteOf (kindIn s) (fieldsValues (rulesIn s) (mapIn s) (drop 3 s))
+
+-- "6, 7, all fields present (1), then field by field 8, 9": the first refusal after the kind, or 0; s follows the map
+unfoldable pub recordNumber : List Rule → ℕ → List ℕ → ℕ
+recordNumber rules map s =
+    cond (lacks rules map) 6
+    (cond (misses rules map) 7
+    (cond (ltb (length s) (2 * words rules map)) 1
+    (fieldsNumber rules map s)))
+
+-- "kind and map present (1), 5, 6, 7, all fields present (1), then field by field 8, 9"
+unfoldable pub refusalOf : List ℕ → ℕ
+refusalOf s =
+    cond (ltb (length s) 3) 1
+    (cond (ltb lastKind (kindIn s)) 5
+    (recordNumber (rulesIn s) (mapIn s) (drop 3 s)))
+
+-- what the site reader answers for a part
+unfoldable pub readSite : List ℕ → SiteAnswer
+readSite s = readAnswer (refusalOf s) (siteIn s) (lengthIn s)

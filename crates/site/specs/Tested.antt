@@ -1,0 +1,174 @@
+-- The table of rules passes one test, which every law below rests on: a new field or kind touches the table and this.
+use mathlib.Core.Path.{_≡_, refl, sym, _∙_}
+use mathlib.Core.Bool.{Bool, true, false, _&&_, _||_, not, true≢false}
+use mathlib.Core.List.{List, [], _∷_}
+use Prim.Native.Nat.{ℕ, zero, suc, _+_, _≤_}
+use native.Mathlib.Omega.{arith}
+use lib.ListN.{length, length-map}
+use lib.Dec.{leb, eqb}
+use borrow.Author.Tests.{eqb-true, leb-true}
+use Rattle.site.specs.declared.rules.Rule.{Rule}
+use Rattle.site.specs.declared.rules.Rule.the-variants.{Foreign, Lacking, Needed, Optional, Default}
+use Rattle.site.specs.declared.rules.Entry.{Entry}
+use Rattle.site.specs.declared.rules.Entry.the-variants.{Always, OnCurve}
+use Rattle.site.specs.declared.values.Slot.the-variants.{Absent}
+use Rattle.site.specs.Rules.{entriesOf, lastKind, slotCount, allows, absentOf, needed, lacking, bits, ruleOf, onCurve, settled, settle}
+use Rattle.site.specs.Writing.{fits}
+use Rattle.site.specs.Truth.{and-left, and-right}
+
+-- what an absent field is read as is within its rule, unless the field is needed: a default lies in its range
+abbrev pub right : Rule → Bool
+right rule = needed rule || fits rule (absentOf rule)
+
+-- and a field of the curve has a bit
+abbrev pub entryRight : Entry → Bool
+entryRight entry = right (ruleOf entry) && (not (onCurve entry) || eqb (bits (ruleOf entry)) 1)
+
+unfoldable pub entriesRight : List Entry → Bool
+entriesRight [] = true
+entriesRight (entry ∷ entries) = entryRight entry && entriesRight entries
+
+unfoldable pub rulesRight : List Rule → Bool
+rulesRight [] = true
+rulesRight (rule ∷ rules) = right rule && rulesRight rules
+
+-- the bits of a kind
+unfoldable pub bitCount : List Rule → ℕ
+bitCount [] = 0
+bitCount (rule ∷ rules) = bits rule + bitCount rules
+
+unfoldable pub hasCurve : List Entry → Bool
+hasCurve [] = false
+hasCurve (entry ∷ entries) = onCurve entry || hasCurve entries
+
+unfoldable pub needsCurve : List Entry → Bool
+needsCurve [] = false
+needsCurve (entry ∷ entries) = (onCurve entry && needed (ruleOf entry)) || needsCurve entries
+
+-- no rule takes 65,535
+unfoldable pub topFree : List Rule → Bool
+topFree [] = true
+topFree (rule ∷ rules) = not (allows rule 65535) && topFree rules
+
+-- a rule for each slot, at most 15 bits, and where a kind has a curve, a field that every curve needs
+abbrev pub tested : List Entry → Bool
+tested entries =
+    eqb (length entries) slotCount
+    && (leb (bitCount (settle true entries)) 15
+    && (entriesRight entries && ((not (hasCurve entries) || needsCurve entries) && topFree (settle true entries))))
+
+pub table-tested : (kind : ℕ) → kind ≤ lastKind → tested (entriesOf kind) ≡ true
+unfolding entriesOf entriesRight bitCount hasCurve needsCurve topFree
+table-tested zero h = refl
+table-tested (suc zero) h = refl
+table-tested (suc (suc zero)) h = refl
+table-tested (suc (suc (suc zero))) h = refl
+table-tested (suc (suc (suc (suc kind)))) h = let z : ⊥ = omega arith in absurd z
+
+not-or : (a b : Bool) → (not a || b) ≡ true → a ≡ true → b ≡ true
+not-or true b e p = e
+not-or false b e p = absurd (true≢false (sym p))
+
+-- the bits of a field are the same on a curve and on a straight road
+pub settled-bits : (curved : Bool) (entry : Entry) → entryRight entry ≡ true
+    → bits (settled curved entry) ≡ bits (ruleOf entry)
+settled-bits curved (Always rule) e = refl
+settled-bits true (OnCurve rule) e = refl
+settled-bits false (OnCurve rule) e = sym (eqb-true (bits rule) 1 (and-right (right rule) (eqb (bits rule) 1) e))
+
+settled-right : (curved : Bool) (entry : Entry) → entryRight entry ≡ true → right (settled curved entry) ≡ true
+settled-right curved (Always rule) e = and-left (right rule) _ e
+settled-right true (OnCurve rule) e = and-left (right rule) _ e
+settled-right false (OnCurve rule) e = refl
+
+settle-right : (curved : Bool) (entries : List Entry) → entriesRight entries ≡ true
+    → rulesRight (settle curved entries) ≡ true
+unfolding entriesRight rulesRight
+settle-right curved [] e = refl
+settle-right curved (entry ∷ entries) e =
+    rw (
+      settled-right curved entry (and-left (entryRight entry) (entriesRight entries) e),
+      settle-right curved entries (and-right (entryRight entry) (entriesRight entries) e),
+    )
+
+settle-bits : (curved : Bool) (entries : List Entry) → entriesRight entries ≡ true
+    → bitCount (settle curved entries) ≡ bitCount (settle true entries)
+unfolding entriesRight bitCount
+settle-bits curved [] e = refl
+settle-bits curved (entry ∷ entries) e =
+    let r : entryRight entry ≡ true = and-left (entryRight entry) (entriesRight entries) e in
+    let p = settled-bits curved entry r in
+    let q = settled-bits true entry r in
+    let t = settle-bits curved entries (and-right (entryRight entry) (entriesRight entries) e) in
+    omega arith
+
+settle-top : (curved : Bool) (entries : List Entry) → topFree (settle true entries) ≡ true
+    → topFree (settle curved entries) ≡ true
+unfolding topFree
+settle-top curved [] e = refl
+settle-top curved (Always rule ∷ entries) e =
+    rw (
+      and-left (not (allows rule 65535)) (topFree (settle true entries)) e,
+      settle-top curved entries (and-right (not (allows rule 65535)) (topFree (settle true entries)) e),
+    )
+settle-top true (OnCurve rule ∷ entries) e = e
+settle-top false (OnCurve rule ∷ entries) e =
+    settle-top false entries (and-right (not (allows rule 65535)) (topFree (settle true entries)) e)
+
+-- what the test says of a kind, on a curve or not
+pub record Sane (entries : List Entry) (curved : Bool) : Type 0 where
+  pub count : length (settle curved entries) ≡ slotCount
+  pub few : bitCount (settle curved entries) ≤ 15
+  pub rights : rulesRight (settle curved entries) ≡ true
+  pub entries-right : entriesRight entries ≡ true
+  pub needs-curve : hasCurve entries ≡ true → needsCurve entries ≡ true
+  pub top-free : topFree (settle curved entries) ≡ true
+
+pub sane : (kind : ℕ) (curved : Bool) → kind ≤ lastKind → Sane (entriesOf kind) curved
+sane kind curved h =
+    let entries = entriesOf kind in
+    let t = table-tested kind h in
+    let c = and-left (eqb (length entries) slotCount) _ t in
+    let t1 = and-right (eqb (length entries) slotCount) _ t in
+    let b = and-left (leb (bitCount (settle true entries)) 15) _ t1 in
+    let t2 = and-right (leb (bitCount (settle true entries)) 15) _ t1 in
+    let r = and-left (entriesRight entries) _ t2 in
+    let t3 = and-right (entriesRight entries) _ t2 in
+    let n = and-left (not (hasCurve entries) || needsCurve entries) _ t3 in
+    let top = and-right (not (hasCurve entries) || needsCurve entries) _ t3 in
+    let few : bitCount (settle true entries) ≤ 15 = leb-true (bitCount (settle true entries)) 15 b in
+    record {
+      count = length-map entries (settled curved) ∙ eqb-true (length entries) slotCount c;
+      few = rw (settle-bits curved entries r) few;
+      rights = settle-right curved entries r;
+      entries-right = r;
+      needs-curve = not-or (hasCurve entries) (needsCurve entries) n;
+      top-free = settle-top curved entries top;
+    }
+
+pub entries-count : (kind : ℕ) → kind ≤ lastKind → length (entriesOf kind) ≡ slotCount
+entries-count kind h = sym (length-map (entriesOf kind) (settled true)) ∙ sane kind true h .count
+
+-- a rule's own laws, each by the cases of a rule
+pub bits-most : (rule : Rule) → bits rule ≤ 1
+bits-most Foreign = omega arith
+bits-most Lacking = omega arith
+bits-most (Needed low high) = omega arith
+bits-most (Optional low high) = omega arith
+bits-most (Default low high usual) = omega arith
+
+-- a rule that takes a number has a bit, and lacks nothing
+pub allows-bit : (rule : Rule) (value : ℕ) → allows rule value ≡ true → (bits rule ≡ 1) × (lacking rule ≡ false)
+allows-bit Foreign value e = absurd (true≢false (sym e))
+allows-bit Lacking value e = absurd (true≢false (sym e))
+allows-bit (Needed low high) value e = (refl, refl)
+allows-bit (Optional low high) value e = (refl, refl)
+allows-bit (Default low high usual) value e = (refl, refl)
+
+-- a needed field has a bit and no default
+pub needed-bit : (rule : Rule) → needed rule ≡ true → (bits rule ≡ 1) × (absentOf rule ≡ Absent)
+needed-bit Foreign e = absurd (true≢false (sym e))
+needed-bit Lacking e = absurd (true≢false (sym e))
+needed-bit (Needed low high) e = (refl, refl)
+needed-bit (Optional low high) e = absurd (true≢false (sym e))
+needed-bit (Default low high usual) e = absurd (true≢false (sym e))

@@ -1,0 +1,84 @@
+-- What other crates cite of the site reader and the site writer. The round trips themselves are `write-read` of WriteRead and
+-- `read-write` of ReadWrite; `past-nothing`, `same-for-any` and `one-exactly` of Bears say which bytes bear on an answer.
+use mathlib.Core.Path.{_≡_, refl}
+use mathlib.Core.Bool.{Bool, true, false, cond}
+use mathlib.Core.List.{List, [], _∷_, _++_}
+use mathlib.Core.Logic.{_↔_}
+use Prim.Native.Nat.{ℕ, _+_, _<_, _≤_}
+use native.Mathlib.Omega.{arith}
+use lib.ListN.{length, length-drop}
+use lib.Dec.{leb}
+use borrow.Author.Tests.{leb-false, le-leb, lt-leb}
+use Rattle.site.specs.declared.rules.Rule.{Rule}
+use Rattle.site.specs.declared.values.Site.{Site}
+use Rattle.site.specs.declared.values.SiteAnswer.the-variants.{Read}
+use Rattle.site.specs.Rules.{entriesOf, bits}
+use Rattle.site.specs.Record.{curved, restOf, words, kindIn, mapIn, rulesIn, readSite}
+use Rattle.site.specs.Writing.{recordOf, sound, Valid, writeRefusal}
+use Rattle.site.specs.Digits.{digit-most}
+use Rattle.site.specs.Tested.{bitCount, sane}
+use Rattle.site.specs.Accepted.{reading}
+use Rattle.site.specs.WriteRead.{write-read}
+use Rattle.site.specs.ReadWrite.{read-valid}
+
+-- a record has no more fields than its rules have bits
+words-most : (rules : List Rule) (map : ℕ) → words rules map ≤ bitCount rules
+unfolding words bitCount
+words-most [] map = omega arith
+words-most (rule ∷ rules) map = omega (arith, digit-most (bits rule) map, words-most rules (restOf rule map))
+
+-- kind, map and 15 fields
+abbrev pub longest : ℕ
+longest = 33
+
+-- the length of an accepted record
+pub record RecordLength (s : List ℕ) (n : ℕ) : Type 0 where
+  pub at-least : 3 ≤ n
+  pub at-most : n ≤ longest
+  pub within : n ≤ length s
+
+pub read-length : (s : List ℕ) (site : Site) (n : ℕ) → readSite s ≡ Read site n → RecordLength s n
+read-length s site n e =
+    let r = reading s site n e in
+    let a = r .accepts in
+    let w = words-most (rulesIn s) (mapIn s) in
+    let b = sane (kindIn s) (curved (entriesOf (kindIn s)) (mapIn s)) (a .known) .few in
+    record {
+      at-least = omega (arith, r .length-is);
+      at-most = omega (arith, r .length-is);
+      within = omega (arith, r .length-is, a .full, a .long, length-drop 3 s);
+    }
+
+-- the writer refuses with 8 the sites that are not valid, and these are the sites that no record reads as
+module _ (site : Site) where
+  no-record : ((s : List ℕ) (n : ℕ) → readSite s ≡ Read site n → ⊥) → sound site ≡ false
+  no-record never = by (sound site) refl
+    where
+      by : (b : Bool) → sound site ≡ b → b ≡ false
+      by true e = absurd (never (recordOf site ++ []) (length (recordOf site)) (write-read site [] (record { is-sound = e })))
+      by false e = refl
+
+  pub eight-exactly : (room : ℕ) → (writeRefusal site room ≡ 8) ↔ ((s : List ℕ) (n : ℕ) → readSite s ≡ Read site n → ⊥)
+  unfolding writeRefusal
+  eight-exactly room = (
+    λ e s n r. let z : _≡_ {A = ℕ} (cond (leb (length (recordOf site)) room) 0 10) 8 = rw (read-valid s site n r .is-sound) at e in never (leb (length (recordOf site)) room) z,
+    λ never. rw (no-record never),
+  )
+    where
+      never : (b : Bool) → _≡_ {A = ℕ} (cond b 0 10) 8 → ⊥
+      never true e = omega arith
+      never false e = omega arith
+
+  -- 10 exactly when the buffer is shorter than the record: one that just suffices is taken
+  pub ten-exactly : (room : ℕ) → Valid site → (writeRefusal site room ≡ 10) ↔ (room < length (recordOf site))
+  unfolding writeRefusal
+  ten-exactly room v =
+      (λ e. by (leb (length (recordOf site)) room) refl (rw (v .is-sound) at e), λ h. rw (v .is-sound, lt-leb (length (recordOf site)) room h))
+    where
+      by : (b : Bool) → leb (length (recordOf site)) room ≡ b → _≡_ {A = ℕ} (cond b 0 10) 10 → room < length (recordOf site)
+      by true q e = absurd (omega arith)
+      by false q e = leb-false (length (recordOf site)) room q
+
+  pub written-where-room : (room : ℕ) → Valid site → length (recordOf site) ≤ room → writeRefusal site room ≡ 0
+  unfolding writeRefusal
+  written-where-room room v h = rw (v .is-sound, le-leb (length (recordOf site)) room h)

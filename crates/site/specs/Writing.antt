@@ -1,0 +1,111 @@
+-- Writing: what the site writer answers for a site, and what it leaves in the buffer.
+use Prim.Native.Nat.{ℕ, _+_, _*_, _/_, _%_}
+use mathlib.Core.Path.{_≡_}
+use mathlib.Core.Bool.{Bool, true, false, cond, _&&_, _||_, not}
+use mathlib.Core.List.{List, [], _∷_, _++_}
+use lib.ListN.{length}
+use lib.Dec.{leb, eqb}
+use Rattle.site.specs.declared.rules.Rule.{Rule}
+use Rattle.site.specs.declared.rules.Entry.{Entry}
+use Rattle.site.specs.declared.values.Slot.{Slot}
+use Rattle.site.specs.declared.values.Slot.the-variants.{Absent, Number}
+use Rattle.site.specs.declared.values.Site.{Site}
+use Rattle.site.specs.declared.values.WriteAnswer.{WriteAnswer}
+use Rattle.site.specs.Rules.{entriesOf, lastKind, allows, absentOf, needed, bits, onCurve, settle, absent, holds}
+use Rattle.site.specs.Answers.{wroteAnswer}
+use Rattle.site.specs.Lent.{laid}
+
+-- the slots of a site, in the order of the rules
+abbrev pub slotsOf : Site → List Slot
+slotsOf site =
+    site .traffic
+    ∷ site .length
+    ∷ site .«minor_traffic»
+    ∷ site .observed
+    ∷ site .«lane_width»
+    ∷ site .«shoulder_width»
+    ∷ site .«shoulder_type»
+    ∷ site .«curve_length»
+    ∷ site .radius
+    ∷ site .«spiral_ends»
+    ∷ site .deficiency
+    ∷ site .grade
+    ∷ site .driveways
+    ∷ site .«two_way_lane»
+    ∷ site .passing
+    ∷ site .«hazard_rating»
+    ∷ site .skew
+    ∷ site .«left_lanes»
+    ∷ site .«right_lanes»
+    ∷ site .«limited_sight»
+    ∷ []
+
+-- a site has a curve where a slot of the curve holds a number: with half a curve, a needed slot of it is absent
+unfoldable pub curveHeld : List Entry → List Slot → Bool
+curveHeld [] slots = false
+curveHeld (entry ∷ entries) [] = false
+curveHeld (entry ∷ entries) (slot ∷ slots) = (onCurve entry && not (absent slot)) || curveHeld entries slots
+
+abbrev pub rulesHeld : ℕ → List Slot → List Rule
+rulesHeld kind slots = settle (curveHeld (entriesOf kind) slots) (entriesOf kind)
+
+-- a slot is within its rule: a number that the rule takes, or absent where the reader can leave it so
+abbrev pub fits : Rule → Slot → Bool
+fits rule Absent = not (needed rule) && absent (absentOf rule)
+fits rule (Number value) = allows rule value
+
+unfoldable pub allFit : List Rule → List Slot → Bool
+allFit [] slots = true
+allFit (rule ∷ rules) [] = false
+allFit (rule ∷ rules) (slot ∷ slots) = fits rule slot && allFit rules slots
+
+-- "drops defaults": the bit of a slot, 0 where it is absent or its rule's default
+abbrev pub slotBit : Rule → Slot → ℕ
+slotBit rule Absent = 0
+slotBit rule (Number value) = cond (holds (absentOf rule) value) 0 (bits rule)
+
+unfoldable pub mapOf : List Rule → List Slot → ℕ
+mapOf [] slots = 0
+mapOf (rule ∷ rules) [] = 0
+mapOf (rule ∷ rules) (slot ∷ slots) = slotBit rule slot + (1 + bits rule) * mapOf rules slots
+
+-- "two bytes for each bit that stands, in rising order"; "high byte first"
+abbrev pub slotBytes : Slot → List ℕ
+slotBytes Absent = []
+slotBytes (Number value) = value / 256 ∷ value % 256 ∷ []
+
+abbrev pub fieldBytes : Rule → Slot → List ℕ
+fieldBytes rule slot = cond (eqb (slotBit rule slot) 1) (slotBytes slot) []
+
+unfoldable pub bytesOf : List Rule → List Slot → List ℕ
+bytesOf [] slots = []
+bytesOf (rule ∷ rules) [] = []
+bytesOf (rule ∷ rules) (slot ∷ slots) = fieldBytes rule slot ++ bytesOf rules slots
+
+-- "A record is a kind byte, a two-byte bit map, then two bytes for each bit that stands"
+unfoldable pub recordBy : List Rule → ℕ → List Slot → List ℕ
+recordBy rules kind slots = kind ∷ mapOf rules slots / 256 ∷ mapOf rules slots % 256 ∷ bytesOf rules slots
+
+abbrev pub recordOf : Site → List ℕ
+recordOf site = recordBy (rulesHeld (site .kind) (slotsOf site)) (site .kind) (slotsOf site)
+
+-- nothing of a site is outside its range: "a kind above 3, a value that the kind lacks, half a curve, or a spiral or D on a
+-- straight road counts as outside its range"
+unfoldable pub sound : Site → Bool
+sound site = leb (site .kind) lastKind && allFit (rulesHeld (site .kind) (slotsOf site)) (slotsOf site)
+
+-- a site that the writer takes, and a record can be read as
+pub record Valid (site : Site) : Type 0 where
+  pub is-sound : sound site ≡ true
+
+-- "It refuses only with 8, then 10": the writer's number where the buffer has so much room
+unfoldable pub writeRefusal : Site → ℕ → ℕ
+writeRefusal site room = cond (sound site) (cond (leb (length (recordOf site)) room) 0 10) 8
+
+-- what the site writer answers
+unfoldable pub writeAnswer : Site → ℕ → WriteAnswer
+writeAnswer site room = wroteAnswer (writeRefusal site room) (length (recordOf site))
+
+-- the buffer afterwards
+unfoldable pub writeInto : Site → List ℕ → List ℕ
+writeInto site before = cond (sound site) (laid (recordOf site) before) before

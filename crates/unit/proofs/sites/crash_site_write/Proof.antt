@@ -1,0 +1,51 @@
+-- `unit::sites::crash_site_write` meets its contract. The writer's answer, told by its number and its length.
+-- Assumes nothing.
+use Rattle.unit.proofs.NumberSteps.{no-numbers, unwritten-numbers, written-numbers}
+use borrow.Author.Needs.{needs}
+use Rattle.unit.proofs.sites.crash_site_write.Statement.{statement}
+use Rattle.unit.proofs.sites.crash_site_write.Tie as tie
+
+returns : tie.Need-returns
+returns c = no-numbers _ _ _ (c .if1 .taken)
+
+site-from-requires : tie.Need-site-from-requires
+site-from-requires c κs = search needs
+
+write-site-requires : tie.Need-write-site-requires
+write-site-requires c κs = search needs
+
+enum-known-answer : tie.Need-enum-known-answer
+enum-known-answer c = search needs
+
+cast-result : tie.Need-cast-result
+cast-result c = search needs
+
+enum-known-answer-2 : tie.Need-enum-known-answer-2
+enum-known-answer-2 c = search needs
+
+same-length : tie.Need-same-length
+same-length c = search needs
+
+returns-2 : tie.Need-returns-2
+returns-2 c = unwritten-numbers _ _ _ _ (c .before .before .before .before .before .before .before .before .if1 .left) _ (c .before .before .before .before .before .before .before .site-from .ensures) _ (c .before .before .before .before .before .write-site .ensures) _ (c .before .answer .given .1)
+
+same-length-2 : tie.Need-same-length-2
+same-length-2 c = search needs
+
+returns-3 : tie.Need-returns-3
+returns-3 c = written-numbers _ _ _ _ (c .before .before .before .before .before .before .before .before .if1 .left) _ (c .before .before .before .before .before .before .before .site-from .ensures) _ (c .before .before .before .before .before .write-site .ensures) _ (c .before .answer2 .given .1)
+
+pub crash-site-write-spec : {M : Type 1} → statement M
+crash-site-write-spec =
+    tie.close
+    (tie.spec
+    returns
+    site-from-requires
+    write-site-requires
+    enum-known-answer
+    cast-result
+    enum-known-answer-2
+    same-length
+    returns-2
+    same-length-2
+    returns-3)

@@ -1,0 +1,18 @@
+-- `unit::sites::kind_from` meets its contract. A byte, or 255.
+-- Assumes nothing.
+use borrow.Author.Tests.{lt-ltb, le-ltb}
+use borrow.Author.Needs.{needs}
+use Rattle.unit.proofs.sites.kind_from.Statement.{statement}
+use Rattle.unit.proofs.sites.kind_from.Tie as tie
+
+cast-result : tie.Need-cast-result
+cast-result c = search needs
+
+returns : tie.Need-returns
+returns c = simp (lt-ltb _ _ (c .if1 .taken))
+
+returns-2 : tie.Need-returns-2
+returns-2 c = simp (le-ltb _ _ (c .if1 .left))
+
+pub kind-from-spec : {M : Type 1} → statement M
+kind-from-spec = tie.close (tie.spec cast-result returns returns-2)

@@ -1,0 +1,43 @@
+-- `unit::sites::put_site` meets its contract. Kind, codes and length are the values of the answer.
+-- Assumes nothing.
+use denote.Ref.{now}
+use native.Mathlib.Omega.{arith}
+use mathlib.Core.Path.{_∙_}
+use lib.ListN.{length-set}
+use Rattle.unit.proofs.NumberSteps.{all-values}
+use borrow.Author.Needs.{needs}
+use Rattle.unit.proofs.sites.put_site.Statement.{statement}
+use Rattle.unit.proofs.sites.put_site.Tie as tie
+
+slots-of-requires : tie.Need-slots-of-requires
+slots-of-requires c κs = search needs
+
+cast-values : tie.Need-cast-values
+cast-values c = search needs
+
+slice-write-values : tie.Need-slice-write-values
+slice-write-values c = search needs
+
+put-slots-requires : tie.Need-put-slots-requires
+put-slots-requires c κs = (search needs, simp length-set (omega arith))
+
+slice-write-values-2 : tie.Need-slice-write-values-2
+slice-write-values-2 c = search needs
+
+same-length : tie.Need-same-length
+same-length c = simp length-set (c .before .before .put-slots .kept .1 .0 ∙ simp length-set)
+
+returns : tie.Need-returns
+returns c = all-values (c .before .before .before .before .before .before .args .site) _ (now (c .before .before .before .before .before .before .args .values)) _ _ (c .before .before .before .before .slots-of .ensures) (c .before .before .put-slots .ensures)
+
+pub put-site-spec : {M : Type 1} → statement M
+put-site-spec =
+    tie.close
+    (tie.spec
+    slots-of-requires
+    cast-values
+    slice-write-values
+    put-slots-requires
+    slice-write-values-2
+    same-length
+    returns)

@@ -1,0 +1,79 @@
+-- `unit::sites::put_slots` meets its contract. The loop's invariant: with the codes from i on stored, the run is as it is to be.
+-- Assumes nothing.
+use borrow.Author.Needs.{needs}
+use native.Mathlib.Omega.{arith}
+use mathlib.Core.Path.{_≡_}
+use mathlib.Core.List.{map}
+use Prim.Native.Nat.{_+_, _≤_, _-_}
+use lib.ListN.{length, drop, length-set}
+use lib.Seq.{sets}
+use Rattle.site.specs.Rules.{slotCount}
+use Rattle.unit.specs.SiteNumbers.{code}
+use Rattle.unit.proofs.NumberSteps.{store-more, store-end}
+use Rattle.unit.proofs.sites.put_slots.Statement.{statement}
+use Rattle.unit.proofs.sites.put_slots.Tie as tie
+
+abbrev Inv-loop : tie.InvT-loop
+Inv-loop values₀ slots i₀ values i = (i ≤ slotCount) × (length values ≡ length values₀) × (sets values (1 + i) (map code (drop i slots)) ≡ sets values₀ 1 (map code slots))
+
+abbrev μ-loop : tie.MeasureT-loop
+μ-loop values₀ slots i₀ values i = slotCount - i
+
+loop-holds : tie.Need-loop-holds Inv-loop μ-loop
+loop-holds c = search needs
+
+mul-code-of : tie.Need-mul-code-of Inv-loop μ-loop
+mul-code-of c = omega arith
+
+array-copy-out-code-of : tie.Need-array-copy-out-code-of Inv-loop μ-loop
+array-copy-out-code-of c = omega arith
+
+code-of-requires : tie.Need-code-of-requires Inv-loop μ-loop
+code-of-requires c κs = search needs
+
+add-values : tie.Need-add-values Inv-loop μ-loop
+add-values c = omega arith
+
+mul-values : tie.Need-mul-values Inv-loop μ-loop
+mul-values c = omega arith
+
+slice-write-values : tie.Need-slice-write-values Inv-loop μ-loop
+slice-write-values c = omega arith
+
+add-i : tie.Need-add-i Inv-loop μ-loop
+add-i c = omega arith
+
+loop-less : tie.Need-loop-less Inv-loop μ-loop
+loop-less c = omega arith
+
+loop-again : tie.Need-loop-again Inv-loop μ-loop
+loop-again c = (
+  omega arith,
+  simp length-set (c .before .before .before .loop .inv .1),
+  store-more code _ _ _ _ (c .before .before .before .before .before .pre .0) (c .before .before .before .loop .inv .2) _ _ (c .before .before .loop-test .taken) (c .code-of .ensures),
+)
+
+same-length : tie.Need-same-length Inv-loop μ-loop
+same-length c = search needs
+
+returns : tie.Need-returns Inv-loop μ-loop
+returns c = store-end code _ _ _ _ (c .before .before .before .pre .0) (c .before .loop .inv .2) (c .loop-test .left)
+
+pub put-slots-spec : {M : Type 1} → statement M
+put-slots-spec =
+    tie.close
+    (tie.spec
+    Inv-loop
+    μ-loop
+    loop-holds
+    mul-code-of
+    array-copy-out-code-of
+    code-of-requires
+    add-values
+    mul-values
+    slice-write-values
+    add-i
+    loop-less
+    loop-again
+    same-length
+    returns)

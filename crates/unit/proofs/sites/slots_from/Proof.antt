@@ -1,0 +1,72 @@
+-- `unit::sites::slots_from` meets its contract. The loop's invariant: with the slots from i on filled in, the list is all the slots.
+-- Assumes nothing.
+use borrow.Author.Needs.{needs}
+use native.Mathlib.Omega.{arith}
+use mathlib.Core.Path.{_≡_, refl}
+use mathlib.Core.List.{map}
+use Prim.Native.Nat.{_≤_, _-_}
+use denote.Ref.{now}
+use lib.ListN.{length, drop, length-set}
+use lib.Seq.{sets}
+use Rattle.site.specs.Rules.{slotCount}
+use Rattle.unit.specs.SiteNumbers.{slotFrom}
+use Rattle.site.proofs.ReadSteps.{map-start, map-more, map-end}
+use Rattle.unit.proofs.sites.slots_from.Statement.{statement}
+use Rattle.unit.proofs.sites.slots_from.Tie as tie
+
+abbrev Inv-loop : tie.InvT-loop
+Inv-loop numbers slots₀ i₀ slots i = (i ≤ slotCount) × (length slots ≡ slotCount) × (sets slots i (map slotFrom (drop i numbers)) ≡ map slotFrom numbers)
+
+abbrev μ-loop : tie.MeasureT-loop
+μ-loop numbers slots₀ i₀ slots i = slotCount - i
+
+loop-holds : tie.Need-loop-holds Inv-loop μ-loop
+loop-holds c = (omega arith, refl, map-start slotFrom (now (c .before .args .numbers)) _ (c .before .pre) refl)
+
+mul-slot-from : tie.Need-mul-slot-from Inv-loop μ-loop
+mul-slot-from c = omega arith
+
+shared-slice-read-slot-from : tie.Need-shared-slice-read-slot-from Inv-loop μ-loop
+shared-slice-read-slot-from c = omega arith
+
+slot-from-requires : tie.Need-slot-from-requires Inv-loop μ-loop
+slot-from-requires c κs = search needs
+
+mul-slots : tie.Need-mul-slots Inv-loop μ-loop
+mul-slots c = omega arith
+
+array-set-from-slots : tie.Need-array-set-from-slots Inv-loop μ-loop
+array-set-from-slots c = omega arith
+
+add-i : tie.Need-add-i Inv-loop μ-loop
+add-i c = omega arith
+
+loop-less : tie.Need-loop-less Inv-loop μ-loop
+loop-less c = omega arith
+
+loop-again : tie.Need-loop-again Inv-loop μ-loop
+loop-again c = (
+  omega arith,
+  simp length-set (c .before .before .before .loop .inv .1),
+  map-more slotFrom _ _ _ _ (c .before .before .before .before .before .pre) (c .before .before .before .loop .inv .2) _ _ (c .before .before .loop-test .taken) (c .slot-from .ensures),
+)
+
+returns : tie.Need-returns Inv-loop μ-loop
+returns c = map-end slotFrom _ _ _ _ (c .before .before .before .pre) (c .before .loop .inv .2) (c .loop-test .left)
+
+pub slots-from-spec : {M : Type 1} → statement M
+slots-from-spec =
+    tie.close
+    (tie.spec
+    Inv-loop
+    μ-loop
+    loop-holds
+    mul-slot-from
+    shared-slice-read-slot-from
+    slot-from-requires
+    mul-slots
+    array-set-from-slots
+    add-i
+    loop-less
+    loop-again
+    returns)

@@ -1,0 +1,68 @@
+-- A site as a run of numbers, for callers in other languages: the kind, then its slots in the site's order.
+use Prim.Native.Nat.{ℕ, _+_}
+use mathlib.Core.Path.{_≡_}
+use mathlib.Core.Bool.{cond}
+use mathlib.Core.List.{List, [], _∷_, _++_, map}
+use lib.ListN.{length, getD, drop}
+use lib.Dec.{leb, ltb, eqb}
+use Rattle.site.specs.declared.values.Slot.{Slot}
+use Rattle.site.specs.declared.values.Slot.the-variants.{Absent, Number}
+use Rattle.site.specs.declared.values.Site.{Site}
+use Rattle.site.specs.declared.values.SiteAnswer.{SiteAnswer}
+use Rattle.site.specs.declared.values.SiteAnswer.the-variants.{Read, Refused}
+use Rattle.site.specs.declared.values.WriteAnswer.{WriteAnswer}
+use Rattle.site.specs.declared.values.WriteAnswer.the-variants.{Unwritten}
+use Rattle.site.specs.Rules.{slotCount}
+use Rattle.site.specs.Answers.{readNumber, writeNumber, writeLength}
+use Rattle.site.specs.Lent.{laid}
+use Rattle.site.specs.Record.{siteOf, readSite}
+use Rattle.site.specs.Writing.{slotsOf, writeAnswer, writeInto}
+
+-- an absent slot is 65,536, which no two bytes hold
+abbrev pub code : Slot → ℕ
+code Absent = 65536
+code (Number value) = value
+
+-- the values of an answer: kind, twenty slots and the record's length; a refusal has none
+abbrev pub readValues : SiteAnswer → List ℕ
+readValues (Read site n) = site .kind ∷ (map code (slotsOf site) ++ (n ∷ []))
+readValues (Refused number) = []
+
+-- the number for a lent run of so many numbers: 10 where an answer's values do not fit, tried last
+abbrev pub numberWithin : SiteAnswer → ℕ → ℕ
+numberWithin answer room = cond (leb (length (readValues answer)) room) (readNumber answer) 10
+
+-- a number that is no code stands for 65,535, which no rule allows, and one that is no byte for the kind 255
+abbrev pub slotFrom : ℕ → Slot
+slotFrom number = cond (ltb number 65536) (Number number) (cond (eqb number 65536) Absent (Number 65535))
+
+abbrev pub kindFrom : ℕ → ℕ
+kindFrom number = cond (ltb number 256) number 255
+
+abbrev pub siteFrom : List ℕ → Site
+siteFrom numbers = siteOf (kindFrom (getD numbers 0 0)) (map slotFrom (drop 1 numbers))
+
+-- kind and slots: any other count is outside its range
+abbrev pub siteNumbers : ℕ
+siteNumbers = 1 + slotCount
+
+-- kind, slots and length
+abbrev pub answerNumbers : ℕ
+answerNumbers = 1 + siteNumbers
+
+unfoldable pub answerFrom : List ℕ → ℕ → WriteAnswer
+answerFrom numbers room = cond (eqb (length numbers) siteNumbers) (writeAnswer (siteFrom numbers) room) (Unwritten 8)
+
+unfoldable pub intoFrom : List ℕ → List ℕ → List ℕ
+intoFrom numbers before = cond (eqb (length numbers) siteNumbers) (writeInto (siteFrom numbers) before) before
+
+-- a site read into a lent run of numbers: the number, and the run afterwards
+pub record ReadsNumbers (part before afterwards : List ℕ) (number : ℕ) : Type 0 where
+  pub number-is : number ≡ numberWithin (readSite part) (length before)
+  pub values-are : afterwards ≡ laid (readValues (readSite part)) before
+
+-- a site written from a lent run of numbers: the number, the buffer and the record's length afterwards
+pub record WritesNumbers (numbers before afterwards : List ℕ) (length-before length-after number : ℕ) : Type 0 where
+  pub number-is : number ≡ writeNumber (answerFrom numbers (length before))
+  pub buffer-is : afterwards ≡ intoFrom numbers before
+  pub length-is : length-after ≡ writeLength (answerFrom numbers (length before)) length-before

@@ -1,0 +1,115 @@
+//! The site reader and the site writer.
+
+use reference::record::Site;
+use reference::rules::Field;
+
+extern "C" {
+    fn crash_site_read(
+        part: *const u8,
+        part_len: usize,
+        values: *mut u64,
+        values_len: usize,
+    ) -> u64;
+    fn crash_site_write(
+        values: *const u64,
+        values_len: usize,
+        buffer: *mut u8,
+        buffer_len: usize,
+        written: *mut u64,
+    ) -> u64;
+}
+
+/// The order of a site's slots after its kind.
+const SLOTS: [Field; 20] = [
+    Field::Traffic,
+    Field::Length,
+    Field::MinorTraffic,
+    Field::Observed,
+    Field::LaneWidth,
+    Field::ShoulderWidth,
+    Field::ShoulderType,
+    Field::CurveLength,
+    Field::Radius,
+    Field::SpiralEnds,
+    Field::Deficiency,
+    Field::Grade,
+    Field::Driveways,
+    Field::TwoWayLane,
+    Field::Passing,
+    Field::HazardRating,
+    Field::Skew,
+    Field::LeftTurnLanes,
+    Field::RightTurnLanes,
+    Field::LimitedQuadrants,
+];
+
+/// What an absent slot is coded as.
+const ABSENT: u64 = 65_536;
+
+/// What a call must leave where it writes nothing.
+const UNTOUCHED: u8 = 0xA5;
+
+/// A site as the engine's run of numbers: the kind, then its slots.
+pub fn numbers_of(site: &Site) -> [u64; 21] {
+    let mut numbers = [u64::from(site.kind); 21];
+    for (number, field) in numbers[1..].iter_mut().zip(SLOTS) {
+        *number = site.get(field).map_or(ABSENT, u64::from);
+    }
+    numbers
+}
+
+fn site_of(numbers: &[u64]) -> Site {
+    let mut site = Site::empty(numbers[0] as u8);
+    for (number, field) in numbers[1..].iter().zip(SLOTS) {
+        site.set(field, u16::try_from(*number).ok());
+    }
+    site
+}
+
+/// The number of the reader's call, which writes to the start of `values`.
+pub fn read_into(part: &[u8], values: &mut [u64]) -> u64 {
+    // SAFETY: each pointer and length are those of one slice.
+    unsafe { crash_site_read(part.as_ptr(), part.len(), values.as_mut_ptr(), values.len()) }
+}
+
+/// The site and the record's length, or the number of the refusal.
+pub fn read_site(part: &[u8]) -> Result<(Site, usize), u8> {
+    let mut values = [u64::MAX; 23];
+    let number = read_into(part, &mut values);
+    assert_eq!(values[22], u64::MAX, "the rest stays as it was");
+    if number == 0 {
+        return Ok((site_of(&values[..21]), values[21] as usize));
+    }
+    assert_eq!(values, [u64::MAX; 23], "a refusal writes nothing");
+    Err(number as u8)
+}
+
+/// The record of a run of numbers in a buffer of `room` bytes.
+pub fn write_numbers(numbers: &[u64], room: usize) -> Result<Vec<u8>, u8> {
+    let mut buffer = vec![UNTOUCHED; room];
+    let mut written = u64::MAX;
+    // SAFETY: each pointer and length are those of one slice, and `written`
+    // is one number.
+    let number = unsafe {
+        crash_site_write(
+            numbers.as_ptr(),
+            numbers.len(),
+            buffer.as_mut_ptr(),
+            buffer.len(),
+            &mut written,
+        )
+    };
+    let kept = if number == 0 { written as usize } else { 0 };
+    assert!(buffer[kept..].iter().all(|byte| *byte == UNTOUCHED));
+    if number == 0 {
+        buffer.truncate(kept);
+        return Ok(buffer);
+    }
+    assert_eq!(written, u64::MAX, "a refusal writes nothing");
+    Err(number as u8)
+}
+
+/// The record of a site in a buffer of `room` bytes.
+pub fn write_site(site: &Site, room: usize) -> Result<Vec<u8>, u8> {
+    write_numbers(&numbers_of(site), room)
+}
