@@ -1,4 +1,3 @@
+-- What the proofs share, here and in the reader and the writer.
 pub mod Walk
 pub mod ReadSteps
-pub mod WriteSteps
-pub mod WriteWhole

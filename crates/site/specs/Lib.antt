@@ -11,6 +11,7 @@ pub mod Tested
 pub mod Accepted
 pub mod WriteRead
 pub mod ReadWrite
+pub mod Bytes
 pub mod Bears
 pub mod Curve
 pub mod Ranges

@@ -5,7 +5,7 @@ use mathlib.Core.List.{List, [], _∷_}
 use Prim.Native.Nat.{ℕ, zero, suc, _+_, _≤_}
 use native.Mathlib.Omega.{arith}
 use lib.ListN.{length, length-map}
-use lib.Dec.{leb, eqb}
+use lib.Dec.{leb, ltb, eqb}
 use borrow.Author.Tests.{eqb-true, leb-true}
 use Rattle.site.specs.declared.rules.Rule.{Rule}
 use Rattle.site.specs.declared.rules.Rule.the-variants.{Foreign, Lacking, Needed, Optional, Default}
@@ -45,20 +45,28 @@ unfoldable pub needsCurve : List Entry → Bool
 needsCurve [] = false
 needsCurve (entry ∷ entries) = (onCurve entry && needed (ruleOf entry)) || needsCurve entries
 
--- no rule takes 65,535
-unfoldable pub topFree : List Rule → Bool
-topFree [] = true
-topFree (rule ∷ rules) = not (allows rule 65535) && topFree rules
+-- the highest number that a rule takes
+abbrev pub top : Rule → ℕ
+top Foreign = 0
+top Lacking = 0
+top (Needed low high) = high
+top (Optional low high) = high
+top (Default low high usual) = high
+
+-- two bytes hold every number that a rule takes, and no rule takes 65,535
+unfoldable pub topsLow : List Rule → Bool
+topsLow [] = true
+topsLow (rule ∷ rules) = ltb (top rule) 65535 && topsLow rules
 
 -- a rule for each slot, at most 15 bits, and where a kind has a curve, a field that every curve needs
 abbrev pub tested : List Entry → Bool
 tested entries =
     eqb (length entries) slotCount
     && (leb (bitCount (settle true entries)) 15
-    && (entriesRight entries && ((not (hasCurve entries) || needsCurve entries) && topFree (settle true entries))))
+    && (entriesRight entries && ((not (hasCurve entries) || needsCurve entries) && topsLow (settle true entries))))
 
 pub table-tested : (kind : ℕ) → kind ≤ lastKind → tested (entriesOf kind) ≡ true
-unfolding entriesOf entriesRight bitCount hasCurve needsCurve topFree
+unfolding entriesOf entriesRight bitCount hasCurve needsCurve topsLow
 table-tested zero h = refl
 table-tested (suc zero) h = refl
 table-tested (suc (suc zero)) h = refl
@@ -102,18 +110,18 @@ settle-bits curved (entry ∷ entries) e =
     let t = settle-bits curved entries (and-right (entryRight entry) (entriesRight entries) e) in
     omega arith
 
-settle-top : (curved : Bool) (entries : List Entry) → topFree (settle true entries) ≡ true
-    → topFree (settle curved entries) ≡ true
-unfolding topFree
-settle-top curved [] e = refl
-settle-top curved (Always rule ∷ entries) e =
+settle-tops : (curved : Bool) (entries : List Entry) → topsLow (settle true entries) ≡ true
+    → topsLow (settle curved entries) ≡ true
+unfolding topsLow
+settle-tops curved [] e = refl
+settle-tops curved (Always rule ∷ entries) e =
     rw (
-      and-left (not (allows rule 65535)) (topFree (settle true entries)) e,
-      settle-top curved entries (and-right (not (allows rule 65535)) (topFree (settle true entries)) e),
+      and-left (ltb (top rule) 65535) (topsLow (settle true entries)) e,
+      settle-tops curved entries (and-right (ltb (top rule) 65535) (topsLow (settle true entries)) e),
     )
-settle-top true (OnCurve rule ∷ entries) e = e
-settle-top false (OnCurve rule ∷ entries) e =
-    settle-top false entries (and-right (not (allows rule 65535)) (topFree (settle true entries)) e)
+settle-tops true (OnCurve rule ∷ entries) e = e
+settle-tops false (OnCurve rule ∷ entries) e =
+    settle-tops false entries (and-right (ltb (top rule) 65535) (topsLow (settle true entries)) e)
 
 -- what the test says of a kind, on a curve or not
 pub record Sane (entries : List Entry) (curved : Bool) : Type 0 where
@@ -122,7 +130,7 @@ pub record Sane (entries : List Entry) (curved : Bool) : Type 0 where
   pub rights : rulesRight (settle curved entries) ≡ true
   pub entries-right : entriesRight entries ≡ true
   pub needs-curve : hasCurve entries ≡ true → needsCurve entries ≡ true
-  pub top-free : topFree (settle curved entries) ≡ true
+  pub tops-low : topsLow (settle curved entries) ≡ true
 
 pub sane : (kind : ℕ) (curved : Bool) → kind ≤ lastKind → Sane (entriesOf kind) curved
 sane kind curved h =
@@ -143,7 +151,7 @@ sane kind curved h =
       rights = settle-right curved entries r;
       entries-right = r;
       needs-curve = not-or (hasCurve entries) (needsCurve entries) n;
-      top-free = settle-top curved entries top;
+      tops-low = settle-tops curved entries top;
     }
 
 pub entries-count : (kind : ℕ) → kind ≤ lastKind → length (entriesOf kind) ≡ slotCount
@@ -164,6 +172,13 @@ allows-bit Lacking value e = absurd (true≢false (sym e))
 allows-bit (Needed low high) value e = (refl, refl)
 allows-bit (Optional low high) value e = (refl, refl)
 allows-bit (Default low high usual) value e = (refl, refl)
+
+pub allows-top : (rule : Rule) (value : ℕ) → allows rule value ≡ true → value ≤ top rule
+allows-top Foreign value e = absurd (true≢false (sym e))
+allows-top Lacking value e = absurd (true≢false (sym e))
+allows-top (Needed low high) value e = leb-true value high (and-right (leb low value) (leb value high) e)
+allows-top (Optional low high) value e = leb-true value high (and-right (leb low value) (leb value high) e)
+allows-top (Default low high usual) value e = leb-true value high (and-right (leb low value) (leb value high) e)
 
 -- a needed field has a bit and no default
 pub needed-bit : (rule : Rule) → needed rule ≡ true → (bits rule ≡ 1) × (absentOf rule ≡ Absent)

@@ -8,18 +8,19 @@ use Prim.Native.Nat.{ℕ, _+_, _<_, _≤_}
 use native.Mathlib.Omega.{arith}
 use lib.ListN.{length, length-drop}
 use lib.Dec.{leb}
-use borrow.Author.Tests.{leb-false, le-leb, lt-leb}
+use borrow.Author.Tests.{leb-true, leb-false, le-leb, lt-leb}
 use Rattle.site.specs.declared.rules.Rule.{Rule}
 use Rattle.site.specs.declared.values.Site.{Site}
 use Rattle.site.specs.declared.values.SiteAnswer.the-variants.{Read}
 use Rattle.site.specs.Rules.{entriesOf, bits}
 use Rattle.site.specs.Record.{curved, restOf, words, kindIn, mapIn, rulesIn, readSite}
 use Rattle.site.specs.Writing.{recordOf, sound, Valid, writeRefusal}
-use Rattle.site.specs.Digits.{digit-most}
+use Rattle.site.specs.Digits.{Bytes, digit-most}
 use Rattle.site.specs.Tested.{bitCount, sane}
 use Rattle.site.specs.Accepted.{reading}
 use Rattle.site.specs.WriteRead.{write-read}
 use Rattle.site.specs.ReadWrite.{read-valid}
+use Rattle.site.specs.Bytes.{record-bytes, bytes-append, bytes-nil}
 
 -- a record has no more fields than its rules have bits
 words-most : (rules : List Rule) (map : ℕ) → words rules map ≤ bitCount rules
@@ -51,17 +52,19 @@ read-length s site n e =
 
 -- the writer refuses with 8 the sites that are not valid, and these are the sites that no record reads as
 module _ (site : Site) where
-  no-record : ((s : List ℕ) (n : ℕ) → readSite s ≡ Read site n → ⊥) → sound site ≡ false
+  no-record : ((s : List ℕ) (n : ℕ) → Bytes s → readSite s ≡ Read site n → ⊥) → sound site ≡ false
   no-record never = by (sound site) refl
     where
       by : (b : Bool) → sound site ≡ b → b ≡ false
-      by true e = absurd (never (recordOf site ++ []) (length (recordOf site)) (write-read site [] (record { is-sound = e })))
+      by true e =
+          let v : Valid site = record { is-sound = e } in
+          absurd (never (recordOf site ++ []) (length (recordOf site)) (bytes-append (recordOf site) [] (record-bytes site v) bytes-nil) (write-read site [] v))
       by false e = refl
 
-  pub eight-exactly : (room : ℕ) → (writeRefusal site room ≡ 8) ↔ ((s : List ℕ) (n : ℕ) → readSite s ≡ Read site n → ⊥)
+  pub eight-exactly : (room : ℕ) → (writeRefusal site room ≡ 8) ↔ ((s : List ℕ) (n : ℕ) → Bytes s → readSite s ≡ Read site n → ⊥)
   unfolding writeRefusal
   eight-exactly room = (
-    λ e s n r. let z : _≡_ {A = ℕ} (cond (leb (length (recordOf site)) room) 0 10) 8 = rw (read-valid s site n r .is-sound) at e in never (leb (length (recordOf site)) room) z,
+    λ e s n bytes r. let z : _≡_ {A = ℕ} (cond (leb (length (recordOf site)) room) 0 10) 8 = rw (read-valid s site n r .is-sound) at e in never (leb (length (recordOf site)) room) z,
     λ never. rw (no-record never),
   )
     where
@@ -69,16 +72,30 @@ module _ (site : Site) where
       never true e = omega arith
       never false e = omega arith
 
-  -- 10 exactly when the buffer is shorter than the record: one that just suffices is taken
-  pub ten-exactly : (room : ℕ) → Valid site → (writeRefusal site room ≡ 10) ↔ (room < length (recordOf site))
+  -- 10 exactly when the buffer is shorter than the record of a valid site
+  pub ten-exactly : (room : ℕ) → (writeRefusal site room ≡ 10) ↔ (Valid site × (room < length (recordOf site)))
   unfolding writeRefusal
-  ten-exactly room v =
-      (λ e. by (leb (length (recordOf site)) room) refl (rw (v .is-sound) at e), λ h. rw (v .is-sound, lt-leb (length (recordOf site)) room h))
+  ten-exactly room = (
+    by (sound site) (leb (length (recordOf site)) room) refl refl,
+    λ h. rw (h .0 .is-sound, lt-leb (length (recordOf site)) room (h .1)),
+  )
     where
-      by : (b : Bool) → leb (length (recordOf site)) room ≡ b → _≡_ {A = ℕ} (cond b 0 10) 10 → room < length (recordOf site)
-      by true q e = absurd (omega arith)
-      by false q e = leb-false (length (recordOf site)) room q
+      by : (a b : Bool) → sound site ≡ a → leb (length (recordOf site)) room ≡ b
+          → _≡_ {A = ℕ} (cond a (cond b 0 10) 8) 10 → Valid site × (room < length (recordOf site))
+      by true true p q e = absurd (omega arith)
+      by true false p q e = (record { is-sound = p }, leb-false (length (recordOf site)) room q)
+      by false b p q e = absurd (omega arith)
 
-  pub written-where-room : (room : ℕ) → Valid site → length (recordOf site) ≤ room → writeRefusal site room ≡ 0
+  -- success exactly when a valid site has room: a buffer that just suffices is taken
+  pub zero-exactly : (room : ℕ) → (writeRefusal site room ≡ 0) ↔ (Valid site × (length (recordOf site) ≤ room))
   unfolding writeRefusal
-  written-where-room room v h = rw (v .is-sound, le-leb (length (recordOf site)) room h)
+  zero-exactly room = (
+    by (sound site) (leb (length (recordOf site)) room) refl refl,
+    λ h. rw (h .0 .is-sound, le-leb (length (recordOf site)) room (h .1)),
+  )
+    where
+      by : (a b : Bool) → sound site ≡ a → leb (length (recordOf site)) room ≡ b
+          → _≡_ {A = ℕ} (cond a (cond b 0 10) 8) 0 → Valid site × (length (recordOf site) ≤ room)
+      by true true p q e = (record { is-sound = p }, leb-true (length (recordOf site)) room q)
+      by true false p q e = absurd (omega arith)
+      by false b p q e = absurd (omega arith)

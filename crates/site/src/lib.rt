@@ -1,6 +1,4 @@
-// One site of a project: its values, the rules of each kind and field, the reader and the writer
-// of its record.
-pub mod read;
+// One site of a project: its values and the rules of each kind and field. What a record reads as and what the writer writes
+// are defined in specs/, with both round trips; the crates site_reader and site_writer have the calls.
 pub mod rules;
 pub mod values;
-pub mod write;

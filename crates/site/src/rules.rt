@@ -37,8 +37,9 @@ use Rule::Optional;
 
 pub const SLOTS: usize = 20;
 
-pub(crate) const LAST_KIND: u8 = 3;
+pub const LAST_KIND: u8 = 3;
 
+// Document 01's ranges and defaults, each once.
 const TRAFFIC: Rule = Needed(1, 20000);
 
 const LENGTH: Rule = Needed(1, 20000);
@@ -125,7 +126,7 @@ fn crossing_entries(angle: Rule, left: Rule, right: Rule, sight: Rule) -> [Entry
 }
 
 // The table of rules: 0 segment, 1 3ST, 2 4ST, 3 4SG.
-pub(crate) fn entries_of(kind: u8) -> [Entry; SLOTS]
+pub fn entries_of(kind: u8) -> [Entry; SLOTS]
     requires { ⌜ kind ≤ lastKind ⌝ }
     ensures { λ r. ⌜ r ≡ entriesOf kind ⌝ }
 {
@@ -144,7 +145,7 @@ fn is_inside(low: u16, high: u16, value: u16) -> bool
 }
 
 // A number that the rule takes.
-pub(crate) fn does_allow(rule: Rule, value: u16) -> bool
+pub fn does_allow(rule: Rule, value: u16) -> bool
     ensures { λ r. ⌜ r ≡ allows rule value ⌝ }
 {
     match rule {
@@ -157,7 +158,7 @@ pub(crate) fn does_allow(rule: Rule, value: u16) -> bool
 }
 
 // What a field that does not stand is read as.
-pub(crate) fn absent_of(rule: Rule) -> Slot
+pub fn absent_of(rule: Rule) -> Slot
     ensures { λ r. ⌜ r ≡ absentOf rule ⌝ }
 {
     match rule {
@@ -169,7 +170,7 @@ pub(crate) fn absent_of(rule: Rule) -> Slot
     }
 }
 
-pub(crate) fn is_needed(rule: Rule) -> bool
+pub fn is_needed(rule: Rule) -> bool
     ensures { λ r. ⌜ r ≡ needed rule ⌝ }
 {
     match rule {
@@ -181,7 +182,7 @@ pub(crate) fn is_needed(rule: Rule) -> bool
     }
 }
 
-pub(crate) fn is_lacking(rule: Rule) -> bool
+pub fn is_lacking(rule: Rule) -> bool
     ensures { λ r. ⌜ r ≡ lacking rule ⌝ }
 {
     match rule {
@@ -194,7 +195,7 @@ pub(crate) fn is_lacking(rule: Rule) -> bool
 }
 
 // How many bits of the map a field has: one, or none where it is foreign.
-pub(crate) fn bits_of(rule: Rule) -> u16
+pub fn bits_of(rule: Rule) -> u16
     ensures { λ r. ⌜ (r ≡ bits rule) × (r ≤ 1) ⌝ }
 {
     match rule {
@@ -207,7 +208,7 @@ pub(crate) fn bits_of(rule: Rule) -> u16
 }
 
 // The rule of a field on a curve.
-pub(crate) fn rule_of(entry: Entry) -> Rule
+pub fn rule_of(entry: Entry) -> Rule
     ensures { λ r. ⌜ r ≡ ruleOf entry ⌝ }
 {
     match entry {
@@ -216,7 +217,7 @@ pub(crate) fn rule_of(entry: Entry) -> Rule
     }
 }
 
-pub(crate) fn is_on_curve(entry: Entry) -> bool
+pub fn is_on_curve(entry: Entry) -> bool
     ensures { λ r. ⌜ r ≡ onCurve entry ⌝ }
 {
     match entry {
@@ -236,7 +237,7 @@ fn settled_rule(curved: bool, entry: Entry) -> Rule
 }
 
 // The rules of a road with a curve, or of a straight one.
-pub(crate) fn settle_rules(curved: bool, entries: [Entry; SLOTS]) -> [Rule; SLOTS]
+pub fn settle_rules(curved: bool, entries: [Entry; SLOTS]) -> [Rule; SLOTS]
     requires { ⌜ length entries ≡ slotCount ⌝ }
     ensures { λ r. ⌜ r ≡ settle curved entries ⌝ }
 {
@@ -250,7 +251,7 @@ pub(crate) fn settle_rules(curved: bool, entries: [Entry; SLOTS]) -> [Rule; SLOT
     rules
 }
 
-pub(crate) fn is_absent(slot: Slot) -> bool
+pub fn is_absent(slot: Slot) -> bool
     ensures { λ r. ⌜ r ≡ absent slot ⌝ }
 {
     match slot {
@@ -260,7 +261,7 @@ pub(crate) fn is_absent(slot: Slot) -> bool
 }
 
 // Whether the slot holds this number.
-pub(crate) fn does_hold(slot: Slot, value: u16) -> bool
+pub fn does_hold(slot: Slot, value: u16) -> bool
     ensures { λ r. ⌜ r ≡ holds slot value ⌝ }
 {
     match slot {

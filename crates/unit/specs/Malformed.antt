@@ -1,12 +1,12 @@
 -- Numbers that are no site are outside their range: the writer refuses them with 8.
-use mathlib.Core.Path.{_≡_, refl, sym, _∙_}
-use mathlib.Core.Bool.{Bool, true, false, not, true≢false}
+use mathlib.Core.Path.{_≡_, refl, _∙_}
+use mathlib.Core.Bool.{Bool, true, false}
 use mathlib.Core.List.{List, [], _∷_, map}
 use Prim.Native.Nat.{ℕ, zero, suc, _<_, _≤_}
 use native.Mathlib.Omega.{arith}
 use lib.ListN.{length, getD, drop, length-drop, length-map, List·getD-map}
-use lib.Dec.{leb}
-use borrow.Author.Tests.{le-ltb, ne-eqb, leb-true, not-true}
+use lib.Dec.{leb, ltb}
+use borrow.Author.Tests.{ltb-true, le-ltb, ne-eqb, leb-true}
 use Rattle.site.specs.declared.rules.Rule.{Rule}
 use Rattle.site.specs.declared.rules.Rule.the-variants.{Lacking}
 use Rattle.site.specs.declared.values.Slot.{Slot}
@@ -15,7 +15,7 @@ use Rattle.site.specs.Rules.{entriesOf, lastKind, slotCount, allows}
 use Rattle.site.specs.Writing.{curveHeld, rulesHeld, fits, allFit, sound}
 use Rattle.unit.specs.SiteNumbers.{slotFrom, kindFrom, siteFrom, siteNumbers}
 use Rattle.site.specs.Truth.{and-left, and-right}
-use Rattle.site.specs.Tested.{topFree, sane}
+use Rattle.site.specs.Tested.{top, topsLow, allows-top, sane}
 use Rattle.site.specs.ReadWrite.{slots-of-site}
 
 fit-at : (rules : List Rule) (slots : List Slot) (i : ℕ) (d : Slot) → allFit rules slots ≡ true → i < length rules
@@ -27,11 +27,11 @@ fit-at (rule ∷ rules) (slot ∷ slots) zero d e h k = and-left (fits rule slot
 fit-at (rule ∷ rules) (slot ∷ slots) (suc i) d e h k =
     fit-at rules slots i d (and-right (fits rule slot) (allFit rules slots) e) (omega arith) (omega arith)
 
-free-at : (rules : List Rule) (i : ℕ) → topFree rules ≡ true → allows (getD rules i Lacking) 65535 ≡ false
-unfolding topFree
-free-at [] i e = refl
-free-at (rule ∷ rules) zero e = not-true (allows rule 65535) (and-left (not (allows rule 65535)) (topFree rules) e)
-free-at (rule ∷ rules) (suc i) e = free-at rules i (and-right (not (allows rule 65535)) (topFree rules) e)
+top-at : (rules : List Rule) (i : ℕ) → topsLow rules ≡ true → top (getD rules i Lacking) < 65535
+unfolding topsLow
+top-at [] i e = omega arith
+top-at (rule ∷ rules) zero e = ltb-true (top rule) 65535 (and-left (ltb (top rule) 65535) (topsLow rules) e)
+top-at (rule ∷ rules) (suc i) e = top-at rules i (and-right (ltb (top rule) 65535) (topsLow rules) e)
 
 too-large : (number : ℕ) → 65536 < number → slotFrom number ≡ Number 65535
 too-large number h = rw (le-ltb number 65536 (omega arith), ne-eqb number 65536 (λ e. omega arith))
@@ -55,7 +55,7 @@ module _ (numbers : List ℕ) (count : length numbers ≡ siteNumbers) (i : ℕ)
       let inside : i < length rules = rw (s .count) h in
       let among : i < length slots = rw slots-count h in
       let f : allows (getD rules i Lacking) 65535 ≡ true = rw held at (fit-at rules slots i (slotFrom 0) fit inside among) in
-      absurd (true≢false (sym f ∙ free-at rules i (s .top-free)))
+      omega (arith, allows-top (getD rules i Lacking) 65535 f, top-at rules i (s .tops-low))
 
   -- a slot above 65,536
   pub slot-outside : sound (siteFrom numbers) ≡ false

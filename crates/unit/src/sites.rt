@@ -9,13 +9,11 @@ ghost use Rattle.site.specs.declared.values.SiteAnswer.the-variants.{Read};
 ghost use Rattle.site.specs.Rules.{slotCount};
 ghost use Rattle.unit.specs.SiteNumbers.{code, readValues, slotFrom, kindFrom, siteFrom, siteNumbers, answerNumbers};
 ghost use Rattle.unit.specs.SiteNumbers.{ReadsNumbers, WritesNumbers};
-use site::read;
 use site::rules::SLOTS;
 use site::values::Site;
 use site::values::SiteAnswer;
 use site::values::Slot;
 use site::values::WriteAnswer;
-use site::write;
 
 const ABSENT: u64 = 65536;
 
@@ -50,7 +48,7 @@ fn put_site(site: Site, n: usize, values: &mut [u64])
     ensures { λ r. ⌜ now (values .exit) ≡ sets (now (values .entry)) 0 (readValues (Read site n)) ⌝ }
 {
     let kind = site.kind;
-    let slots = write::slots_of(site);
+    let slots = site_writer::slots_of(site);
     values[0] = kind as u64;
     put_slots(slots, values);
     values[SITE_NUMBERS] = n as u64;
@@ -63,7 +61,7 @@ fn put_site(site: Site, n: usize, values: &mut [u64])
 pub extern "C" fn crash_site_read(part: &[u8], values: &mut [u64]) -> u64
     ensures { λ r. ⌜ ReadsNumbers (now (part .entry)) (now (values .entry)) (now (values .exit)) r ⌝ }
 {
-    let answer = read::read_site(part);
+    let answer = site_reader::read_site(part);
     match answer {
         SiteAnswer::Refused(number) => number as u64,
         SiteAnswer::Read(site, n) => {
@@ -115,7 +113,7 @@ fn site_from(values: &[u64]) -> Site
     ensures { λ r. ⌜ r ≡ siteFrom (now (values .entry)) ⌝ }
 {
     let kind = kind_from(values[0]);
-    read::site_of(kind, slots_from(&values[1..]))
+    site_reader::site_of(kind, slots_from(&values[1..]))
 }
 
 // Writes the record of a site from the start of the buffer: 0, with the record's length in written;
@@ -128,7 +126,7 @@ pub extern "C" fn crash_site_write(values: &[u64], buffer: &mut [u8], written: &
     if values.len() != SITE_NUMBERS {
         return 8;
     }
-    let answer = write::write_site(site_from(values), buffer);
+    let answer = site_writer::write_site(site_from(values), buffer);
     match answer {
         WriteAnswer::Unwritten(number) => number as u64,
         WriteAnswer::Written(n) => {

@@ -1,0 +1,27 @@
+-- `site_reader::bit_of` meets its contract. A remainder by one more than the field's bits.
+-- Assumes nothing.
+use mathlib.Core.Path.{ap}
+use native.Mathlib.Omega.{arith}
+use Prim.Native.Nat.{ℕ, _+_, _%_}
+use Rattle.site.specs.Digits.{digit-most}
+use borrow.Author.Needs.{needs}
+use Rattle.site_reader.proofs.bit_of.Statement.{statement}
+use Rattle.site_reader.proofs.bit_of.Tie as tie
+
+bits-of-requires : tie.Need-bits-of-requires
+bits-of-requires c κs = search needs
+
+add-result : tie.Need-add-result
+add-result c = search needs
+
+rem-result : tie.Need-rem-result
+rem-result c = search needs
+
+returns : tie.Need-returns
+returns c = (
+  ap (λ (b : ℕ). c .before .args .map % (1 + b)) (c .bits-of .ensures .0),
+  omega (arith, digit-most (c .bits-of .result) (c .before .args .map)),
+)
+
+pub bit-of-spec : {M : Type 1} → statement M
+bit-of-spec = tie.close (tie.spec bits-of-requires add-result rem-result returns)

@@ -1,0 +1,81 @@
+-- `site_reader::fields_number` meets its contract. The loop's invariant: the fields before i are not refused, the bytes of the others are there, and they tell.
+-- Assumes nothing.
+use borrow.Author.Needs.{needs}
+use native.Mathlib.Omega.{arith}
+use mathlib.Core.Path.{_≡_}
+use Prim.Native.Nat.{_+_, _*_, _≤_, _-_}
+use lib.ListN.{length, drop}
+use Rattle.site.specs.Rules.{slotCount}
+use Rattle.site.specs.Record.{words, fieldsNumber}
+use Rattle.site.proofs.ReadSteps.{room-next, room-after, number-hit, number-miss, number-end}
+use Rattle.site_reader.proofs.fields_number.Statement.{statement}
+use Rattle.site_reader.proofs.fields_number.Tie as tie
+
+abbrev Inv-loop : tie.InvT-loop
+Inv-loop map s rules rest₀ at₀ i₀ rest at i = (i ≤ slotCount) × (at + 2 * words (drop i rules) rest ≤ length s) × (fieldsNumber (drop i rules) rest (drop at s) ≡ fieldsNumber rules map s)
+
+abbrev μ-loop : tie.MeasureT-loop
+μ-loop map s rules rest₀ at₀ i₀ rest at i = slotCount - i
+
+loop-holds : tie.Need-loop-holds Inv-loop μ-loop
+loop-holds c = search needs
+
+mul-rule : tie.Need-mul-rule Inv-loop μ-loop
+mul-rule c = omega arith
+
+array-copy-out-rule : tie.Need-array-copy-out-rule Inv-loop μ-loop
+array-copy-out-rule c = omega arith
+
+field-number-requires : tie.Need-field-number-requires Inv-loop μ-loop
+field-number-requires c κs = room-next _ _ _ (c .before .before .before .before .pre .0) _ _ _ (c .before .loop-test .taken) (c .before .before .loop .inv .1)
+
+returns : tie.Need-returns Inv-loop μ-loop
+returns c = number-hit _ _ _ (c .before .before .before .before .before .before .pre .0) _ (c .before .before .before .before .loop .at) _ (c .before .before .before .before .loop .inv .2) _ _ (c .before .before .before .loop-test .taken) (c .before .field-number .ensures) (c .if1 .taken)
+
+field-words-requires : tie.Need-field-words-requires Inv-loop μ-loop
+field-words-requires c κs = search needs
+
+mul-at : tie.Need-mul-at Inv-loop μ-loop
+mul-at c = omega arith
+
+add-at : tie.Need-add-at Inv-loop μ-loop
+add-at c = omega arith
+
+rest-of-requires : tie.Need-rest-of-requires Inv-loop μ-loop
+rest-of-requires c κs = search needs
+
+add-i : tie.Need-add-i Inv-loop μ-loop
+add-i c = omega arith
+
+loop-less : tie.Need-loop-less Inv-loop μ-loop
+loop-less c = omega arith
+
+loop-again : tie.Need-loop-again Inv-loop μ-loop
+loop-again c = (
+  omega arith,
+  room-after _ _ _ (c .before .before .before .before .before .before .before .before .pre .0) _ _ _ _ _ (c .before .before .before .before .before .loop-test .taken) (c .before .field-words .ensures .0) (c .rest-of .ensures) (c .before .before .before .before .before .before .loop .inv .1),
+  number-miss _ _ _ (c .before .before .before .before .before .before .before .before .pre .0) _ (c .before .before .before .before .before .before .loop .at) _ (c .before .before .before .before .before .before .loop .inv .2) _ _ _ _ (c .before .before .before .before .before .loop-test .taken) (c .before .before .before .field-number .ensures) (c .before .before .if1 .left) (c .before .field-words .ensures .0) (c .rest-of .ensures),
+)
+
+returns-2 : tie.Need-returns-2 Inv-loop μ-loop
+returns-2 c = number-end _ _ _ (c .before .before .before .pre .0) _ (c .before .loop .at) _ (c .before .loop .inv .2) (c .loop-test .left)
+
+pub fields-number-spec : {M : Type 1} → statement M
+fields-number-spec =
+    tie.close
+    (tie.spec
+    Inv-loop
+    μ-loop
+    loop-holds
+    mul-rule
+    array-copy-out-rule
+    field-number-requires
+    returns
+    field-words-requires
+    mul-at
+    add-at
+    rest-of-requires
+    add-i
+    loop-less
+    loop-again
+    returns-2)

@@ -1,0 +1,73 @@
+-- `site_reader::is_curved` meets its contract. The loop's invariant: no bit of the curve before i stands, so the rest of the entries tells.
+-- Assumes nothing.
+use borrow.Author.Needs.{needs}
+use native.Mathlib.Omega.{arith}
+use mathlib.Core.Path.{_≡_, ap, _∙_}
+use Prim.Native.Nat.{_≤_, _-_}
+use lib.ListN.{drop}
+use Rattle.site.specs.Rules.{slotCount}
+use Rattle.site.specs.Record.{curved, restOf}
+use Rattle.site.proofs.ReadSteps.{any-hit, any-miss, any-end}
+use Rattle.site.specs.declared.rules.Rule.{Rule}
+use Rattle.site_reader.proofs.is_curved.Statement.{statement}
+use Rattle.site_reader.proofs.is_curved.Tie as tie
+
+abbrev Inv-loop : tie.InvT-loop
+Inv-loop map entries rest₀ i₀ rest i = (i ≤ slotCount) × (curved (drop i entries) rest ≡ curved entries map)
+
+abbrev μ-loop : tie.MeasureT-loop
+μ-loop map entries rest₀ i₀ rest i = slotCount - i
+
+loop-holds : tie.Need-loop-holds Inv-loop μ-loop
+loop-holds c = search needs
+
+mul-entry : tie.Need-mul-entry Inv-loop μ-loop
+mul-entry c = omega arith
+
+array-copy-out-entry : tie.Need-array-copy-out-entry Inv-loop μ-loop
+array-copy-out-entry c = omega arith
+
+does-bend-requires : tie.Need-does-bend-requires Inv-loop μ-loop
+does-bend-requires c κs = search needs
+
+returns : tie.Need-returns Inv-loop μ-loop
+returns c = any-hit _ _ _ _ _ _ _ (c .before .before .before .before .before .pre) (c .before .before .before .before .loop .inv .1) _ _ (c .before .before .before .loop-test .taken) (c .before .does-bend .ensures) (c .if1 .taken)
+
+rule-of-requires : tie.Need-rule-of-requires Inv-loop μ-loop
+rule-of-requires c κs = search needs
+
+rest-of-requires : tie.Need-rest-of-requires Inv-loop μ-loop
+rest-of-requires c κs = search needs
+
+add-i : tie.Need-add-i Inv-loop μ-loop
+add-i c = omega arith
+
+loop-less : tie.Need-loop-less Inv-loop μ-loop
+loop-less c = omega arith
+
+loop-again : tie.Need-loop-again Inv-loop μ-loop
+loop-again c = (
+  omega arith,
+  any-miss _ _ _ _ _ _ _ (c .before .before .before .before .before .before .before .pre) (c .before .before .before .before .before .before .loop .inv .1) _ _ _ (c .before .before .before .before .before .loop-test .taken) (c .before .before .before .does-bend .ensures) (c .before .before .if1 .left) (c .rest-of .ensures ∙ ap (λ (x : Rule). restOf x (c .before .before .before .before .before .before .loop .rest)) (c .before .rule-of .ensures)),
+)
+
+returns-2 : tie.Need-returns-2 Inv-loop μ-loop
+returns-2 c = any-end _ _ _ _ _ _ _ (c .before .before .pre) (c .before .loop .inv .1) (c .loop-test .left)
+
+pub is-curved-spec : {M : Type 1} → statement M
+is-curved-spec =
+    tie.close
+    (tie.spec
+    Inv-loop
+    μ-loop
+    loop-holds
+    mul-entry
+    array-copy-out-entry
+    does-bend-requires
+    returns
+    rule-of-requires
+    rest-of-requires
+    add-i
+    loop-less
+    loop-again
+    returns-2)

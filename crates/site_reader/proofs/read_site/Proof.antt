@@ -1,0 +1,72 @@
+-- `site_reader::read_site` meets its contract. Kind and map are there, then the fields are read by their rules.
+-- Assumes nothing.
+use native.Mathlib.Omega.{arith}
+use borrow.Author.Tests.{lt-ltb, le-ltb}
+use mathlib.Core.Path.{_≡_}
+use Prim.Native.Nat.{_-_}
+use denote.Ref.{now}
+use lib.ListN.{length, take, drop, length-drop}
+use lib.Seq.{take-all}
+use Rattle.site.specs.Record.{refusalOf, readSite}
+use Rattle.site.specs.Promises.{reads-site}
+use borrow.Author.Needs.{needs}
+use Rattle.site_reader.proofs.read_site.Statement.{statement}
+use Rattle.site_reader.proofs.read_site.Tie as tie
+
+returns : tie.Need-returns
+unfolding readSite refusalOf
+returns c = reads-site _ _ (simp (lt-ltb _ _ (c .if1 .taken)))
+
+shared-slice-read-kind : tie.Need-shared-slice-read-kind
+shared-slice-read-kind c = search needs
+
+returns-2 : tie.Need-returns-2
+unfolding readSite refusalOf
+returns-2 c = reads-site _ _ (simp (le-ltb _ _ (c .before .before .if1 .left), lt-ltb _ _ (c .if2 .taken)))
+
+word-at-requires : tie.Need-word-at-requires
+word-at-requires c κs = search needs
+
+rules-read-requires : tie.Need-rules-read-requires
+rules-read-requires c κs = search needs
+
+sub-read-fields : tie.Need-sub-read-fields
+sub-read-fields c = search needs
+
+part-read-fields-start : tie.Need-part-read-fields-start
+part-read-fields-start c = search needs
+
+part-read-fields-end : tie.Need-part-read-fields-end
+part-read-fields-end c = search needs
+
+read-fields-requires : tie.Need-read-fields-requires
+read-fields-requires c κs = search needs
+
+returns-3 : tie.Need-returns-3
+unfolding readSite refusalOf
+returns-3 c =
+    let p = now (c .before .before .before .before .before .before .before .before .args .part) in
+    let e : take (length p - 3) (drop 3 p) ≡ drop 3 p = take-all (length p - 3) (drop 3 p) (omega (arith, length-drop 3 p)) in
+    reads-site _ _
+    (simp (
+      le-ltb _ _ (c .before .before .before .before .before .before .if1 .left),
+      le-ltb _ _ (c .before .before .before .before .if2 .left),
+      ← c .before .before .before .word-at .ensures,
+      ← c .before .before .rules-read .ensures,
+    )
+    (rw e at (c .read-fields .ensures)))
+
+pub read-site-spec : {M : Type 1} → statement M
+read-site-spec =
+    tie.close
+    (tie.spec
+    returns
+    shared-slice-read-kind
+    returns-2
+    word-at-requires
+    rules-read-requires
+    sub-read-fields
+    part-read-fields-start
+    part-read-fields-end
+    read-fields-requires
+    returns-3)

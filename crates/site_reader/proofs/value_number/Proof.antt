@@ -1,0 +1,34 @@
+-- `site_reader::value_number` meets its contract. 8 where the rule does not take the value, 9 where it is the default.
+-- Assumes nothing.
+use borrow.Author.Needs.{needs}
+use Rattle.site_reader.proofs.value_number.Statement.{statement}
+use Rattle.site_reader.proofs.value_number.Tie as tie
+
+does-allow-requires : tie.Need-does-allow-requires
+does-allow-requires c κs = search needs
+
+absent-of-requires : tie.Need-absent-of-requires
+absent-of-requires c κs = search needs
+
+does-hold-requires : tie.Need-does-hold-requires
+does-hold-requires c κs = search needs
+
+returns : tie.Need-returns
+returns c = simp (← c .before .before .before .before .does-allow .ensures, c .before .before .before .if1 .taken, ← c .before .before .absent-of .ensures, ← c .before .does-hold .ensures, c .if2 .taken)
+
+returns-2 : tie.Need-returns-2
+returns-2 c = simp (← c .before .before .before .before .does-allow .ensures, c .before .before .before .if1 .taken, ← c .before .before .absent-of .ensures, ← c .before .does-hold .ensures, c .if2 .left)
+
+returns-3 : tie.Need-returns-3
+returns-3 c = simp (← c .before .does-allow .ensures, c .if1 .left)
+
+pub value-number-spec : {M : Type 1} → statement M
+value-number-spec =
+    tie.close
+    (tie.spec
+    does-allow-requires
+    absent-of-requires
+    does-hold-requires
+    returns
+    returns-2
+    returns-3)

@@ -1,0 +1,313 @@
+// The reader of one site's record.
+ghost use mathlib.Core.Path.{_≡_};
+ghost use Prim.Native.Nat.{_+_, _*_, _≤_, _<_};
+ghost use lib.ListN.{length, drop};
+ghost use Rattle.site.specs.Rules.{lastKind, slotCount};
+ghost use Rattle.site.specs.Answers.{readAnswer};
+ghost use Rattle.site.specs.Record.{word, bitOf, restOf, stands, strays, lacks, wants, misses, bends, curved, rulesRead, fieldWords, words, valueNumber, fieldNumber, fieldValue, fieldsNumber, fieldsValues, siteOf, recordNumber};
+ghost use Rattle.site.specs.Promises.{ReadsSite};
+use site::rules;
+use site::rules::Entry;
+use site::rules::LAST_KIND;
+use site::rules::Rule;
+use site::rules::SLOTS;
+use site::values::Site;
+use site::values::SiteAnswer;
+use site::values::Slot;
+
+fn wide(byte: u8) -> u16
+    ensures { λ r. ⌜ r ≡ byte ⌝ }
+{
+    byte as u16
+}
+
+// The two-byte number at a place, high byte first.
+pub fn word_at(s: &[u8], at: usize) -> u16
+    requires { ⌜ at + 1 < length (now s) ⌝ }
+    ensures { λ r. ⌜ r ≡ word (drop at (now (s .entry))) ⌝ }
+{
+    let low = at + 1;
+    wide(s[at]) * 256 + wide(s[low])
+}
+
+// The bit of the next field.
+fn bit_of(rule: Rule, map: u16) -> u16
+    ensures { λ r. ⌜ (r ≡ bitOf rule map) × (r ≤ 1) ⌝ }
+{
+    map % (1 + rules::bits_of(rule))
+}
+
+// What is left of the map after the next field.
+fn rest_of(rule: Rule, map: u16) -> u16
+    ensures { λ r. ⌜ r ≡ restOf rule map ⌝ }
+{
+    map / (1 + rules::bits_of(rule))
+}
+
+fn does_stand(rule: Rule, map: u16) -> bool
+    ensures { λ r. ⌜ r ≡ stands rule map ⌝ }
+{
+    bit_of(rule, map) == 1
+}
+
+fn does_stray(rule: Rule, map: u16) -> bool
+    ensures { λ r. ⌜ r ≡ strays rule map ⌝ }
+{
+    if rules::is_lacking(rule) {
+        does_stand(rule, map)
+    } else {
+        false
+    }
+}
+
+fn does_want(rule: Rule, map: u16) -> bool
+    ensures { λ r. ⌜ r ≡ wants rule map ⌝ }
+{
+    if rules::is_needed(rule) {
+        !does_stand(rule, map)
+    } else {
+        false
+    }
+}
+
+fn does_bend(entry: Entry, map: u16) -> bool
+    ensures { λ r. ⌜ r ≡ bends entry map ⌝ }
+{
+    if rules::is_on_curve(entry) {
+        does_stand(rules::rule_of(entry), map)
+    } else {
+        false
+    }
+}
+
+// Whether a bit of the curve stands.
+fn is_curved(entries: [Entry; SLOTS], map: u16) -> bool
+    requires { ⌜ length entries ≡ slotCount ⌝ }
+    ensures { λ r. ⌜ r ≡ curved entries map ⌝ }
+{
+    let mut rest = map;
+    let mut i = 0;
+    while i < SLOTS {
+        let entry = entries[i];
+        if does_bend(entry, rest) {
+            return true;
+        }
+        rest = rest_of(rules::rule_of(entry), rest);
+        i += 1;
+    }
+    false
+}
+
+// Whether a bit stands that the kind lacks.
+fn map_lacks(rules: [Rule; SLOTS], map: u16) -> bool
+    requires { ⌜ length rules ≡ slotCount ⌝ }
+    ensures { λ r. ⌜ r ≡ lacks rules map ⌝ }
+{
+    let mut rest = map;
+    let mut i = 0;
+    while i < SLOTS {
+        let rule = rules[i];
+        if does_stray(rule, rest) {
+            return true;
+        }
+        rest = rest_of(rule, rest);
+        i += 1;
+    }
+    0 < rest
+}
+
+// Whether a needed bit is absent.
+fn map_misses(rules: [Rule; SLOTS], map: u16) -> bool
+    requires { ⌜ length rules ≡ slotCount ⌝ }
+    ensures { λ r. ⌜ r ≡ misses rules map ⌝ }
+{
+    let mut rest = map;
+    let mut i = 0;
+    while i < SLOTS {
+        let rule = rules[i];
+        if does_want(rule, rest) {
+            return true;
+        }
+        rest = rest_of(rule, rest);
+        i += 1;
+    }
+    false
+}
+
+// How many two-byte numbers a field has in the record.
+fn field_words(rule: Rule, map: u16) -> usize
+    ensures { λ r. ⌜ (r ≡ fieldWords rule map) × (r ≤ 1) ⌝ }
+{
+    bit_of(rule, map) as usize
+}
+
+// How many two-byte numbers follow the map.
+pub fn count_words(rules: [Rule; SLOTS], map: u16) -> usize
+    requires { ⌜ length rules ≡ slotCount ⌝ }
+    ensures { λ r. ⌜ (r ≡ words rules map) × (r ≤ slotCount) ⌝ }
+{
+    let mut rest = map;
+    let mut count = 0;
+    let mut i = 0;
+    while i < SLOTS {
+        let rule = rules[i];
+        count += field_words(rule, rest);
+        rest = rest_of(rule, rest);
+        i += 1;
+    }
+    count
+}
+
+// 8 or 9 for a value that stands, or 0.
+fn value_number(rule: Rule, value: u16) -> u8
+    ensures { λ r. ⌜ r ≡ valueNumber rule value ⌝ }
+{
+    if rules::does_allow(rule, value) {
+        if rules::does_hold(rules::absent_of(rule), value) {
+            9
+        } else {
+            0
+        }
+    } else {
+        8
+    }
+}
+
+fn field_number(rule: Rule, map: u16, s: &[u8], at: usize) -> u8
+    requires { ⌜ at + 2 * fieldWords rule map ≤ length (now s) ⌝ }
+    ensures { λ r. ⌜ r ≡ fieldNumber rule map (drop at (now (s .entry))) ⌝ }
+{
+    if does_stand(rule, map) {
+        value_number(rule, word_at(s, at))
+    } else {
+        0
+    }
+}
+
+fn field_value(rule: Rule, map: u16, s: &[u8], at: usize) -> Slot
+    requires { ⌜ at + 2 * fieldWords rule map ≤ length (now s) ⌝ }
+    ensures { λ r. ⌜ r ≡ fieldValue rule map (drop at (now (s .entry))) ⌝ }
+{
+    if does_stand(rule, map) {
+        Slot::Number(word_at(s, at))
+    } else {
+        rules::absent_of(rule)
+    }
+}
+
+// The first refusal among the fields, or 0.
+fn fields_number(rules: [Rule; SLOTS], map: u16, s: &[u8]) -> u8
+    requires { ⌜ (length rules ≡ slotCount) × (2 * words rules map ≤ length (now s)) ⌝ }
+    ensures { λ r. ⌜ r ≡ fieldsNumber rules map (now (s .entry)) ⌝ }
+{
+    let mut rest = map;
+    let mut at = 0;
+    let mut i = 0;
+    while i < SLOTS {
+        let rule = rules[i];
+        let number = field_number(rule, rest, s, at);
+        if number != 0 {
+            return number;
+        }
+        at += 2 * field_words(rule, rest);
+        rest = rest_of(rule, rest);
+        i += 1;
+    }
+    0
+}
+
+// The slots of the fields that stand, and of those that do not.
+fn fields_values(rules: [Rule; SLOTS], map: u16, s: &[u8]) -> [Slot; SLOTS]
+    requires { ⌜ (length rules ≡ slotCount) × (2 * words rules map ≤ length (now s)) ⌝ }
+    ensures { λ r. ⌜ r ≡ fieldsValues rules map (now (s .entry)) ⌝ }
+{
+    let none = Slot::Absent;
+    let mut slots = [none; SLOTS];
+    let mut rest = map;
+    let mut at = 0;
+    let mut i = 0;
+    while i < SLOTS {
+        let rule = rules[i];
+        slots[i] = field_value(rule, rest, s, at);
+        at += 2 * field_words(rule, rest);
+        rest = rest_of(rule, rest);
+        i += 1;
+    }
+    slots
+}
+
+// A site of its kind and its slots.
+pub fn site_of(kind: u8, slots: [Slot; SLOTS]) -> Site
+    ensures { λ r. ⌜ r ≡ siteOf kind slots ⌝ }
+{
+    Site {
+        kind,
+        traffic: slots[0],
+        length: slots[1],
+        minor_traffic: slots[2],
+        observed: slots[3],
+        lane_width: slots[4],
+        shoulder_width: slots[5],
+        shoulder_type: slots[6],
+        curve_length: slots[7],
+        radius: slots[8],
+        spiral_ends: slots[9],
+        deficiency: slots[10],
+        grade: slots[11],
+        driveways: slots[12],
+        two_way_lane: slots[13],
+        passing: slots[14],
+        hazard_rating: slots[15],
+        skew: slots[16],
+        left_lanes: slots[17],
+        right_lanes: slots[18],
+        limited_sight: slots[19],
+    }
+}
+
+// A record whose kind and map are there, by the rules that they choose: s is what follows the map.
+fn read_fields(kind: u8, rules: [Rule; SLOTS], map: u16, s: &[u8]) -> SiteAnswer
+    requires { ⌜ length rules ≡ slotCount ⌝ }
+    ensures { λ r. ⌜ r ≡ readAnswer (recordNumber rules map (now (s .entry))) (siteOf kind (fieldsValues rules map (now (s .entry)))) (3 + 2 * words rules map) ⌝ }
+{
+    if map_lacks(rules, map) {
+        return SiteAnswer::Refused(6);
+    }
+    if map_misses(rules, map) {
+        return SiteAnswer::Refused(7);
+    }
+    let n = 2 * count_words(rules, map);
+    if s.len() < n {
+        return SiteAnswer::Refused(1);
+    }
+    let number = fields_number(rules, map, s);
+    if number != 0 {
+        return SiteAnswer::Refused(number);
+    }
+    let slots = fields_values(rules, map, s);
+    SiteAnswer::Read(site_of(kind, slots), 3 + n)
+}
+
+// The rules by which a kind and a map are read.
+fn rules_read(kind: u8, map: u16) -> [Rule; SLOTS]
+    requires { ⌜ kind ≤ lastKind ⌝ }
+    ensures { λ r. ⌜ r ≡ rulesRead kind map ⌝ }
+{
+    let entries = rules::entries_of(kind);
+    rules::settle_rules(is_curved(entries, map), entries)
+}
+
+// The record that a part starts with: its site and its length, or document 01's 1 or 5 to 9.
+pub fn read_site(part: &[u8]) -> SiteAnswer
+    ensures { λ r. ⌜ ReadsSite (now (part .entry)) r ⌝ }
+{
+    if part.len() < 3 {
+        return SiteAnswer::Refused(1);
+    }
+    let kind = part[0];
+    if LAST_KIND < kind {
+        return SiteAnswer::Refused(5);
+    }
+    let map = word_at(part, 1);
+    read_fields(kind, rules_read(kind, map), map, &part[3..])
+}

@@ -1,0 +1,73 @@
+-- `site_writer::do_all_fit` meets its contract. The loop's invariant: the slots before i are within their rules, so the others tell.
+-- Assumes nothing.
+use borrow.Author.Needs.{needs}
+use native.Mathlib.Omega.{arith}
+use mathlib.Core.Path.{_≡_}
+use Prim.Native.Nat.{_≤_, _-_}
+use lib.ListN.{drop}
+use Rattle.site.specs.Rules.{slotCount}
+use Rattle.site.specs.Writing.{allFit}
+use Rattle.site_writer.proofs.WriteSteps.{fit-hit, fit-miss, fit-end}
+use borrow.Author.Tests.{not-true, not-false}
+use Rattle.site_writer.proofs.do_all_fit.Statement.{statement}
+use Rattle.site_writer.proofs.do_all_fit.Tie as tie
+
+abbrev Inv-loop : tie.InvT-loop
+Inv-loop rules slots i₀ i = (i ≤ slotCount) × (allFit (drop i rules) (drop i slots) ≡ allFit rules slots)
+
+abbrev μ-loop : tie.MeasureT-loop
+μ-loop rules slots i₀ i = slotCount - i
+
+loop-holds : tie.Need-loop-holds Inv-loop μ-loop
+loop-holds c = search needs
+
+mul-does-fit : tie.Need-mul-does-fit Inv-loop μ-loop
+mul-does-fit c = omega arith
+
+array-copy-out-does-fit : tie.Need-array-copy-out-does-fit Inv-loop μ-loop
+array-copy-out-does-fit c = omega arith
+
+mul-does-fit-2 : tie.Need-mul-does-fit-2 Inv-loop μ-loop
+mul-does-fit-2 c = omega arith
+
+array-copy-out-does-fit-2 : tie.Need-array-copy-out-does-fit-2 Inv-loop μ-loop
+array-copy-out-does-fit-2 c = omega arith
+
+does-fit-requires : tie.Need-does-fit-requires Inv-loop μ-loop
+does-fit-requires c κs = search needs
+
+returns : tie.Need-returns Inv-loop μ-loop
+returns c = fit-hit _ _ _ _ (c .before .before .before .before .before .before .pre) (c .before .before .before .before .before .loop .inv .1) _ _ _ (c .before .before .before .before .loop-test .taken) (c .before .does-fit .ensures) (not-true (c .before .does-fit .result) (c .if1 .taken))
+
+add-i : tie.Need-add-i Inv-loop μ-loop
+add-i c = omega arith
+
+loop-less : tie.Need-loop-less Inv-loop μ-loop
+loop-less c = omega arith
+
+loop-again : tie.Need-loop-again Inv-loop μ-loop
+loop-again c = (
+  omega arith,
+  fit-miss _ _ _ _ (c .before .before .before .before .before .before .pre) (c .before .before .before .before .before .loop .inv .1) _ _ _ (c .before .before .before .before .loop-test .taken) (c .before .does-fit .ensures) (not-false (c .before .does-fit .result) (c .if1 .left)),
+)
+
+returns-2 : tie.Need-returns-2 Inv-loop μ-loop
+returns-2 c = fit-end _ _ _ _ (c .before .before .pre) (c .before .loop .inv .1) (c .loop-test .left)
+
+pub do-all-fit-spec : {M : Type 1} → statement M
+do-all-fit-spec =
+    tie.close
+    (tie.spec
+    Inv-loop
+    μ-loop
+    loop-holds
+    mul-does-fit
+    array-copy-out-does-fit
+    mul-does-fit-2
+    array-copy-out-does-fit-2
+    does-fit-requires
+    returns
+    add-i
+    loop-less
+    loop-again
+    returns-2)

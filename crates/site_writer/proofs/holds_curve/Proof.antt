@@ -1,0 +1,72 @@
+-- `site_writer::holds_curve` meets its contract. The loop's invariant: no slot of the curve before i holds a number, so the others tell.
+-- Assumes nothing.
+use borrow.Author.Needs.{needs}
+use native.Mathlib.Omega.{arith}
+use mathlib.Core.Path.{_≡_}
+use Prim.Native.Nat.{_≤_, _-_}
+use lib.ListN.{drop}
+use Rattle.site.specs.Rules.{slotCount}
+use Rattle.site.specs.Writing.{curveHeld}
+use Rattle.site_writer.proofs.WriteSteps.{held-hit, held-miss, held-end}
+use Rattle.site_writer.proofs.holds_curve.Statement.{statement}
+use Rattle.site_writer.proofs.holds_curve.Tie as tie
+
+abbrev Inv-loop : tie.InvT-loop
+Inv-loop entries slots i₀ i = (i ≤ slotCount) × (curveHeld (drop i entries) (drop i slots) ≡ curveHeld entries slots)
+
+abbrev μ-loop : tie.MeasureT-loop
+μ-loop entries slots i₀ i = slotCount - i
+
+loop-holds : tie.Need-loop-holds Inv-loop μ-loop
+loop-holds c = search needs
+
+mul-is-held : tie.Need-mul-is-held Inv-loop μ-loop
+mul-is-held c = omega arith
+
+array-copy-out-is-held : tie.Need-array-copy-out-is-held Inv-loop μ-loop
+array-copy-out-is-held c = omega arith
+
+mul-is-held-2 : tie.Need-mul-is-held-2 Inv-loop μ-loop
+mul-is-held-2 c = omega arith
+
+array-copy-out-is-held-2 : tie.Need-array-copy-out-is-held-2 Inv-loop μ-loop
+array-copy-out-is-held-2 c = omega arith
+
+is-held-requires : tie.Need-is-held-requires Inv-loop μ-loop
+is-held-requires c κs = search needs
+
+returns : tie.Need-returns Inv-loop μ-loop
+returns c = held-hit _ _ _ _ (c .before .before .before .before .before .before .pre) (c .before .before .before .before .before .loop .inv .1) _ _ _ (c .before .before .before .before .loop-test .taken) (c .before .is-held .ensures) (c .if1 .taken)
+
+add-i : tie.Need-add-i Inv-loop μ-loop
+add-i c = omega arith
+
+loop-less : tie.Need-loop-less Inv-loop μ-loop
+loop-less c = omega arith
+
+loop-again : tie.Need-loop-again Inv-loop μ-loop
+loop-again c = (
+  omega arith,
+  held-miss _ _ _ _ (c .before .before .before .before .before .before .pre) (c .before .before .before .before .before .loop .inv .1) _ _ _ (c .before .before .before .before .loop-test .taken) (c .before .is-held .ensures) (c .if1 .left),
+)
+
+returns-2 : tie.Need-returns-2 Inv-loop μ-loop
+returns-2 c = held-end _ _ _ _ (c .before .before .pre) (c .before .loop .inv .1) (c .loop-test .left)
+
+pub holds-curve-spec : {M : Type 1} → statement M
+holds-curve-spec =
+    tie.close
+    (tie.spec
+    Inv-loop
+    μ-loop
+    loop-holds
+    mul-is-held
+    array-copy-out-is-held
+    mul-is-held-2
+    array-copy-out-is-held-2
+    is-held-requires
+    returns
+    add-i
+    loop-less
+    loop-again
+    returns-2)

@@ -1,0 +1,71 @@
+-- `site_writer::map_of` meets its contract. The loop's invariant: the map so far is that of the slots from i on, which stays below 2 to their bits.
+-- Assumes nothing.
+use native.Mathlib.Omega.{arith}
+use mathlib.Core.Path.{_≡_}
+use Prim.Native.Nat.{_+_, _≤_, _-_}
+use lib.ListN.{drop}
+use Rattle.site.specs.Rules.{slotCount}
+use Rattle.site.specs.Writing.{mapOf}
+use Rattle.site.specs.Bytes.{map-small}
+use Rattle.site_writer.proofs.WriteSteps.{map-more, map-none}
+use Rattle.site_writer.proofs.map_of.Statement.{statement}
+use Rattle.site_writer.proofs.map_of.Tie as tie
+
+abbrev Inv-loop : tie.InvT-loop
+Inv-loop rules slots map₀ i₀ map i = (i ≤ slotCount) × (map ≡ mapOf (drop i rules) (drop i slots))
+
+abbrev μ-loop : tie.MeasureT-loop
+μ-loop rules slots map₀ i₀ map i = i
+
+loop-holds : tie.Need-loop-holds Inv-loop μ-loop
+loop-holds c = (omega arith, map-none (c .args .t1) (c .args .t2) slotCount (c .pre) (omega arith))
+
+sub-i : tie.Need-sub-i Inv-loop μ-loop
+sub-i c = omega arith
+
+mul-map-with : tie.Need-mul-map-with Inv-loop μ-loop
+mul-map-with c = omega arith
+
+array-copy-out-map-with : tie.Need-array-copy-out-map-with Inv-loop μ-loop
+array-copy-out-map-with c = omega arith
+
+mul-map-with-2 : tie.Need-mul-map-with-2 Inv-loop μ-loop
+mul-map-with-2 c = omega arith
+
+array-copy-out-map-with-2 : tie.Need-array-copy-out-map-with-2 Inv-loop μ-loop
+array-copy-out-map-with-2 c = omega arith
+
+map-with-requires : tie.Need-map-with-requires Inv-loop μ-loop
+map-with-requires c κs = omega (arith, map-small (c .before .before .before .before .args .t1) (c .before .before .before .before .args .t2) (c .before .before .before .loop .i) (c .before .before .before .before .pre .2))
+
+loop-less : tie.Need-loop-less Inv-loop μ-loop
+loop-less c = omega arith
+
+loop-again : tie.Need-loop-again Inv-loop μ-loop
+loop-again c =
+    let e : c .before .before .before .before .loop .i - 1 + 1 ≡ c .before .before .before .before .loop .i = omega arith in (
+      omega arith,
+      map-more _ _ (c .before .before .before .before .loop .i - 1) (c .before .before .before .before .before .pre) _ _ _ _ (omega arith) (rw e (c .before .before .before .before .loop .inv .1)) (c .map-with .ensures),
+    )
+
+returns : tie.Need-returns Inv-loop μ-loop
+returns c =
+    let e : c .before .loop .i ≡ 0 = omega arith in
+    rw e at (c .before .loop .inv .1)
+
+pub map-of-spec : {M : Type 1} → statement M
+map-of-spec =
+    tie.close
+    (tie.spec
+    Inv-loop
+    μ-loop
+    loop-holds
+    sub-i
+    mul-map-with
+    array-copy-out-map-with
+    mul-map-with-2
+    array-copy-out-map-with-2
+    map-with-requires
+    loop-less
+    loop-again
+    returns)

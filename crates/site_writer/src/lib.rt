@@ -1,0 +1,224 @@
+// The writer of one site's record.
+ghost use mathlib.Core.Path.{_≡_};
+ghost use Prim.Native.Nat.{_+_, _*_, _≤_, _<_};
+ghost use lib.ListN.{length};
+ghost use lib.Seq.{sets};
+ghost use mathlib.Core.Bool.{_&&_, not};
+ghost use Rattle.site.specs.Rules.{lastKind, slotCount, bits, onCurve, absent};
+ghost use Rattle.site.specs.Writing.{slotsOf, curveHeld, rulesHeld, fits, allFit, slotBit, mapOf, fieldBytes, bytesOf};
+ghost use Rattle.site.specs.Tested.{bitCount};
+ghost use Rattle.site.specs.Promises.{WritesSite};
+use site::rules;
+use site::rules::Entry;
+use site::rules::LAST_KIND;
+use site::rules::Rule;
+use site::rules::SLOTS;
+use site::values::Site;
+use site::values::Slot;
+use site::values::WriteAnswer;
+
+// The slots of a site, in the order of the rules.
+pub fn slots_of(site: Site) -> [Slot; SLOTS]
+    ensures { λ r. ⌜ r ≡ slotsOf site ⌝ }
+{
+    let traffic = site.traffic;
+    let length = site.length;
+    let minor_traffic = site.minor_traffic;
+    let observed = site.observed;
+    let lane_width = site.lane_width;
+    let shoulder_width = site.shoulder_width;
+    let shoulder_type = site.shoulder_type;
+    let curve_length = site.curve_length;
+    let radius = site.radius;
+    let spiral_ends = site.spiral_ends;
+    let deficiency = site.deficiency;
+    let grade = site.grade;
+    let driveways = site.driveways;
+    let two_way_lane = site.two_way_lane;
+    let passing = site.passing;
+    let hazard_rating = site.hazard_rating;
+    let skew = site.skew;
+    let left_lanes = site.left_lanes;
+    let right_lanes = site.right_lanes;
+    let limited_sight = site.limited_sight;
+    [
+        traffic,
+        length,
+        minor_traffic,
+        observed,
+        lane_width,
+        shoulder_width,
+        shoulder_type,
+        curve_length,
+        radius,
+        spiral_ends,
+        deficiency,
+        grade,
+        driveways,
+        two_way_lane,
+        passing,
+        hazard_rating,
+        skew,
+        left_lanes,
+        right_lanes,
+        limited_sight,
+    ]
+}
+
+fn is_held(entry: Entry, slot: Slot) -> bool
+    ensures { λ r. ⌜ r ≡ (onCurve entry && not (absent slot)) ⌝ }
+{
+    if rules::is_on_curve(entry) {
+        !rules::is_absent(slot)
+    } else {
+        false
+    }
+}
+
+// Whether a slot of the curve holds a number.
+fn holds_curve(entries: [Entry; SLOTS], slots: [Slot; SLOTS]) -> bool
+    requires { ⌜ (length entries ≡ slotCount) × (length slots ≡ slotCount) ⌝ }
+    ensures { λ r. ⌜ r ≡ curveHeld entries slots ⌝ }
+{
+    let mut i = 0;
+    while i < SLOTS {
+        if is_held(entries[i], slots[i]) {
+            return true;
+        }
+        i += 1;
+    }
+    false
+}
+
+// The rules by which a site is written.
+fn rules_held(kind: u8, slots: [Slot; SLOTS]) -> [Rule; SLOTS]
+    requires { ⌜ (kind ≤ lastKind) × (length slots ≡ slotCount) ⌝ }
+    ensures { λ r. ⌜ r ≡ rulesHeld kind slots ⌝ }
+{
+    let entries = rules::entries_of(kind);
+    rules::settle_rules(holds_curve(entries, slots), entries)
+}
+
+// Whether a slot is within its rule.
+fn does_fit(rule: Rule, slot: Slot) -> bool
+    ensures { λ r. ⌜ r ≡ fits rule slot ⌝ }
+{
+    match slot {
+        Slot::Absent => {
+            if rules::is_needed(rule) {
+                false
+            } else {
+                rules::is_absent(rules::absent_of(rule))
+            }
+        }
+        Slot::Number(value) => rules::does_allow(rule, value),
+    }
+}
+
+fn do_all_fit(rules: [Rule; SLOTS], slots: [Slot; SLOTS]) -> bool
+    requires { ⌜ (length rules ≡ slotCount) × (length slots ≡ slotCount) ⌝ }
+    ensures { λ r. ⌜ r ≡ allFit rules slots ⌝ }
+{
+    let mut i = 0;
+    while i < SLOTS {
+        if !does_fit(rules[i], slots[i]) {
+            return false;
+        }
+        i += 1;
+    }
+    true
+}
+
+// The bit of a slot: 0 where it is absent or its rule's default.
+fn slot_bit(rule: Rule, slot: Slot) -> u16
+    ensures { λ r. ⌜ r ≡ slotBit rule slot ⌝ }
+{
+    match slot {
+        Slot::Absent => 0,
+        Slot::Number(value) => {
+            if rules::does_hold(rules::absent_of(rule), value) {
+                0
+            } else {
+                rules::bits_of(rule)
+            }
+        }
+    }
+}
+
+// The bit of a slot before the bits of the slots after it.
+fn map_with(rule: Rule, slot: Slot, later: u16) -> u16
+    requires { ⌜ later < 32768 ⌝ }
+    ensures { λ r. ⌜ r ≡ slotBit rule slot + (1 + bits rule) * later ⌝ }
+{
+    slot_bit(rule, slot) + (1 + rules::bits_of(rule)) * later
+}
+
+fn map_of(rules: [Rule; SLOTS], slots: [Slot; SLOTS]) -> u16
+    requires { ⌜ (length rules ≡ slotCount) × (length slots ≡ slotCount) × (bitCount rules ≤ 15) ⌝ }
+    ensures { λ r. ⌜ r ≡ mapOf rules slots ⌝ }
+{
+    let mut map = 0;
+    let mut i = SLOTS;
+    while 0 < i {
+        i -= 1;
+        map = map_with(rules[i], slots[i], map);
+    }
+    map
+}
+
+// Writes a field at a place, where its bit stands, and answers the place after it.
+fn put_field(rule: Rule, slot: Slot, buffer: &mut [u8], at: usize) -> usize
+    requires { ⌜ at + length (fieldBytes rule slot) ≤ length (now buffer) ⌝ }
+    ensures { λ r. ⌜ (r ≡ at + length (fieldBytes rule slot)) × (now (buffer .exit) ≡ sets (now (buffer .entry)) at (fieldBytes rule slot)) ⌝ }
+{
+    if slot_bit(rule, slot) == 1 {
+        match slot {
+            Slot::Absent => at,
+            Slot::Number(value) => {
+                buffer[at] = (value / 256) as u8;
+                buffer[at + 1] = (value % 256) as u8;
+                at + 2
+            }
+        }
+    } else {
+        at
+    }
+}
+
+// Writes the fields, in rising order, after the kind and the map.
+fn put_fields(rules: [Rule; SLOTS], slots: [Slot; SLOTS], buffer: &mut [u8])
+    requires { ⌜ (length rules ≡ slotCount) × (length slots ≡ slotCount) × (3 + length (bytesOf rules slots) ≤ length (now buffer)) ⌝ }
+    ensures { λ r. ⌜ now (buffer .exit) ≡ sets (now (buffer .entry)) 3 (bytesOf rules slots) ⌝ }
+{
+    let mut at = 3;
+    let mut i = 0;
+    while i < SLOTS {
+        at = put_field(rules[i], slots[i], buffer, at);
+        i += 1;
+    }
+}
+
+// Writes the record of a site from the start of the buffer: its length, or document 01's 8 or 10.
+pub fn write_site(site: Site, buffer: &mut [u8]) -> WriteAnswer
+    ensures { λ r. ⌜ WritesSite site (now (buffer .entry)) (now (buffer .exit)) r ⌝ }
+{
+    let kind = site.kind;
+    if LAST_KIND < kind {
+        return WriteAnswer::Unwritten(8);
+    }
+    let slots = slots_of(site);
+    let rules = rules_held(kind, slots);
+    if !do_all_fit(rules, slots) {
+        return WriteAnswer::Unwritten(8);
+    }
+    let map = map_of(rules, slots);
+    let n = 3 + 2 * site_reader::count_words(rules, map);
+    if buffer.len() < n {
+        return WriteAnswer::Unwritten(10);
+    }
+    buffer[0] = kind;
+    buffer[1] = (map / 256) as u8;
+    buffer[2] = (map % 256) as u8;
+    put_fields(rules, slots, buffer);
+    WriteAnswer::Written(n)
+}
