@@ -5,7 +5,7 @@ pub mod stored;
 ghost use mathlib.Core.Path.{_≡_};
 ghost use Prim.Native.Nat.{_≤_};
 ghost use Rattle.logarithm.specs.Stored.{StoredLogarithms};
-ghost use Rattle.logarithm.specs.Logarithm.{logarithmLow, logarithmHigh, logarithmBracket, logarithmAnswer, LogarithmStands};
+ghost use Rattle.logarithm.specs.Logarithm.{logarithmBracket, logarithmAnswer, LogarithmStands};
 use crate::stored::stored_high;
 use crate::stored::stored_logarithms;
 use crate::stored::stored_low;
@@ -17,37 +17,19 @@ use remainder::split;
 
 const SCALE: u64 = 1_000_000_000_000;
 
-// The low end, in units of 10^-12.
-pub fn logarithm_low_with(stored: &[u64; 256], a: u64) -> u64
-    requires { ⌜ StoredLogarithms (now stored) × (1 ≤ a) × (a ≤ 20000) ⌝ }
-    ensures { λ r. ⌜ r ≡ logarithmLow a ⌝ }
-{
-    let s = split(a);
-    let first = stored_low(stored, s.n);
-    let second = stored_low(stored, s.m);
-    first + second + log_low(s.n * s.m, s.r)
-}
-
-// The high end.
-pub fn logarithm_high_with(stored: &[u64; 256], a: u64) -> u64
-    requires { ⌜ StoredLogarithms (now stored) × (1 ≤ a) × (a ≤ 20000) ⌝ }
-    ensures { λ r. ⌜ r ≡ logarithmHigh a ⌝ }
-{
-    let s = split(a);
-    let first = stored_high(stored, s.n);
-    let second = stored_high(stored, s.m);
-    first + second + log_high(s.n * s.m, s.r)
-}
-
-// Both ends.
+// Both ends in units of 10^-12, with the stored numbers lent.
 pub fn logarithm_with(stored: &[u64; 256], a: u64) -> Bracket
     requires { ⌜ StoredLogarithms (now stored) × (1 ≤ a) × (a ≤ 20000) ⌝ }
     ensures { λ r. ⌜ r ≡ logarithmBracket a ⌝ }
 {
+    let s = split(a);
+    let product = s.n * s.m;
+    let low = stored_low(stored, s.n) + stored_low(stored, s.m) + log_low(product, s.r);
+    let high = stored_high(stored, s.n) + stored_high(stored, s.m) + log_high(product, s.r);
     Bracket {
-        low_num: logarithm_low_with(stored, a),
+        low_num: low,
         low_den: SCALE,
-        high_num: logarithm_high_with(stored, a),
+        high_num: high,
         high_den: SCALE,
     }
 }
