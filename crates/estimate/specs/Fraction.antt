@@ -31,7 +31,7 @@ pub record _=ᶠ_ (a b : Fraction) : Type 0 where
 unfoldable pub fraction : (n d : ℕ) → 0 < d → Fraction
 fraction n d h = record { num = n; den = d; pos = h }
 
--- n / d, for a d that is written out and not 0 (n // 0, which nothing here uses, is n)
+-- n / d, for a d that is not 0; //-den says that it is then the denominator (n // 0 is n)
 infix 75 _//_
 unfoldable pub _//_ : ℕ → ℕ → Fraction
 unfolding fraction

@@ -60,10 +60,10 @@ at-least-stored : (e l a R : ℕ) → R ≤ l → e * l < a * R + R → e ≤ a
 at-least-stored e l a R ll fl = le-of-suc-le-suc (lt-of-mul-lt-mul-right R {m = e} {n = suc a} (omega (arith, mul-le-mul-left e ll)))
 
 -- THE TRUE WIDTH: high - low is at most high / 10^10
-abbrev pub trueWidth : ℕ
-trueWidth = 10 ^ 10
+abbrev pub shownWidth : ℕ
+shownWidth = 10 ^ 10
 
-close : (e a b : ℕ) → b * scale ≤ a * scale + 56 * e → e ≤ a → trueWidth * b ≤ trueWidth * a + b
+close : (e a b : ℕ) → b * scale ≤ a * scale + 56 * e → e ≤ a → shownWidth * b ≤ shownWidth * a + b
 close e a b h k = omega arith
 
 module _ (x : ℕ) (within : x ≤ exponentialLimit) where
@@ -78,7 +78,7 @@ module _ (x : ℕ) (within : x ≤ exponentialLimit) where
   exp-low-≥-stored : storedExp (x / 10000) ≤ expLow x
   exp-low-≥-stored = at-least-stored _ _ (expLow x) scale (taylor-least (x % 10000) (rest x within)) exp-low-near
 
-  pub exp-ends-close : trueWidth * expHigh x ≤ trueWidth * expLow x + expHigh x
+  pub exp-ends-close : shownWidth * expHigh x ≤ shownWidth * expLow x + expHigh x
   exp-ends-close =
       close (storedExp (x / 10000)) (expLow x) (expHigh x)
       (apart _ (taylorLow (x % 10000)) (taylorHigh (x % 10000)) (expLow x) (expHigh x) scale (taylor-near (x % 10000) (rest x within)) (lit≤ tt)

@@ -15,15 +15,15 @@ use Rattle.bracket.specs.Bracket.{Stands, RelativeWidth, exponentialWidth}
 use Rattle.bracket.specs.declared.Bracket.{Bracket}
 use Rattle.exponential.specs.Scale.{scale, scale-positive, scaled, tenThousandths}
 use Rattle.exponential.specs.Exponential.{expLow, expHigh, expMost, expBracket, expNegBracket, exponentialLimit, inRange, exponentialAnswer, exponentialNegativeAnswer, Promised, AnswerStands, ExponentialStands, ExponentialNegativeStands}
-use Rattle.exponential.specs.ExponentialEnds.{exp-low-at-most, exp-high-at-least, exp-ends-in-order, exp-ends-close, exp-low-least, exp-low-most, exp-high-least, exp-high-most, trueWidth}
+use Rattle.exponential.specs.ExponentialEnds.{exp-low-at-most, exp-high-at-least, exp-ends-in-order, exp-ends-close, exp-low-least, exp-low-most, exp-high-least, exp-high-most, shownWidth}
 
 -- THE STATED WIDTH follows from the true one: what is narrower than stated has the stated width
 narrower : (R S r L H : ℕ) → R ≤ S → L ≤ H → S * H ≤ S * L + r * H → R * H ≤ R * L + r * H
 narrower R S r L H le order w = omega (arith, mul-le-mul-left (S - R) order, ap (λ z. z * L) (sub-add-cancel le), ap (λ z. z * H) (sub-add-cancel le))
 
-promised : {b : Bracket} {under over : ℕ → Fraction} → Stands b under over → RelativeWidth trueWidth 1 b → Promised under over b
+promised : {b : Bracket} {under over : ℕ → Fraction} → Stands b under over → RelativeWidth shownWidth 1 b → Promised under over b
 unfolding exponentialWidth fraction
-promised s w = record { stands = s; width = record { width = narrower _ trueWidth 1 _ _ (lit≤ tt) (s .in-order .cross) (w .width) } }
+promised s w = record { stands = s; width = record { width = narrower _ shownWidth 1 _ _ (lit≤ tt) (s .in-order .cross) (w .width) } }
 
 -- THE BRACKET OF e^x
 
@@ -52,7 +52,7 @@ module _ (x : ℕ) (within : x ≤ exponentialLimit) where
     in-order = exp-ends-in-order x within;
   }
 
-  pub exp-width : RelativeWidth trueWidth 1 (expBracket x)
+  pub exp-width : RelativeWidth shownWidth 1 (expBracket x)
   unfolding expBracket
   exp-width = record { width = omega (arith, exp-ends-close x within) }
 
@@ -100,7 +100,7 @@ module _ (x : ℕ) (within : x ≤ exponentialLimit) where
     in-order = inverse-antitone {a = scaled (expLow x)} {b = scaled (expHigh x)} low-positive high-positive (exp-ends-in-order x within);
   }
 
-  pub exp-neg-width : RelativeWidth trueWidth 1 (expNegBracket x)
+  pub exp-neg-width : RelativeWidth shownWidth 1 (expNegBracket x)
   unfolding expNegBracket expBracket
   exp-neg-width = record { width = omega (arith, exp-ends-close x within) }
 

@@ -7,7 +7,7 @@ use native.Mathlib.Omega.{arith}
 use lib.Dec.{lit<}
 use Rattle.estimate.specs.Fraction.{Fraction, fraction, _≤ᶠ_, _//_, whole, millionths}
 use Rattle.estimate.specs.FractionLaws.{≤ᶠ-trans}
-use Rattle.estimate.specs.Standing.{LowRight, HighRight, smaller-low-right, larger-high-right}
+use Rattle.estimate.specs.Standing.{LowRight, HighRight}
 use Rattle.wide.specs.Scaling.{floor, ceiling}
 use Rattle.wide.specs.Rounding.{Narrow, floor-le, floor-lt, ceiling-ge, ceiling-lt, ≤-floor, floor-≤, ≤-ceiling, ceiling-≤, scaled-order, rounded-width}
 use Rattle.model.specs.Expected.{weighed, expectedLow, expectedHigh}

@@ -11,3 +11,4 @@ pub mod Expected
 pub mod ExpectedLaws
 pub mod Truncation
 pub mod KnownFigures
+pub mod Tempting

@@ -1,9 +1,9 @@
 -- The parts of a site's prediction, each with its under- and its over-estimate at depth d.
 use Prim.Native.Nat.{ℕ, _+_, _-_, _*_}
 use mathlib.Core.Bool.{cond}
-use mathlib.Core.List.{List, [], _∷_, _++_}
+use mathlib.Core.List.{List, [], _∷_}
 use lib.Dec.{leb, eqb}
-use Rattle.estimate.specs.Fraction.{Fraction, _//_, whole, _*ᶠ_, lesser, greater}
+use Rattle.estimate.specs.Fraction.{Fraction, _//_, whole, lesser, greater}
 use Rattle.estimate.specs.Power.{powerUnder, powerOver}
 use Rattle.estimate.specs.Exponential.{expUnder, expOver, expNegUnder, expNegOver}
 use Rattle.estimate.specs.Logarithm.{lnUnder, lnOver}

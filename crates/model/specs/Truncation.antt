@@ -1,4 +1,5 @@
--- No subtraction of the factors is cut off at 0.
+-- The driveway part's slope and the values that fall with traffic are not cut off at 0. The other subtractions of the factors
+-- stand behind a test that keeps them from it.
 use Prim.Native.Nat.{ℕ, zero, suc, _-_, _*_, _≤_}
 use mathlib.Core.Bool.{Bool, true, false}
 use mathlib.Core.List.{List, [], _∷_}

@@ -22,7 +22,7 @@ column light adds takes heavy = record { light = light; adds = adds; takes = tak
 abbrev pub atTraffic : Column → ℕ → ℕ
 atTraffic c traffic =
     cond (ltb traffic 400) (c .light)
-    (cond (leb traffic 2000) (c .light + c .adds * (traffic - 400) - c .takes * (traffic - 400))
+    (cond (leb traffic 2000) ((c .light + c .adds * (traffic - 400)) - c .takes * (traffic - 400))
     (c .heavy))
 
 -- "Lane (9 or less, 10, 11, 12 or more feet): 1.05, 1.02, 1.01, 1.00 .. add 0.000281, 0.000175, 0.000025, 0 .. 1.50, 1.30, 1.05, 1.00"

@@ -13,6 +13,10 @@ abbrev pub readNumber : SiteAnswer → ℕ
 readNumber (Read site n) = 0
 readNumber (Refused number) = number
 
+-- the place of the reader's answer: "at place 0"
+abbrev pub readPlace : SiteAnswer → ℕ
+readPlace answer = 0
+
 -- the answer that has a number, and on 0 these values
 abbrev pub readAnswer : ℕ → Site → ℕ → SiteAnswer
 readAnswer number site n = cond (eqb number 0) (Read site n) (Refused number)
@@ -21,6 +25,10 @@ readAnswer number site n = cond (eqb number 0) (Read site n) (Refused number)
 abbrev pub writeNumber : WriteAnswer → ℕ
 writeNumber (Written n) = 0
 writeNumber (Unwritten number) = number
+
+-- "at place 0"
+abbrev pub writePlace : WriteAnswer → ℕ
+writePlace answer = 0
 
 abbrev pub wroteAnswer : ℕ → ℕ → WriteAnswer
 wroteAnswer number n = cond (eqb number 0) (Written n) (Unwritten number)

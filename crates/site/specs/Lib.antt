@@ -12,7 +12,7 @@ pub mod Accepted
 pub mod WriteRead
 pub mod ReadWrite
 pub mod Bytes
-pub mod Bears
+pub mod BytesRead
 pub mod Curve
 pub mod Ranges
 pub mod Theorems

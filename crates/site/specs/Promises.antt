@@ -11,7 +11,7 @@ use Rattle.site.specs.declared.values.SiteAnswer.{SiteAnswer}
 use Rattle.site.specs.declared.values.SiteAnswer.the-variants.{Read}
 use Rattle.site.specs.declared.values.WriteAnswer.{WriteAnswer}
 use Rattle.site.specs.declared.values.WriteAnswer.the-variants.{Written, Unwritten}
-use Rattle.site.specs.Answers.{readNumber, writeNumber, wroteAnswer}
+use Rattle.site.specs.Answers.{readNumber, readPlace, writeNumber, writePlace, wroteAnswer}
 use Rattle.site.specs.Record.{refusalOf, readSite}
 use Rattle.site.specs.Writing.{recordOf, Valid, writeRefusal, writeAnswer, writeInto}
 use Rattle.site.specs.Accepted.{number-read}
@@ -22,6 +22,7 @@ use Rattle.site.specs.Theorems.{RecordLength, read-length}
 pub record ReadsSite (part : List ℕ) (answer : SiteAnswer) : Type 0 where
   pub answer-is : answer ≡ readSite part
   pub number-is : readNumber answer ≡ refusalOf part
+  pub place-is : readPlace answer ≡ 0
   pub valid : (site : Site) (n : ℕ) → answer ≡ Read site n → Valid site
   pub bounds : (site : Site) (n : ℕ) → answer ≡ Read site n → RecordLength part n
 
@@ -30,6 +31,7 @@ reads-site part answer e =
     record {
       answer-is = e;
       number-is = ap readNumber e ∙ number-read part;
+      place-is = refl;
       valid = λ site n q. read-valid part site n (sym e ∙ q);
       bounds = λ site n q. read-length part site n (sym e ∙ q);
     }
@@ -38,6 +40,7 @@ reads-site part answer e =
 pub record WritesSite (site : Site) (before afterwards : List ℕ) (answer : WriteAnswer) : Type 0 where
   pub answer-is : answer ≡ writeAnswer site (length before)
   pub number-is : writeNumber answer ≡ writeRefusal site (length before)
+  pub place-is : writePlace answer ≡ 0
   pub buffer-is : afterwards ≡ writeInto site before
 
 number-wrote : (number n : ℕ) → writeNumber (wroteAnswer number n) ≡ number
@@ -55,4 +58,4 @@ pub writes-site : (site : Site) (before afterwards : List ℕ) (answer : WriteAn
     → answer ≡ writeAnswer site (length before) → afterwards ≡ writeInto site before
     → WritesSite site before afterwards answer
 writes-site site before afterwards answer e b =
-    record { answer-is = e; number-is = ap writeNumber e ∙ number-written site (length before); buffer-is = b }
+    record { answer-is = e; number-is = ap writeNumber e ∙ number-written site (length before); place-is = refl; buffer-is = b }

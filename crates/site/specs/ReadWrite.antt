@@ -16,7 +16,7 @@ use Rattle.site.specs.declared.values.Slot.the-variants.{Absent, Number}
 use Rattle.site.specs.declared.values.Site.{Site}
 use Rattle.site.specs.declared.values.SiteAnswer.the-variants.{Read}
 use Rattle.site.specs.Rules.{entriesOf, lastKind, slotCount, allows, absentOf, needed, bits, settle, absent, holds}
-use Rattle.site.specs.Record.{word, bitOf, restOf, stands, strays, wants, anyField, lacks, misses, curved, rulesRead, words, valueNumber, fieldNumber, fieldValue, after, fieldsNumber, fieldsValues, siteOf, kindIn, mapIn, rulesIn, lengthIn, siteIn, readSite}
+use Rattle.site.specs.Record.{word, bitOf, restOf, stands, lackedBitStands, neededBitAbsent, anyField, lacks, misses, curved, rulesRead, words, valueNumber, fieldNumber, fieldValue, after, fieldsNumber, fieldsValues, siteOf, kindIn, mapIn, rulesIn, lengthIn, siteIn, readSite}
 use Rattle.site.specs.Writing.{slotsOf, curveHeld, rulesHeld, fits, allFit, slotBit, mapOf, fieldBytes, bytesOf, recordBy, recordOf, sound, Valid}
 use Rattle.site.specs.Truth.{and-left, and-right, or-left, or-right, both-zero}
 use Rattle.site.specs.Digits.{Bytes, digit-whole, digit-most, bytes-of-word}
@@ -52,7 +52,7 @@ module _ (rule : Rule) (map : ℕ) (s : List ℕ) (h : 2 * bitOf rule map ≤ le
       let two : 2 ≤ length s = omega arith in
       record { fit = rw e (q .0); bit = rw (e, q .1) one; bytes = λ bytes. rw (e, q .1, one) (bytes-of-word s bytes two) }
 
-  forth-absent : bitOf rule map ≡ 0 → right rule ≡ true → wants rule map ≡ false → Forth rule map s
+  forth-absent : bitOf rule map ≡ 0 → right rule ≡ true → neededBitAbsent rule map ≡ false → Forth rule map s
   forth-absent e ri wa =
       let n : needed rule ≡ false = unneeded (needed rule) (rw e at wa) in
       let a = absent-unwritten rule in
@@ -62,7 +62,7 @@ module _ (rule : Rule) (map : ℕ) (s : List ℕ) (h : 2 * bitOf rule map ≤ le
       unneeded true q = q
       unneeded false q = refl
 
-  forth : right rule ≡ true → wants rule map ≡ false → fieldNumber rule map s ≡ 0 → Forth rule map s
+  forth : right rule ≡ true → neededBitAbsent rule map ≡ false → fieldNumber rule map s ≡ 0 → Forth rule map s
   forth ri wa nu = by (stands rule map) refl
     where
       by : (b : Bool) → stands rule map ≡ b → Forth rule map s
@@ -82,8 +82,8 @@ forths [] map s ri h la mi nu =
     record { fit = refl; map-is = omega (arith, ltb-false 0 map la); bytes = λ bytes. refl; count = refl }
 forths (rule ∷ rules) map s ri h la mi nu =
     let n = both-zero (fieldNumber rule map s) (fieldsNumber rules (restOf rule map) (after rule map s)) (eqb (fieldNumber rule map s) 0) refl nu in
-    let f = forth rule map s (omega arith) (and-left (right rule) (rulesRight rules) ri) (or-left (wants rule map) (misses rules (restOf rule map)) mi) (n .0) in
-    let fs = forths rules (restOf rule map) (after rule map s) (and-right (right rule) (rulesRight rules) ri) (omega (arith, length-drop (2 * bitOf rule map) s)) (or-right (strays rule map) (lacks rules (restOf rule map)) la) (or-right (wants rule map) (misses rules (restOf rule map)) mi) (n .1) in
+    let f = forth rule map s (omega arith) (and-left (right rule) (rulesRight rules) ri) (or-left (neededBitAbsent rule map) (misses rules (restOf rule map)) mi) (n .0) in
+    let fs = forths rules (restOf rule map) (after rule map s) (and-right (right rule) (rulesRight rules) ri) (omega (arith, length-drop (2 * bitOf rule map) s)) (or-right (lackedBitStands rule map) (lacks rules (restOf rule map)) la) (or-right (neededBitAbsent rule map) (misses rules (restOf rule map)) mi) (n .1) in
     let d : 2 * (bitOf rule map + words rules (restOf rule map)) ≡ 2 * bitOf rule map + 2 * words rules (restOf rule map) = omega arith in
     record {
       fit = rw (f .fit, fs .fit);

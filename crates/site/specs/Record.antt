@@ -33,26 +33,26 @@ anyField rule test last [] map = last map
 anyField rule test last (x ∷ xs) map = test x map || anyField rule test last xs (restOf (rule x) map)
 
 -- 6, "bit the kind lacks": it stands, or a bit past the last field does
-abbrev pub strays : Rule → ℕ → Bool
-strays rule map = lacking rule && stands rule map
+abbrev pub lackedBitStands : Rule → ℕ → Bool
+lackedBitStands rule map = lacking rule && stands rule map
 
 abbrev pub lacks : List Rule → ℕ → Bool
-lacks rules map = anyField (λ (rule : Rule). rule) strays (λ (left : ℕ). ltb 0 left) rules map
+lacks rules map = anyField (λ (rule : Rule). rule) lackedBitStands (λ (left : ℕ). ltb 0 left) rules map
 
 -- 7, "needed bit absent"
-abbrev pub wants : Rule → ℕ → Bool
-wants rule map = needed rule && not (stands rule map)
+abbrev pub neededBitAbsent : Rule → ℕ → Bool
+neededBitAbsent rule map = needed rule && not (stands rule map)
 
 abbrev pub misses : List Rule → ℕ → Bool
-misses rules map = anyField (λ (rule : Rule). rule) wants (λ (left : ℕ). false) rules map
+misses rules map = anyField (λ (rule : Rule). rule) neededBitAbsent (λ (left : ℕ). false) rules map
 
 -- a record has a curve where a bit of the curve stands. The rules are then those of a curve, by which both its needed bits
 -- must stand: 7, "curve bits unmatched"
-abbrev pub bends : Entry → ℕ → Bool
-bends entry map = onCurve entry && stands (ruleOf entry) map
+abbrev pub curveBitStands : Entry → ℕ → Bool
+curveBitStands entry map = onCurve entry && stands (ruleOf entry) map
 
 abbrev pub curved : List Entry → ℕ → Bool
-curved entries map = anyField ruleOf bends (λ (left : ℕ). false) entries map
+curved entries map = anyField ruleOf curveBitStands (λ (left : ℕ). false) entries map
 
 abbrev pub rulesRead : ℕ → ℕ → List Rule
 rulesRead kind map = settle (curved (entriesOf kind) map) (entriesOf kind)

@@ -1,12 +1,12 @@
 -- What other crates cite of the site reader and the site writer. The round trips themselves are `write-read` of WriteRead and
--- `read-write` of ReadWrite; `past-nothing`, `same-for-any` and `one-exactly` of Bears say which bytes bear on an answer.
+-- `read-write` of ReadWrite; `past-nothing`, `same-for-any` and `one-exactly` of BytesRead say which bytes bear on an answer.
 use mathlib.Core.Path.{_≡_, refl}
 use mathlib.Core.Bool.{Bool, true, false, cond}
 use mathlib.Core.List.{List, [], _∷_, _++_}
 use mathlib.Core.Logic.{_↔_}
 use Prim.Native.Nat.{ℕ, _+_, _<_, _≤_}
 use native.Mathlib.Omega.{arith}
-use lib.ListN.{length, length-drop}
+use lib.ListN.{length, drop, length-drop}
 use lib.Dec.{leb}
 use borrow.Author.Tests.{leb-true, leb-false, le-leb, lt-leb}
 use Rattle.site.specs.declared.rules.Rule.{Rule}
@@ -14,7 +14,7 @@ use Rattle.site.specs.declared.values.Site.{Site}
 use Rattle.site.specs.declared.values.SiteAnswer.the-variants.{Read}
 use Rattle.site.specs.Rules.{entriesOf, bits}
 use Rattle.site.specs.Record.{curved, restOf, words, kindIn, mapIn, rulesIn, readSite}
-use Rattle.site.specs.Writing.{recordOf, sound, Valid, writeRefusal}
+use Rattle.site.specs.Writing.{recordOf, sound, Valid, writeRefusal, writeInto}
 use Rattle.site.specs.Digits.{Bytes, digit-most}
 use Rattle.site.specs.Tested.{bitCount, sane}
 use Rattle.site.specs.Accepted.{reading}
@@ -99,3 +99,20 @@ module _ (site : Site) where
       by true true p q e = (record { is-sound = p }, leb-true (length (recordOf site)) room q)
       by true false p q e = absurd (omega arith)
       by false b p q e = absurd (omega arith)
+
+  -- what the writer leaves in the buffer reads back as the same site, whatever follows it there
+  pub written-reads-back : (before : List ℕ) → Valid site → length (recordOf site) ≤ length before → readSite (writeInto site before) ≡ Read site (length (recordOf site))
+  unfolding writeInto
+  written-reads-back before v h =
+      rw (v .is-sound, le-leb (length (recordOf site)) (length before) h) (write-read site (drop (length (recordOf site)) before) v)
+
+  -- a refusal leaves the buffer as it was
+  pub refused-leaves : (before : List ℕ) → (writeRefusal site (length before) ≡ 0 → ⊥) → writeInto site before ≡ before
+  unfolding writeRefusal writeInto
+  refused-leaves before refused = by (sound site) (leb (length (recordOf site)) (length before)) refused
+    where
+      by : (a b : Bool) → (_≡_ {A = ℕ} (cond a (cond b 0 10) 8) 0 → ⊥)
+          → cond a (cond b (recordOf site ++ drop (length (recordOf site)) before) before) before ≡ before
+      by true true never = absurd (never refl)
+      by true false never = refl
+      by false b never = refl

@@ -16,7 +16,7 @@ use Rattle.site.specs.declared.values.Slot.the-variants.{Absent, Number}
 use Rattle.site.specs.declared.values.Site.{Site}
 use Rattle.site.specs.declared.values.SiteAnswer.the-variants.{Read}
 use Rattle.site.specs.Rules.{entriesOf, lastKind, slotCount, allows, absentOf, needed, lacking, bits, settle, absent, holds}
-use Rattle.site.specs.Record.{bitOf, stands, strays, wants, anyField, lacks, misses, curved, rulesRead, words, fieldNumber, fieldValue, after, fieldsNumber, fieldsValues, siteOf, readSite}
+use Rattle.site.specs.Record.{bitOf, stands, lackedBitStands, neededBitAbsent, anyField, lacks, misses, curved, rulesRead, words, fieldNumber, fieldValue, after, fieldsNumber, fieldsValues, siteOf, readSite}
 use Rattle.site.specs.Writing.{slotsOf, curveHeld, rulesHeld, fits, allFit, slotBit, mapOf, slotBytes, fieldBytes, bytesOf, recordBy, recordOf, sound, Valid}
 use Rattle.site.specs.Truth.{and-left, and-right, not-both}
 use Rattle.site.specs.Digits.{digit-low, digit-rest, two-bytes}
@@ -51,8 +51,8 @@ slot-bit-most rule (Number value) = by (holds (absentOf rule) value)
 
 -- what one field that is written says to the reader
 record Back (rule : Rule) (slot : Slot) (map : ℕ) (t : List ℕ) : Type 0 where
-  pub stray : strays rule map ≡ false
-  pub want : wants rule map ≡ false
+  pub stray : lackedBitStands rule map ≡ false
+  pub want : neededBitAbsent rule map ≡ false
   pub number : fieldNumber rule map (fieldBytes rule slot ++ t) ≡ 0
   pub value : fieldValue rule map (fieldBytes rule slot ++ t) ≡ slot
   pub rest : after rule map (fieldBytes rule slot ++ t) ≡ t

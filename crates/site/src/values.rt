@@ -10,8 +10,6 @@ pub enum Slot {
 // One site. The slots stand in the rising order of the bits of each kind: a segment's bits skip
 // minor_traffic and end at hazard_rating, a crossing's are traffic, minor_traffic, observed and
 // skew to limited_sight. Kinds above 3 can be held, and no record has one.
-// Request 4's yearly values will be two nested structs of nine slots, one for each traffic field;
-// request 14's lighting will be one more slot after limited_sight.
 pub struct Site {
     pub kind: u8,
     pub traffic: Slot,

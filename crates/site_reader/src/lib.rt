@@ -4,7 +4,7 @@ ghost use Prim.Native.Nat.{_+_, _*_, _≤_, _<_};
 ghost use lib.ListN.{length, drop};
 ghost use Rattle.site.specs.Rules.{lastKind, slotCount};
 ghost use Rattle.site.specs.Answers.{readAnswer};
-ghost use Rattle.site.specs.Record.{word, bitOf, restOf, stands, strays, lacks, wants, misses, bends, curved, rulesRead, fieldWords, words, valueNumber, fieldNumber, fieldValue, fieldsNumber, fieldsValues, siteOf, recordNumber};
+ghost use Rattle.site.specs.Record.{word, bitOf, restOf, stands, lackedBitStands, lacks, neededBitAbsent, misses, curveBitStands, curved, rulesRead, fieldWords, words, valueNumber, fieldNumber, fieldValue, fieldsNumber, fieldsValues, siteOf, recordNumber};
 ghost use Rattle.site.specs.Promises.{ReadsSite};
 use site::rules;
 use site::rules::Entry;
@@ -50,8 +50,8 @@ fn does_stand(rule: Rule, map: u16) -> bool
     bit_of(rule, map) == 1
 }
 
-fn does_stray(rule: Rule, map: u16) -> bool
-    ensures { λ r. ⌜ r ≡ strays rule map ⌝ }
+fn lacked_bit_stands(rule: Rule, map: u16) -> bool
+    ensures { λ r. ⌜ r ≡ lackedBitStands rule map ⌝ }
 {
     if rules::is_lacking(rule) {
         does_stand(rule, map)
@@ -60,8 +60,8 @@ fn does_stray(rule: Rule, map: u16) -> bool
     }
 }
 
-fn does_want(rule: Rule, map: u16) -> bool
-    ensures { λ r. ⌜ r ≡ wants rule map ⌝ }
+fn needed_bit_absent(rule: Rule, map: u16) -> bool
+    ensures { λ r. ⌜ r ≡ neededBitAbsent rule map ⌝ }
 {
     if rules::is_needed(rule) {
         !does_stand(rule, map)
@@ -70,8 +70,8 @@ fn does_want(rule: Rule, map: u16) -> bool
     }
 }
 
-fn does_bend(entry: Entry, map: u16) -> bool
-    ensures { λ r. ⌜ r ≡ bends entry map ⌝ }
+fn curve_bit_stands(entry: Entry, map: u16) -> bool
+    ensures { λ r. ⌜ r ≡ curveBitStands entry map ⌝ }
 {
     if rules::is_on_curve(entry) {
         does_stand(rules::rule_of(entry), map)
@@ -89,7 +89,7 @@ fn is_curved(entries: [Entry; SLOTS], map: u16) -> bool
     let mut i = 0;
     while i < SLOTS {
         let entry = entries[i];
-        if does_bend(entry, rest) {
+        if curve_bit_stands(entry, rest) {
             return true;
         }
         rest = rest_of(rules::rule_of(entry), rest);
@@ -107,7 +107,7 @@ fn map_lacks(rules: [Rule; SLOTS], map: u16) -> bool
     let mut i = 0;
     while i < SLOTS {
         let rule = rules[i];
-        if does_stray(rule, rest) {
+        if lacked_bit_stands(rule, rest) {
             return true;
         }
         rest = rest_of(rule, rest);
@@ -125,7 +125,7 @@ fn map_misses(rules: [Rule; SLOTS], map: u16) -> bool
     let mut i = 0;
     while i < SLOTS {
         let rule = rules[i];
-        if does_want(rule, rest) {
+        if needed_bit_absent(rule, rest) {
             return true;
         }
         rest = rest_of(rule, rest);

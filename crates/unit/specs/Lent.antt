@@ -1,4 +1,6 @@
--- A bracket left in a lent run of numbers, and the number that the call answers.
+-- A bracket left in a lent run of numbers, and the number that the call answers. Standing and width of the answers that the
+-- exported calls name are laws of their crates: `answer-stands` of power and logarithm, `exponential-stands` and
+-- `exponential-negative-stands` of exponential.
 use Prim.Native.Nat.{ℕ}
 use mathlib.Core.Path.{_≡_}
 use mathlib.Core.Bool.{cond}

@@ -27,11 +27,11 @@ mul-entry c = omega arith
 array-copy-out-entry : tie.Need-array-copy-out-entry Inv-loop μ-loop
 array-copy-out-entry c = omega arith
 
-does-bend-requires : tie.Need-does-bend-requires Inv-loop μ-loop
-does-bend-requires c κs = search needs
+curve-bit-stands-requires : tie.Need-curve-bit-stands-requires Inv-loop μ-loop
+curve-bit-stands-requires c κs = search needs
 
 returns : tie.Need-returns Inv-loop μ-loop
-returns c = any-hit _ _ _ _ _ _ _ (c .before .before .before .before .before .pre) (c .before .before .before .before .loop .inv .1) _ _ (c .before .before .before .loop-test .taken) (c .before .does-bend .ensures) (c .if1 .taken)
+returns c = any-hit _ _ _ _ _ _ _ (c .before .before .before .before .before .pre) (c .before .before .before .before .loop .inv .1) _ _ (c .before .before .before .loop-test .taken) (c .before .curve-bit-stands .ensures) (c .if1 .taken)
 
 rule-of-requires : tie.Need-rule-of-requires Inv-loop μ-loop
 rule-of-requires c κs = search needs
@@ -48,7 +48,7 @@ loop-less c = omega arith
 loop-again : tie.Need-loop-again Inv-loop μ-loop
 loop-again c = (
   omega arith,
-  any-miss _ _ _ _ _ _ _ (c .before .before .before .before .before .before .before .pre) (c .before .before .before .before .before .before .loop .inv .1) _ _ _ (c .before .before .before .before .before .loop-test .taken) (c .before .before .before .does-bend .ensures) (c .before .before .if1 .left) (c .rest-of .ensures ∙ ap (λ (x : Rule). restOf x (c .before .before .before .before .before .before .loop .rest)) (c .before .rule-of .ensures)),
+  any-miss _ _ _ _ _ _ _ (c .before .before .before .before .before .before .before .pre) (c .before .before .before .before .before .before .loop .inv .1) _ _ _ (c .before .before .before .before .before .loop-test .taken) (c .before .before .before .curve-bit-stands .ensures) (c .before .before .if1 .left) (c .rest-of .ensures ∙ ap (λ (x : Rule). restOf x (c .before .before .before .before .before .before .loop .rest)) (c .before .rule-of .ensures)),
 )
 
 returns-2 : tie.Need-returns-2 Inv-loop μ-loop
@@ -63,7 +63,7 @@ is-curved-spec =
     loop-holds
     mul-entry
     array-copy-out-entry
-    does-bend-requires
+    curve-bit-stands-requires
     returns
     rule-of-requires
     rest-of-requires

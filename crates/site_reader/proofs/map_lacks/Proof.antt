@@ -26,11 +26,11 @@ mul-rule c = omega arith
 array-copy-out-rule : tie.Need-array-copy-out-rule Inv-loop μ-loop
 array-copy-out-rule c = omega arith
 
-does-stray-requires : tie.Need-does-stray-requires Inv-loop μ-loop
-does-stray-requires c κs = search needs
+lacked-bit-stands-requires : tie.Need-lacked-bit-stands-requires Inv-loop μ-loop
+lacked-bit-stands-requires c κs = search needs
 
 returns : tie.Need-returns Inv-loop μ-loop
-returns c = any-hit _ _ _ _ _ _ _ (c .before .before .before .before .before .pre) (c .before .before .before .before .loop .inv .1) _ _ (c .before .before .before .loop-test .taken) (c .before .does-stray .ensures) (c .if1 .taken)
+returns c = any-hit _ _ _ _ _ _ _ (c .before .before .before .before .before .pre) (c .before .before .before .before .loop .inv .1) _ _ (c .before .before .before .loop-test .taken) (c .before .lacked-bit-stands .ensures) (c .if1 .taken)
 
 rest-of-requires : tie.Need-rest-of-requires Inv-loop μ-loop
 rest-of-requires c κs = search needs
@@ -44,7 +44,7 @@ loop-less c = omega arith
 loop-again : tie.Need-loop-again Inv-loop μ-loop
 loop-again c = (
   omega arith,
-  any-miss _ _ _ _ _ _ _ (c .before .before .before .before .before .before .pre) (c .before .before .before .before .before .loop .inv .1) _ _ _ (c .before .before .before .before .loop-test .taken) (c .before .before .does-stray .ensures) (c .before .if1 .left) (c .rest-of .ensures),
+  any-miss _ _ _ _ _ _ _ (c .before .before .before .before .before .before .pre) (c .before .before .before .before .before .loop .inv .1) _ _ _ (c .before .before .before .before .loop-test .taken) (c .before .before .lacked-bit-stands .ensures) (c .before .if1 .left) (c .rest-of .ensures),
 )
 
 returns-2 : tie.Need-returns-2 Inv-loop μ-loop
@@ -59,7 +59,7 @@ map-lacks-spec =
     loop-holds
     mul-rule
     array-copy-out-rule
-    does-stray-requires
+    lacked-bit-stands-requires
     returns
     rest-of-requires
     add-i

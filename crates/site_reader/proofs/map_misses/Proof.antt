@@ -26,11 +26,11 @@ mul-rule c = omega arith
 array-copy-out-rule : tie.Need-array-copy-out-rule Inv-loop μ-loop
 array-copy-out-rule c = omega arith
 
-does-want-requires : tie.Need-does-want-requires Inv-loop μ-loop
-does-want-requires c κs = search needs
+needed-bit-absent-requires : tie.Need-needed-bit-absent-requires Inv-loop μ-loop
+needed-bit-absent-requires c κs = search needs
 
 returns : tie.Need-returns Inv-loop μ-loop
-returns c = any-hit _ _ _ _ _ _ _ (c .before .before .before .before .before .pre) (c .before .before .before .before .loop .inv .1) _ _ (c .before .before .before .loop-test .taken) (c .before .does-want .ensures) (c .if1 .taken)
+returns c = any-hit _ _ _ _ _ _ _ (c .before .before .before .before .before .pre) (c .before .before .before .before .loop .inv .1) _ _ (c .before .before .before .loop-test .taken) (c .before .needed-bit-absent .ensures) (c .if1 .taken)
 
 rest-of-requires : tie.Need-rest-of-requires Inv-loop μ-loop
 rest-of-requires c κs = search needs
@@ -44,7 +44,7 @@ loop-less c = omega arith
 loop-again : tie.Need-loop-again Inv-loop μ-loop
 loop-again c = (
   omega arith,
-  any-miss _ _ _ _ _ _ _ (c .before .before .before .before .before .before .pre) (c .before .before .before .before .before .loop .inv .1) _ _ _ (c .before .before .before .before .loop-test .taken) (c .before .before .does-want .ensures) (c .before .if1 .left) (c .rest-of .ensures),
+  any-miss _ _ _ _ _ _ _ (c .before .before .before .before .before .before .pre) (c .before .before .before .before .before .loop .inv .1) _ _ _ (c .before .before .before .before .loop-test .taken) (c .before .before .needed-bit-absent .ensures) (c .before .if1 .left) (c .rest-of .ensures),
 )
 
 returns-2 : tie.Need-returns-2 Inv-loop μ-loop
@@ -59,7 +59,7 @@ map-misses-spec =
     loop-holds
     mul-rule
     array-copy-out-rule
-    does-want-requires
+    needed-bit-absent-requires
     returns
     rest-of-requires
     add-i

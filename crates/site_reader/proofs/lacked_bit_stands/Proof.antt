@@ -1,8 +1,8 @@
--- `site_reader::does_stray` meets its contract. A bit that the kind lacks, and that stands.
+-- `site_reader::lacked_bit_stands` meets its contract. A bit that the kind lacks, and that stands.
 -- Assumes nothing.
 use borrow.Author.Needs.{needs}
-use Rattle.site_reader.proofs.does_stray.Statement.{statement}
-use Rattle.site_reader.proofs.does_stray.Tie as tie
+use Rattle.site_reader.proofs.lacked_bit_stands.Statement.{statement}
+use Rattle.site_reader.proofs.lacked_bit_stands.Tie as tie
 
 is-lacking-requires : tie.Need-is-lacking-requires
 is-lacking-requires c κs = search needs
@@ -16,5 +16,5 @@ returns c = simp (← c .before .before .is-lacking .ensures, c .before .if1 .ta
 returns-2 : tie.Need-returns-2
 returns-2 c = search needs
 
-pub does-stray-spec : {M : Type 1} → statement M
-does-stray-spec = tie.close (tie.spec is-lacking-requires does-stand-requires returns returns-2)
+pub lacked-bit-stands-spec : {M : Type 1} → statement M
+lacked-bit-stands-spec = tie.close (tie.spec is-lacking-requires does-stand-requires returns returns-2)

@@ -1,8 +1,8 @@
--- `site_reader::does_want` meets its contract. A bit that the kind needs, and that does not stand.
+-- `site_reader::needed_bit_absent` meets its contract. A bit that the kind needs, and that does not stand.
 -- Assumes nothing.
 use borrow.Author.Needs.{needs}
-use Rattle.site_reader.proofs.does_want.Statement.{statement}
-use Rattle.site_reader.proofs.does_want.Tie as tie
+use Rattle.site_reader.proofs.needed_bit_absent.Statement.{statement}
+use Rattle.site_reader.proofs.needed_bit_absent.Tie as tie
 
 is-needed-requires : tie.Need-is-needed-requires
 is-needed-requires c κs = search needs
@@ -16,5 +16,5 @@ returns c = simp (← c .before .before .is-needed .ensures, c .before .if1 .tak
 returns-2 : tie.Need-returns-2
 returns-2 c = search needs
 
-pub does-want-spec : {M : Type 1} → statement M
-does-want-spec = tie.close (tie.spec is-needed-requires does-stand-requires returns returns-2)
+pub needed-bit-absent-spec : {M : Type 1} → statement M
+needed-bit-absent-spec = tie.close (tie.spec is-needed-requires does-stand-requires returns returns-2)

@@ -1,8 +1,8 @@
--- `site_reader::does_bend` meets its contract. A bit of the curve that stands.
+-- `site_reader::curve_bit_stands` meets its contract. A bit of the curve that stands.
 -- Assumes nothing.
 use borrow.Author.Needs.{needs}
-use Rattle.site_reader.proofs.does_bend.Statement.{statement}
-use Rattle.site_reader.proofs.does_bend.Tie as tie
+use Rattle.site_reader.proofs.curve_bit_stands.Statement.{statement}
+use Rattle.site_reader.proofs.curve_bit_stands.Tie as tie
 
 is-on-curve-requires : tie.Need-is-on-curve-requires
 is-on-curve-requires c κs = search needs
@@ -19,7 +19,7 @@ returns c = simp (← c .before .before .before .is-on-curve .ensures, c .before
 returns-2 : tie.Need-returns-2
 returns-2 c = search needs
 
-pub does-bend-spec : {M : Type 1} → statement M
-does-bend-spec =
+pub curve-bit-stands-spec : {M : Type 1} → statement M
+curve-bit-stands-spec =
     tie.close
     (tie.spec is-on-curve-requires rule-of-requires does-stand-requires returns returns-2)
