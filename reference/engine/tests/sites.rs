@@ -134,6 +134,36 @@ fn sites_that_can_and_cannot_be_written() {
     assert!(written > 100_000 && refused > 100_000);
 }
 
+/// Every field of every kind, foreign ones too, at every value from a plain
+/// site, which is on a curve where the field is a curve's.
+#[test]
+fn every_value_of_every_slot_written() {
+    let mut sites: u32 = 0;
+    for kind in KINDS {
+        for (field, _) in FIELD_NAMES {
+            let table = rules(kind).unwrap_or(&[]);
+            let rule = table.iter().find(|rule| rule.field == field);
+            let plain = Site::plain(kind, 1_000, 500);
+            let on_curve = rule.is_some_and(Rule::is_of_curve);
+            let base = if on_curve {
+                plain.with_curve(100, 1_000)
+            } else {
+                plain
+            };
+            for value in 0..=u16::MAX {
+                let site = base.with(field, value);
+                assert_eq!(
+                    write_site(&site, 40),
+                    record::write_site(&site, 40),
+                    "{site:?}"
+                );
+                sites += 1;
+            }
+        }
+    }
+    assert_eq!(sites, 5 * 20 * 65_536);
+}
+
 #[test]
 fn numbers_that_are_no_site() {
     let site = Site::plain(0, 1_000, 500);
@@ -155,7 +185,7 @@ fn a_short_run_of_values_is_left_as_it_was() {
     let mut values = [7; 21];
     let number = engine::sites::read_into(&part, &mut values);
     assert_eq!((number, values), (u64::from(cause::TOO_SHORT), [7; 21]));
-    let mut values = [7; 24];
+    let mut values = [9; 24];
     assert_eq!(engine::sites::read_into(&part, &mut values), 0);
-    assert_eq!((values[21], values[22], values[23]), (7, 7, 7));
+    assert_eq!((values[21], values[22], values[23]), (7, 9, 9));
 }
