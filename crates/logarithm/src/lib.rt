@@ -11,8 +11,7 @@ use crate::stored::stored_logarithms;
 use crate::stored::stored_low;
 use bracket::Bracket;
 use bracket::BracketAnswer;
-use remainder::log_high;
-use remainder::log_low;
+use remainder::log_bounds;
 use remainder::split;
 
 const SCALE: u64 = 1_000_000_000_000;
@@ -23,9 +22,9 @@ pub fn logarithm_with(stored: &[u64; 256], a: u64) -> Bracket
     ensures { λ r. ⌜ r ≡ logarithmBracket a ⌝ }
 {
     let s = split(a);
-    let product = s.n * s.m;
-    let low = stored_low(stored, s.n) + stored_low(stored, s.m) + log_low(product, s.r);
-    let high = stored_high(stored, s.n) + stored_high(stored, s.m) + log_high(product, s.r);
+    let rest = log_bounds(s.n * s.m, s.r);
+    let low = stored_low(stored, s.n) + stored_low(stored, s.m) + rest.low;
+    let high = stored_high(stored, s.n) + stored_high(stored, s.m) + rest.high;
     Bracket {
         low_num: low,
         low_den: SCALE,

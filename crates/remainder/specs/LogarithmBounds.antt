@@ -1,6 +1,7 @@
 -- The bounds of ln((N+r)/N): that they are bounds, how near they are and how large.
 -- Assumes nothing.
 use Prim.Native.Nat.{ℕ, _+_, _*_, _≤_, _<_}
+use mathlib.Core.Path.{_≡_}
 use native.Mathlib.Nat.{mul-le-mul, mul-le-mul-left, mul-le-mul-right, mul-pos, le-of-mul-le-mul-right}
 use native.Mathlib.Omega.{arith}
 use lib.Dec.{lit<, lit≤}
@@ -8,7 +9,7 @@ use Rattle.estimate.specs.Fraction.{_≤ᶠ_, fraction, decimal}
 use Rattle.estimate.specs.FractionLaws.{≤ᶠ-refl}
 use Rattle.estimate.specs.ExponentialBounds.{AtMostExp, AtLeastExp, at-most-weaker, at-least-weaker}
 use Rattle.estimate.specs.Remainder.{ratio, twiceZ, twiceZAndCube, ratio-at-least, ratio-at-most}
-use Rattle.remainder.specs.Quotient.{RoundedDown, RoundedUp, rounded-down, quotient-up, at-most, product-up-≤}
+use Rattle.remainder.specs.Quotient.{quotientUp, RoundedDown, RoundedUp, rounded-down, quotient-up, half-up, at-most, product-up-≤}
 use Rattle.remainder.specs.Remainder.{SmallRest, scale, logLow, logHigh}
 
 module _ (N r : ℕ) (s : SmallRest N r) where
@@ -25,22 +26,38 @@ module _ (N r : ℕ) (s : SmallRest N r) where
 
 -- THE ROUNDINGS ON THE WAY TO THE HIGH BOUND: z, z^2 and z^3
 
-module _ {N r z : ℕ} (s : SmallRest N r) (f : RoundedUp (r * scale) (2 * N + r) z) where
-  z-small : z ≤ 1957000000
-  z-small = at-most z (2 * N + r) 1957000000 (omega (arith, f .near))
+z-small : {N r z : ℕ} → SmallRest N r → RoundedUp (r * scale) (2 * N + r) z → z ≤ 1957000000
+z-small {N} {r} {z} s f = at-most z (2 * N + r) 1957000000 (omega (arith, f .near))
 
+module _ {z : ℕ} (h : z ≤ 1957000000) where
   pub square-fits : z * z ≤ 1957000000 * 1957000000
-  square-fits = mul-le-mul z-small z-small
+  square-fits = mul-le-mul h h
 
   module _ {square : ℕ} (g : RoundedUp (z * z) scale square) where
     square-small : square ≤ 3830000
-    square-small = product-up-≤ z-small z-small g (lit≤ tt)
+    square-small = product-up-≤ h h g (lit≤ tt)
 
     pub cube-fits : square * z ≤ 3830000 * 1957000000
-    cube-fits = mul-le-mul square-small z-small
+    cube-fits = mul-le-mul square-small h
 
     pub cube-small : {cube : ℕ} → RoundedUp (square * z) scale cube → cube ≤ 7499
-    cube-small k = product-up-≤ square-small z-small k (lit≤ tt)
+    cube-small k = product-up-≤ square-small h k (lit≤ tt)
+
+-- 2z + z^3, each term rounded up, from 2z: z is half of it, rounded up
+unfoldable pub withCube : ℕ → ℕ
+withCube twice =
+    let z = quotientUp twice 2 in
+    twice + quotientUp (quotientUp (z * z) scale * z) scale
+
+pub log-high-with-cube : (N r : ℕ) → SmallRest N r → logHigh N r ≡ withCube (quotientUp (2 * r * scale) (2 * N + r))
+unfolding logHigh withCube
+log-high-with-cube N r s =
+    let d : 0 < 2 * N + r = omega arith in
+    let twice : 2 * r * scale ≡ 2 * (r * scale) = omega arith in
+    rw (half-up (r * scale) (2 * r * scale) (2 * N + r) d twice)
+
+pub half-small : {y z : ℕ} → y ≤ 3913900000 → RoundedUp y 2 z → z ≤ 1957000000
+half-small h f = omega (arith, f .near)
 
 pub twice-small : {N r y : ℕ} → SmallRest N r → RoundedUp (2 * r * scale) (2 * N + r) y → y ≤ 3913900000
 twice-small {N} {r} {y} s f = at-most y (2 * N + r) 3913900000 (omega (arith, f .near))
@@ -65,7 +82,7 @@ module _ (N r : ℕ) (s : SmallRest N r) where
   log-high-by : {z square cube y : ℕ} → RoundedUp (r * scale) (2 * N + r) z → RoundedUp (z * z) scale square → RoundedUp (square * z) scale cube
       → RoundedUp (2 * r * scale) (2 * N + r) y → LogHigh N r (y + cube)
   log-high-by {z} {square} {cube} {y} f g h k =
-      let c = cube-small s f g h in
+      let c = cube-small (z-small s f) g h in
       record {
         stands = both-terms r (2 * N + r) y cube scale (k .above) (cubed r (2 * N + r) z square cube scale (lit< tt) (f .above) (g .above) (h .above));
         above = omega (arith, k .above);

@@ -2,8 +2,9 @@
 -- Assumes nothing.
 use Prim.Native.Nat.{ℕ, _+_, _-_, _*_, _/_, _≤_, _<_}
 use mathlib.Core.Path.{_≡_, refl}
-use native.Mathlib.Nat.{mul-le-mul, lt-of-mul-lt-mul-right, div-mul-le-self, lt-div-mul-add}
+use native.Mathlib.Nat.{le-antisymm, mul-le-mul, mul-le-mul-right, lt-of-mul-lt-mul-right, div-mul-le-self, lt-div-mul-add}
 use native.Mathlib.Omega.{arith}
+use lib.Dec.{lit<}
 
 abbrev pub quotientDown : (a d : ℕ) → ℕ
 quotientDown a d = a / d
@@ -43,3 +44,26 @@ module _ {a b A B d q m : ℕ} (ha : a ≤ A) (hb : b ≤ B) where
 
   pub product-up-≤ : RoundedUp (a * b) d q → A * B + d ≤ (m + 1) * d → q ≤ m
   product-up-≤ f h = at-most q d m (omega (arith, f .near, mul-le-mul ha hb, h))
+
+-- a quotient rounded up is the only number that is one
+pub rounded-up-is : {a d q : ℕ} → 0 < d → RoundedUp a d q → q ≡ quotientUp a d
+rounded-up-is {a} {d} {q} h f = le-antisymm (least f (quotient-up a d h)) (least (quotient-up a d h) f)
+  where
+    least : {x y : ℕ} → RoundedUp a d x → RoundedUp a d y → x ≤ y
+    least {x} {y} f g = at-most x d y (omega (arith, f .near, g .above))
+
+-- from the quotient rounded down
+pub up-from-down : {a d q : ℕ} → RoundedDown a d q → q * d < a → RoundedUp a d (q + 1)
+up-from-down f h = record { above = omega (arith, f .near); near = omega arith }
+
+pub up-where-exact : {a d q : ℕ} → 0 < d → RoundedDown a d q → a ≤ q * d → RoundedUp a d q
+up-where-exact h f k = record { above = k; near = omega (arith, f .below) }
+
+-- from twice the quotient
+halved : {a b d y z : ℕ} → b ≡ 2 * a → RoundedUp b d y → RoundedUp y 2 z → RoundedUp a d z
+halved {a} {b} {d} {y} {z} e f g =
+    let more : 2 * z ≤ y + 1 = omega (arith, g .near) in
+    record { above = omega (arith, f .above, mul-le-mul-right d (g .above)); near = omega (arith, f .near, mul-le-mul-right d more) }
+
+pub half-up : (a b d : ℕ) → 0 < d → b ≡ 2 * a → quotientUp (quotientUp b d) 2 ≡ quotientUp a d
+half-up a b d h e = rounded-up-is h (halved e (quotient-up b d h) (quotient-up (quotientUp b d) 2 (lit< tt)))

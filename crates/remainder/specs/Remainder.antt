@@ -2,6 +2,7 @@
 -- and e^x is between 1 + x + x^2/2 + x^3/6 and that + 2x^4/24.
 use Prim.Native.Nat.{ℕ, _+_, _*_, _^_, _≤_, _<_}
 use Rattle.remainder.specs.Quotient.{quotientDown, quotientUp}
+use Rattle.remainder.specs.declared.LogBounds.{LogBounds}
 
 -- a rest r that is small beside N, so that z is at most 1/511
 pub record SmallRest (N r : ℕ) : Type 0 where
@@ -28,6 +29,9 @@ unfoldable pub logHigh : (N r : ℕ) → ℕ
 logHigh N r =
     let z = quotientUp (r * scale) (2 * N + r) in
     quotientUp (2 * r * scale) (2 * N + r) + quotientUp (quotientUp (z * z) scale * z) scale
+
+abbrev pub logBoundsOf : (N r : ℕ) → LogBounds
+logBoundsOf N r = record { low = logLow N r; high = logHigh N r }
 
 -- 1 + x + x^2/2 + x^3/6, each term rounded down
 unfoldable pub exponentialLow : ℕ → ℕ

@@ -2,9 +2,10 @@
 // and to its powers. Bounds are whole numbers over 10^12.
 ghost use mathlib.Core.Path.{_≡_};
 ghost use Prim.Native.Nat.{_+_, _^_, _≤_, _<_};
-ghost use Rattle.remainder.specs.Quotient.{quotientUp};
+ghost use Rattle.remainder.specs.Quotient.{quotientDown, quotientUp};
 ghost use Rattle.remainder.specs.Split.{splitOf};
-ghost use Rattle.remainder.specs.Remainder.{SmallRest, Exponent, logLow, logHigh, exponentialLow, exponentialHigh, remainderLow, remainderHigh};
+ghost use Rattle.remainder.specs.Remainder.{SmallRest, Exponent, logLow, logBoundsOf, exponentialLow, exponentialHigh, remainderLow, remainderHigh};
+ghost use Rattle.remainder.specs.LogarithmBounds.{withCube};
 
 const SCALE: u64 = 1_000_000_000_000;
 
@@ -15,12 +16,29 @@ pub struct Parts {
     pub r: u64,
 }
 
+// Two numbers between which a logarithm is.
+pub struct LogBounds {
+    pub low: u64,
+    pub high: u64,
+}
+
 // a / d, rounded up.
 fn up(a: u64, d: u64) -> u64
     requires { ⌜ (0 < d) × (a + d < 2 ^ 64) ⌝ }
     ensures { λ q. ⌜ q ≡ quotientUp a d ⌝ }
 {
     (a + (d - 1)) / d
+}
+
+// The same, from the quotient rounded down.
+fn up_from(a: u64, d: u64, q: u64) -> u64
+    requires { ⌜ (0 < d) × (q ≡ quotientDown a d) ⌝ }
+    ensures { λ r. ⌜ r ≡ quotientUp a d ⌝ }
+{
+    if q * d < a {
+        return q + 1;
+    }
+    q
 }
 
 // a = n * m + r, with n and m at most 256 and r at most n * m / 255.
@@ -30,27 +48,39 @@ pub fn split(a: u64) -> Parts
 {
     let n = up(a, 256);
     let m = a / n;
-    Parts { n, m, r: a - n * m }
+    Parts { n, m, r: a % n }
 }
 
 // A number below ln((product + rest) / product).
-pub fn log_low(product: u64, rest: u64) -> u64
+fn log_low(product: u64, rest: u64) -> u64
     requires { ⌜ SmallRest product rest ⌝ }
     ensures { λ y. ⌜ y ≡ logLow product rest ⌝ }
 {
     2 * rest * SCALE / (2 * product + rest)
 }
 
-// A number above ln((product + rest) / product).
-pub fn log_high(product: u64, rest: u64) -> u64
-    requires { ⌜ SmallRest product rest ⌝ }
-    ensures { λ y. ⌜ y ≡ logHigh product rest ⌝ }
+// 2z + z^3, from 2z.
+fn with_cube(twice: u64) -> u64
+    requires { ⌜ twice ≤ 3913900000 ⌝ }
+    ensures { λ y. ⌜ y ≡ withCube twice ⌝ }
 {
-    let d = 2 * product + rest;
-    let z = up(rest * SCALE, d);
+    let z = up(twice, 2);
     let square = up(z * z, SCALE);
     let cube = up(square * z, SCALE);
-    up(2 * rest * SCALE, d) + cube
+    twice + cube
+}
+
+// The same and a number above, from one division.
+pub fn log_bounds(product: u64, rest: u64) -> LogBounds
+    requires { ⌜ SmallRest product rest ⌝ }
+    ensures { λ y. ⌜ y ≡ logBoundsOf product rest ⌝ }
+{
+    let low = log_low(product, rest);
+    let twice = up_from(2 * rest * SCALE, 2 * product + rest, low);
+    LogBounds {
+        low,
+        high: with_cube(twice),
+    }
 }
 
 // A number below e^x.
@@ -87,5 +117,6 @@ pub fn remainder_high(product: u64, rest: u64, num: u64, den: u64) -> u64
     requires { ⌜ SmallRest product rest × Exponent num den ⌝ }
     ensures { λ w. ⌜ w ≡ remainderHigh product rest num den ⌝ }
 {
-    exponential_high(up(log_high(product, rest) * num, den))
+    let log = log_bounds(product, rest);
+    exponential_high(up(log.high * num, den))
 }

@@ -1,5 +1,6 @@
+use Prim.Native.Nat.{_<_}
 use native.Mathlib.Omega.{arith}
-use native.Mathlib.Nat.{mul-div-le}
+use native.Mathlib.Nat.{mod-def}
 use lib.Dec.{lit<}
 use Rattle.remainder.specs.Quotient.{rounded-up}
 use Rattle.remainder.specs.Split.{firstFactor, secondFactor, restOf}
@@ -7,21 +8,21 @@ use borrow.Author.Needs.{needs}
 use Rattle.remainder.proofs.split.Statement.{statement}
 use Rattle.remainder.proofs.split.Tie as tie
 
+n-positive : (c : tie.After-up) → 0 < c .up .result
+n-positive c = let f = rounded-up (lit< tt) (c .up .ensures) in omega (arith, f .above)
+
 up-requires : tie.Need-up-requires
 up-requires c κs = search needs
 
 div-m : tie.Need-div-m
-div-m c = let f = rounded-up (lit< tt) (c .up .ensures) in omega (arith, f .above)
+div-m c = omega (arith, n-positive c)
 
-mul-t4 : tie.Need-mul-t4
-mul-t4 c = omega (arith, mul-div-le (c .before .args .a) (c .up .result))
-
-sub-t5 : tie.Need-sub-t5
-sub-t5 c = omega (arith, mul-div-le (c .before .args .a) (c .up .result))
+rem-t4 : tie.Need-rem-t4
+rem-t4 c = omega (arith, n-positive c)
 
 returns : tie.Need-returns
 unfolding firstFactor secondFactor restOf
-returns c = rw (c .up .ensures)
+returns c = rw (mod-def (c .before .args .a) (c .up .result), c .up .ensures)
 
 pub split-spec : {M : Type 1} → statement M
-split-spec = tie.close (tie.spec up-requires div-m mul-t4 sub-t5 returns)
+split-spec = tie.close (tie.spec up-requires div-m rem-t4 returns)
