@@ -1,9 +1,9 @@
 -- The bracket of A^(p/q) stands at every depth and is narrow; how large its ends are.
 -- "The shared laws of powers are shown over the exponent, not for each": p/q is any exponent up to 1.
 -- Assumes nothing.
-use Prim.Native.Nat.{ℕ, _+_, _*_, _^_, _≤_, _<_}
-use mathlib.Core.Path.{refl}
-use native.Mathlib.Nat.{le-trans, mul-le-mul-right, pow-le-pow-left, pow-le-pow-right}
+use Prim.Native.Nat.{ℕ, zero, suc, _+_, _*_, _^_, _≤_, _<_}
+use mathlib.Core.Path.{_≡_, refl}
+use native.Mathlib.Nat.{le-trans, mul-le-mul-left, mul-le-mul-right, pow-le-pow-left, pow-le-pow-right}
 use native.Mathlib.Omega.{arith}
 use lib.Dec.{lit<, lit≤}
 use Rattle.estimate.specs.Fraction.{fraction}
@@ -15,15 +15,15 @@ use Rattle.wide.specs.Rounding.{floor-le, ceiling-ge}
 use Rattle.bracket.specs.Bracket.{Stands, RelativeWidth, powerWidth}
 use Rattle.remainder.specs.Split.{firstFactor, secondFactor, restOf, Splits, split-is}
 use Rattle.remainder.specs.Remainder.{Exponent, scale, remainderLow, remainderHigh}
-use Rattle.remainder.specs.RemainderLaws.{remainder-low-stands, remainder-high-stands, remainder-near, remainder-low-from-one, remainder-low-small}
-use Rattle.power.specs.Exponents.{exponentAt, exponent-small, exponent-is}
-use Rattle.power.specs.Stored.{billion, storedLow, storedHigh, stored-low-stands, stored-high-stands, stored-near, stored-from-one}
+use Rattle.remainder.specs.RemainderLaws.{remainder-low-stands, remainder-high-stands, remainder-near, remainder-near-to-nine-tenths, remainder-near-whole, remainder-low-from-one, remainder-high-small}
+use Rattle.power.specs.Exponents.{exponentAt, exponent-from, exponent-small, exponent-is}
+use Rattle.power.specs.Stored.{billion, storedLow, storedHigh, stored-low-stands, stored-high-stands, stored-near, stored-from-one, stored-from-root}
 use Rattle.power.specs.Power.{powerLow, powerHigh, powerBracket, StandingPower}
-use Rattle.power.specs.PowerWidth.{floor-rounded, ceiling-rounded, at-least, ends-near}
+use Rattle.power.specs.PowerWidth.{floor-rounded, ceiling-rounded, at-least, ends-apart, RoundingsWithin, roundings-from-one, roundings-from-two}
 
--- the width that is shown, 2 * 10^-8 of the high; the stated width follows from it
+-- the width that is shown for an exponent from 1/5 to 9/10: 10^-8 of the high
 unfoldable pub shownWidth : ℕ
-shownWidth = 5 * 10 ^ 7
+shownWidth = 10 ^ 8
 
 module _ (A p q : ℕ) (from : 1 ≤ A) (to : A ≤ 65536) (e : Exponent p q) where
   parts : Splits A (firstFactor A) (secondFactor A) (restOf A)
@@ -73,15 +73,17 @@ module _ (A p q : ℕ) (from : 1 ≤ A) (to : A ≤ 65536) (e : Exponent p q) wh
   -- THE WIDTH
 
   -- the ends are near each other, and the low one is from 1 on
-  record Near : Type 0 where
+  record Near (c : ℕ) : Type 0 where
     first : ℕ
-    near : powerHigh A p q * scale ≤ powerLow A p q * scale + 17584 * first
+    near : powerHigh A p q * scale ≤ powerLow A p q * scale + c * first
     first-≤ : first ≤ powerLow A p q
     from-one : billion ≤ first
 
-  ends : Near
+  -- by how near the remainder's bounds are, and what the roundings add
+  ends : (c w : ℕ) → remainderHigh (firstFactor A * secondFactor A) (restOf A) p q ≤ remainderLow (firstFactor A * secondFactor A) (restOf A) p q + c
+      → RoundingsWithin billion w (storedLow (firstFactor A) p q) (storedLow (secondFactor A) p q) → Near (c + w)
   unfolding powerLow powerHigh
-  ends =
+  ends c w near roundings =
       let n = firstFactor A in
       let m = secondFactor A in
       let s = storedLow n p q in
@@ -90,36 +92,57 @@ module _ (A p q : ℕ) (from : 1 ≤ A) (to : A ≤ 65536) (e : Exponent p q) wh
       let g = remainderLow (n * m) (restOf A) p q in
       let u' = ceiling (s + 1) (t + 1) billion in
       let g' = remainderHigh (n * m) (restOf A) p q in
-      let hs = stored-from-one n p q e (parts .n-from) in
-      let ht = stored-from-one m p q e (parts .m-from) in
-      let hg = remainder-low-from-one (n * m) (restOf A) p q (parts .rest) e in
       let a = floor-rounded s t billion (lit< tt) in
-      let c = floor-rounded u g scale (lit< tt) in
-      let w = ends-near billion scale s t u u' g g' (floor u g scale) (ceiling u' g' scale) (lit< tt) hs ht a (ceiling-rounded (s + 1) (t + 1) billion (lit< tt))
-      (remainder-near (n * m) (restOf A) p q (parts .rest) e) hg (omega (arith, remainder-low-small (n * m) (restOf A) p q (parts .rest) e)) refl (lit≤ tt)
-      c (ceiling-rounded u' g' scale (lit< tt)) in
+      let f = floor-rounded u g scale (lit< tt) in
+      let apart = ends-apart billion scale s t u u' g g' (floor u g scale) (ceiling u' g' scale) c (lit< tt) a (ceiling-rounded (s + 1) (t + 1) billion (lit< tt))
+      near (remainder-high-small (n * m) (restOf A) p q (parts .rest) e) f (ceiling-rounded u' g' scale (lit< tt)) in
       record {
         first = u;
-        near = rw (stored-near n p q e, stored-near m p q e) w;
-        first-≤ = at-least u g scale (floor u g scale) hg c;
-        from-one = omega (arith, at-least s t billion u ht a);
+        near = rw (stored-near n p q e, stored-near m p q e) (omega (arith, apart, roundings u a));
+        first-≤ = at-least u g scale (floor u g scale) (remainder-low-from-one (n * m) (restOf A) p q (parts .rest) e) f;
+        from-one = omega (arith, stored-from-one n p q e (parts .n-from), at-least s t billion u (stored-from-one m p q e (parts .m-from)) a);
       }
 
-  pub power-shown-width : RelativeWidth shownWidth 1 (powerBracket A p q)
-  unfolding shownWidth
-  power-shown-width = let w = ends in record { width = omega (arith, w .near, w .first-≤, power-in-order) }
+  roundings-any : RoundingsWithin billion 6021 (storedLow (firstFactor A) p q) (storedLow (secondFactor A) p q)
+  roundings-any =
+      roundings-from-one billion _ _ (lit≤ tt) (mul-le-mul-left 100 (stored-from-one _ p q e (parts .n-from))) (mul-le-mul-left 100 (stored-from-one _ p q e (parts .m-from)))
+
+  ends-any : Near 13604
+  ends-any = ends 7583 6021 (remainder-near _ _ p q (parts .rest) e) roundings-any
 
   pub power-width : RelativeWidth powerWidth 1 (powerBracket A p q)
-  unfolding shownWidth powerWidth
-  power-width = let w = power-shown-width in record { width = omega (arith, w .width) }
+  unfolding powerWidth
+  power-width = let w = ends-any in record { width = omega (arith, w .near, w .first-≤, power-in-order) }
 
   pub power-standing : StandingPower A p q (powerBracket A p q)
   power-standing = record { stands = power-stands; narrow = power-width }
 
+  -- FOR AN EXPONENT FROM 1/5 TO 9/10
+
+  module _ (from-fifth : q ≤ p * 5) (to-nine-tenths : 10 * p ≤ 9 * q) where
+    -- a rest leaves n from 2 and m from 128 on: their powers are from 1.14 and 2.6 on
+    roundings-beside-rest : 0 < restOf A → RoundingsWithin billion 2622 (storedLow (firstFactor A) p q) (storedLow (secondFactor A) p q)
+    roundings-beside-rest r =
+        let n = stored-from-root (firstFactor A) p q e (parts .n-from) 2 5 (114 * 10 ^ 7) (lit< tt) from-fifth (parts .n-from-two r) (lit≤ tt) in
+        let m = stored-from-root (secondFactor A) p q e (parts .m-from) 128 5 (260 * 10 ^ 7) (lit< tt) from-fifth (parts .m-from-128 r) (lit≤ tt) in
+        roundings-from-two billion _ _ (lit≤ tt) (mul-le-mul-left 100 n) (mul-le-mul-left 100 m)
+
+    narrow : (c : ℕ) → c ≤ 10000 → Near c → RelativeWidth shownWidth 1 (powerBracket A p q)
+    unfolding shownWidth
+    narrow c h w = record { width = omega (arith, w .near, mul-le-mul-right (w .first) h, w .first-≤, power-in-order) }
+
+    pub power-shown-width : RelativeWidth shownWidth 1 (powerBracket A p q)
+    power-shown-width = by-rest (restOf A) refl
+      where
+        by-rest : (r : ℕ) → restOf A ≡ r → RelativeWidth shownWidth 1 (powerBracket A p q)
+        by-rest zero is = narrow 6103 (lit≤ tt) (ends 82 6021 (remainder-near-whole _ _ p q (parts .rest) e is) roundings-any)
+        by-rest (suc r) is =
+            narrow 9455 (lit≤ tt) (ends 6833 2622 (remainder-near-to-nine-tenths _ _ p q (parts .rest) e to-nine-tenths) (roundings-beside-rest (omega arith)))
+
   -- HOW LARGE THE ENDS ARE
 
   pub power-low-from-one : billion ≤ powerLow A p q
-  power-low-from-one = let w = ends in omega (arith, w .first-≤, w .from-one)
+  power-low-from-one = let w = ends-any in omega (arith, w .first-≤, w .from-one)
 
   pub power-high-from-one : billion ≤ powerHigh A p q
   power-high-from-one = omega (arith, power-low-from-one, power-in-order)
@@ -133,16 +156,20 @@ module _ (A p q : ℕ) (from : 1 ≤ A) (to : A ≤ 65536) (e : Exponent p q) wh
 -- AT A STORED EXPONENT: 20,000^0.79 is below 2,500, and the high end below 2,600
 
 pub power-high-small : (A p : ℕ) → 1 ≤ A → A ≤ 20000 → p ≤ 79 → powerHigh A p 100 ≤ 2600 * billion
-unfolding shownWidth
+unfolding powerWidth
 power-high-small A p from to hp =
     let big : A ≤ 65536 = omega arith in
     let e : Exponent p 100 = record { at-most-one = omega arith; positive = omega arith; few = omega arith } in
     let low = power-low-below A p 100 from big e 20000 79 (2500 * billion) to hp (lit< tt) (lit≤ tt) in
-    omega (arith, low, power-shown-width A p 100 from big e .width)
+    omega (arith, low, power-width A p 100 from big e .width)
 
 module _ (base e : ℕ) (from : 1 ≤ base) (to : base ≤ 20000) (h : e < 5) where
   pub stored-exponent-standing : StandingPower base (exponentAt e) 100 (powerBracket base (exponentAt e) 100)
   stored-exponent-standing = power-standing base (exponentAt e) 100 from (omega arith) (exponent-is e h)
+
+  pub stored-exponent-shown-width : RelativeWidth shownWidth 1 (powerBracket base (exponentAt e) 100)
+  stored-exponent-shown-width =
+      power-shown-width base (exponentAt e) 100 from (omega arith) (exponent-is e h) (omega (arith, exponent-from e h)) (omega (arith, exponent-small e h))
 
   pub stored-exponent-low-from-one : billion ≤ powerLow base (exponentAt e) 100
   stored-exponent-low-from-one = power-low-from-one base (exponentAt e) 100 from (omega arith) (exponent-is e h)

@@ -1,9 +1,9 @@
--- How far apart two rounded products are: s t g over S R below, (s + 1)(t + 1) g' above, with s and t from S on and g' near g.
+-- How far apart two rounded products are: s t g over S R below, (s + 1)(t + 1) g' above, with g' near g.
 -- Assumes nothing.
 use Prim.Native.Nat.{ℕ, _+_, _*_, _≤_, _<_}
-use mathlib.Core.Path.{_≡_, ap}
 use native.Mathlib.Nat.{mul-le-mul, mul-le-mul-left, mul-le-mul-right, le-of-mul-le-mul-right}
 use native.Mathlib.Omega.{arith}
+use lib.Dec.{lit≤}
 use Rattle.wide.specs.Scaling.{floor, ceiling}
 use Rattle.wide.specs.Rounding.{floor-le, floor-lt, ceiling-ge, ceiling-lt}
 use Rattle.remainder.specs.Quotient.{RoundedDown, RoundedUp, at-most}
@@ -18,31 +18,53 @@ ceiling-rounded a n d h = record { above = ceiling-ge a n d h; near = ceiling-lt
 pub at-least : (x y d z : ℕ) → d ≤ y → RoundedDown (x * y) d z → x ≤ z
 at-least x y d z h f = at-most x d z (omega (arith, f .near, mul-le-mul-left x h))
 
-module _ (S R s t u u' g g' v v' : ℕ) (hS : 0 < S) (hs : S ≤ s) (ht : S ≤ t) (a : RoundedDown (s * t) S u) (b : RoundedUp ((s + 1) * (t + 1)) S u')
-    (near : g' ≤ g + 7583) (hg : R ≤ g) (hg' : g ≤ 2 * R) (k : R ≡ 1000 * S) (l : 40000 ≤ S) (c : RoundedDown (u * g) R v) (d : RoundedUp (u' * g') R v') where
+module _ (S R s t u u' g g' v v' c : ℕ) (hS : 0 < S) (a : RoundedDown (s * t) S u) (b : RoundedUp ((s + 1) * (t + 1)) S u')
+    (near : g' ≤ g + c) (small : g' ≤ 1005 * S) (f : RoundedDown (u * g) R v) (h : RoundedUp (u' * g') R v') where
   -- the first roundings
-  first : u' * S ≤ u * S + 4 * u
-  first =
-      let p : s ≤ u = at-least s t S u ht a in
-      let q : t ≤ u = at-least t s S u hs (record { below = omega (arith, a .below); near = omega (arith, a .near) }) in
-      omega (arith, b .near, a .near)
+  first : u' * S ≤ u * S + (s + t + 2 * S)
+  first = omega (arith, b .near, a .near)
 
   -- and the second
-  second : v' * R * S ≤ (v * R + 17584 * u) * S
+  second : v' * R * S ≤ (v * R + u * c + 1005 * (s + t + 2 * S) + 2 * R) * S
   second =
-      let p : u' * S * g' ≤ (u * S + 4 * u) * (g + 7583) = mul-le-mul first near in
-      let q : S ≤ u = omega (arith, at-least s t S u ht a) in
       omega (
         arith,
-        mul-le-mul-right S (d .near),
-        mul-le-mul-right S (c .near),
-        mul-le-mul-left u hg',
-        mul-le-mul-left u l,
-        mul-le-mul-left R q,
-        ap (λ z. u * z) k,
-        ap (λ z. z * S) k,
-        p,
+        mul-le-mul-right S (h .near),
+        mul-le-mul-right S (f .near),
+        mul-le-mul-right g' first,
+        mul-le-mul-left (u * S) near,
+        mul-le-mul-left (s + t + 2 * S) small,
       )
 
-  pub ends-near : v' * R ≤ v * R + 17584 * u
-  ends-near = le-of-mul-le-mul-right {k = S} second hS
+  pub ends-apart : v' * R ≤ v * R + u * c + 1005 * (s + t + 2 * S) + 2 * R
+  ends-apart = le-of-mul-le-mul-right {k = S} second hS
+
+-- WHAT THE ROUNDINGS ADD, BESIDE THE FIRST PRODUCT
+
+abbrev pub RoundingsWithin : (S w s t : ℕ) → Type 0
+RoundingsWithin S w s t = (u : ℕ) → RoundedDown (s * t) S u → 1005 * (s + t + 2 * S) + 2000 * S ≤ w * u
+
+-- s, t and S beside u, where s is from k and t from l hundredths of S on
+record Beside (k l S s t u : ℕ) : Type 0 where
+  first : l * s ≤ 100 * (u + 1)
+  second : k * t ≤ 100 * (u + 1)
+  unit : k * l * S ≤ 10000 * (u + 1)
+  from-s : s ≤ u
+
+beside : (k l S s t u : ℕ) → 0 < S → 100 ≤ l → k * S ≤ 100 * s → l * S ≤ 100 * t → RoundedDown (s * t) S u → Beside k l S s t u
+beside k l S s t u h hl hs ht a =
+    let from-one : S ≤ t = omega (arith, mul-le-mul-right S hl) in
+    record {
+      first = le-of-mul-le-mul-right {k = S} (omega (arith, mul-le-mul-left s ht, a .near)) h;
+      second = le-of-mul-le-mul-right {k = S} (omega (arith, mul-le-mul-left t hs, a .near)) h;
+      unit = le-of-mul-le-mul-right {k = S} (omega (arith, mul-le-mul hs ht, a .near)) h;
+      from-s = at-least s t S u from-one a;
+    }
+
+module _ (S s t : ℕ) (big : 10000 ≤ S) where
+  pub roundings-from-one : 100 * S ≤ 100 * s → 100 * S ≤ 100 * t → RoundingsWithin S 6021 s t
+  roundings-from-one hs ht u a = let b = beside 100 100 S s t u (omega arith) (lit≤ tt) hs ht a in omega arith
+
+  -- s from 1.14 S, t from 2.6 S on
+  pub roundings-from-two : 114 * S ≤ 100 * s → 260 * S ≤ 100 * t → RoundingsWithin S 2622 s t
+  roundings-from-two hs ht u a = let b = beside 114 260 S s t u (omega arith) (lit≤ tt) hs ht a in omega arith

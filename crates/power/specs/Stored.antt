@@ -3,11 +3,11 @@
 use Prim.Native.Nat.{ℕ, _+_, _-_, _*_, _^_, _≤_, _<_}
 use mathlib.Core.List.{List}
 use mathlib.Core.Path.{_≡_, refl}
-use native.Mathlib.Nat.{le-trans, le-of-lt, lt-of-not-le, not-suc-le-self, mul-le-mul-right, one-le-pow, pow-le-pow-right}
+use native.Mathlib.Nat.{le-trans, le-of-lt, lt-of-not-le, not-suc-le-self, mul-comm, mul-le-mul-right, one-le-pow, pow-le-pow-left, pow-le-pow-right}
 use native.Mathlib.Numerals.{add-one}
 use native.Mathlib.Omega.{arith}
 use lib.ListN.{getD}
-use Rattle.estimate.specs.WholePower.{mul-pow, pow-le-cancel}
+use Rattle.estimate.specs.WholePower.{mul-pow, pow-mul, pow-le-cancel}
 use Rattle.estimate.specs.Power.{powerLargest, power-largest-is}
 use Rattle.remainder.specs.Remainder.{Exponent}
 use Rattle.power.specs.Exponents.{exponentAt}
@@ -33,6 +33,17 @@ pub record StoredPowers (table : List ℕ) : Type 0 where
   pub low : (e k : ℕ) → e < 5 → 1 ≤ k → k ≤ 256 → getD table (entry e k) 0 ≡ storedLow k (exponentAt e) 100
   pub high : (e k : ℕ) → e < 5 → 1 ≤ k → k ≤ 256 → getD table (entry e k + 1) 0 ≡ storedHigh k (exponentAt e) 100
 
+-- A LOWER BOUND OF k^(1/c) IS ONE OF k^(p/q) FOR EVERY EXPONENT FROM 1/c ON
+
+pow-swap : (a m n : ℕ) → (a ^ m) ^ n ≡ (a ^ n) ^ m
+pow-swap a m n = rw (← pow-mul a m n, ← pow-mul a n m, mul-comm m n)
+
+root-below-power : (k p q c w S : ℕ) → 0 < k → 0 < c → q ≤ p * c → w ^ c ≤ k * S ^ c → w ^ q ≤ k ^ p * S ^ q
+root-below-power k p q c w S hk hc part h =
+    pow-le-cancel c hc
+    (rw (pow-swap w q c, mul-pow (k ^ p) (S ^ q) c, pow-swap S q c, ← pow-mul k p c)
+    (le-trans (pow-le-pow-left h q) (rw (mul-pow k (S ^ c) q) (mul-le-mul-right ((S ^ c) ^ q) (pow-le-pow-right hk part)))))
+
 -- THEY ARE BOUNDS, FOR EVERY BASE AND EXPONENT
 
 module _ (k p q : ℕ) (e : Exponent p q) where
@@ -53,6 +64,12 @@ module _ (k p q : ℕ) (e : Exponent p q) where
     pub stored-from-one : billion ≤ storedLow k p q
     unfolding storedLow
     stored-from-one = power-largest-is 9 k p q (e .positive) .most billion (omega (arith, mul-le-mul-right (billion ^ q) (one-le-pow p k h)))
+
+    -- at least a lower bound of b^(1/c), for a k from b and an exponent from 1/c on
+    pub stored-from-root : (b c w : ℕ) → 0 < c → q ≤ p * c → b ≤ k → w ^ c ≤ b * billion ^ c → w ≤ storedLow k p q
+    unfolding storedLow
+    stored-from-root b c w hc part hb hw =
+        power-largest-is 9 k p q (e .positive) .most w (root-below-power k p q c w billion h hc part (le-trans hw (mul-le-mul-right (billion ^ c) hb)))
 
     -- at most k itself
     pub stored-small : storedLow k p q ≤ k * billion

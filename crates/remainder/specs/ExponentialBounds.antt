@@ -128,17 +128,18 @@ exponential-high-is x h =
 
 -- TWO CLOSE ARGUMENTS HAVE CLOSE SUMS
 
-sums-near : (R x y : ℕ) → 250 * x ≤ R → 250 * y ≤ R → y ≤ x + 7502 → sumNum y R 3 * R ≤ sumNum x R 3 * R + 7550 * termDen R 3
-sums-near R x y s t h =
-    let t2 : y * y ≤ x * x + 62 * R = omega (arith, mul-le-mul-left y h, mul-le-mul-left x h) in
+sums-near : (R x y d : ℕ) → 250 * x ≤ R → 250 * y ≤ R → d ≤ 7502 → y ≤ x + d → sumNum y R 3 * R ≤ sumNum x R 3 * R + (d + 48) * termDen R 3
+sums-near R x y d s t few h =
+    let near : y ≤ x + 7502 = omega arith in
+    let t2 : y * y ≤ x * x + 62 * R = omega (arith, mul-le-mul-left y near, mul-le-mul-left x near) in
     let t3 : y * y * y ≤ x * x * x + R * R =
-    omega (arith, mul-le-mul-left y t2, mul-le-mul-right (x * x) h, mul-le-mul-left x s, mul-le-mul-left R s, mul-le-mul-left R t) in
+    omega (arith, mul-le-mul-left y t2, mul-le-mul-right (x * x) near, mul-le-mul-left x s, mul-le-mul-left R s, mul-le-mul-left R t) in
     rw (third-sum x R, third-sum y R, third-den R) (omega (arith, mul-le-mul-left (R * R * R) h, mul-le-mul-left (3 * (R * R)) t2, mul-le-mul-left R t3))
 
-bounds-near : (K P Q v w : ℕ) → P ≤ (v + 3) * K → w * K ≤ Q + 30 * K → Q ≤ P + 7550 * K → 0 < K → w ≤ v + 7583
-bounds-near K P Q v w a b c h = at-most w K (v + 7583) (omega arith)
+bounds-near : (K P Q v w d : ℕ) → P ≤ (v + 3) * K → w * K ≤ Q + 30 * K → Q ≤ P + (d + 48) * K → 0 < K → w ≤ v + (d + 81)
+bounds-near K P Q v w d a b c h = at-most w K (v + (d + 81)) (omega arith)
 
-pub exponentials-near : (x y : ℕ) → x ≤ 4000000000 → y ≤ 4000000000 → y ≤ x + 7502 → exponentialHigh y ≤ exponentialLow x + 7583
-exponentials-near x y s t h =
-    bounds-near (termDen scale 3) (sumNum x scale 3 * scale) (sumNum y scale 3 * scale) (exponentialLow x) (exponentialHigh y)
-    (exponential-low-is x s .near) (exponential-high-is y t .near) (sums-near scale x y (omega arith) (omega arith) h) (rw (third-den scale) (lit< tt))
+pub exponentials-near : (x y d : ℕ) → x ≤ 4000000000 → y ≤ 4000000000 → d ≤ 7502 → y ≤ x + d → exponentialHigh y ≤ exponentialLow x + (d + 81)
+exponentials-near x y d s t few h =
+    bounds-near (termDen scale 3) (sumNum x scale 3 * scale) (sumNum y scale 3 * scale) (exponentialLow x) (exponentialHigh y) d
+    (exponential-low-is x s .near) (exponential-high-is y t .near) (sums-near scale x y d (omega arith) (omega arith) few h) (rw (third-den scale) (lit< tt))

@@ -9,7 +9,7 @@ use Rattle.estimate.specs.Fraction.{_≤ᶠ_, fraction, decimal}
 use Rattle.estimate.specs.FractionLaws.{≤ᶠ-refl}
 use Rattle.estimate.specs.ExponentialBounds.{AtMostExp, AtLeastExp, at-most-weaker, at-least-weaker}
 use Rattle.estimate.specs.Remainder.{ratio, twiceZ, twiceZAndCube, ratio-at-least, ratio-at-most}
-use Rattle.remainder.specs.Quotient.{quotientUp, RoundedDown, RoundedUp, rounded-down, quotient-up, half-up, at-most, product-up-≤}
+use Rattle.remainder.specs.Quotient.{quotientUp, RoundedDown, RoundedUp, rounded-down, quotient-up, quotient-up-zero, half-up, at-most, product-up-≤}
 use Rattle.remainder.specs.Remainder.{SmallRest, scale, logLow, logHigh}
 
 module _ (N r : ℕ) (s : SmallRest N r) where
@@ -109,6 +109,13 @@ module _ (N r : ℕ) (s : SmallRest N r) where
   -- 7.501 * 10^-9 apart at most
   pub log-near : logHigh N r ≤ logLow N r + 7501
   log-near = at-most (logHigh N r) (2 * N + r) (logLow N r + 7501) (omega (arith, log-low-rounded N r s .near, log-high-is .near))
+
+  -- and equal where there is no rest
+  pub log-near-whole : r ≡ 0 → logHigh N r ≤ logLow N r + 0
+  unfolding logHigh
+  log-near-whole e =
+      let none = quotient-up-zero scale (lit< tt) in
+      rw (e, quotient-up-zero (2 * N + 0) (omega arith), none, none) (omega arith)
 
   -- THE BOUNDS AGAINST e^x
   pub log-low-at-least : AtLeastExp (ratio N r (s .positive)) (decimal 12 (logLow N r))

@@ -1,7 +1,7 @@
 -- a / d, rounded down and rounded up, by its product with d.
 -- Assumes nothing.
 use Prim.Native.Nat.{ℕ, _+_, _-_, _*_, _/_, _≤_, _<_}
-use mathlib.Core.Path.{_≡_, refl}
+use mathlib.Core.Path.{_≡_, refl, sym}
 use native.Mathlib.Nat.{le-antisymm, mul-le-mul, mul-le-mul-right, lt-of-mul-lt-mul-right, div-mul-le-self, lt-div-mul-add}
 use native.Mathlib.Omega.{arith}
 use lib.Dec.{lit<}
@@ -51,6 +51,9 @@ rounded-up-is {a} {d} {q} h f = le-antisymm (least f (quotient-up a d h)) (least
   where
     least : {x y : ℕ} → RoundedUp a d x → RoundedUp a d y → x ≤ y
     least {x} {y} f g = at-most x d y (omega (arith, f .near, g .above))
+
+pub quotient-up-zero : (d : ℕ) → 0 < d → quotientUp 0 d ≡ 0
+quotient-up-zero d h = sym (rounded-up-is h (record { above = omega arith; near = omega arith }))
 
 -- from the quotient rounded down
 pub up-from-down : {a d q : ℕ} → RoundedDown a d q → q * d < a → RoundedUp a d (q + 1)

@@ -1,13 +1,14 @@
 -- The bounds of ((N+r)/N)^(p/q), for every exponent p/q up to 1: that they are bounds, how near they are and how large.
 -- Assumes nothing.
 use Prim.Native.Nat.{ℕ, _+_, _*_, _^_, _≤_, _<_}
+use mathlib.Core.Path.{_≡_}
 use native.Mathlib.Nat.{mul-le-mul, mul-le-mul-left, mul-le-mul-right, le-of-mul-le-mul-right}
 use native.Mathlib.Omega.{arith}
-use lib.Dec.{lit<}
+use lib.Dec.{lit<, lit≤}
 use Rattle.estimate.specs.Remainder.{ratio-power-low-whole, ratio-power-high-whole}
 use Rattle.remainder.specs.Quotient.{quotientDown, quotientUp, RoundedDown, RoundedUp, rounded-down, quotient-up, at-most}
 use Rattle.remainder.specs.Remainder.{SmallRest, Exponent, scale, logLow, logHigh, remainderLow, remainderHigh}
-use Rattle.remainder.specs.LogarithmBounds.{log-low-stands, log-low-small, log-high-stands, log-high-small, log-near}
+use Rattle.remainder.specs.LogarithmBounds.{log-low-stands, log-low-small, log-high-stands, log-high-small, log-near, log-near-whole}
 use Rattle.remainder.specs.ExponentialBounds.{ExponentialLow, ExponentialHigh, exponential-low-is, exponential-high-is, exponentials-near}
 
 -- A NUMBER TIMES p/q
@@ -19,8 +20,8 @@ module _ {p q : ℕ} (e : Exponent p q) where
   part-up-≤ : {y x : ℕ} → RoundedUp (y * p) q x → x ≤ y
   part-up-≤ {y} {x} f = at-most x q y (omega (arith, f .near, mul-le-mul-left y (e .at-most-one)))
 
-  parts-near : (y y' : ℕ) {x x' : ℕ} → y' ≤ y + 7501 → RoundedDown (y * p) q x → RoundedUp (y' * p) q x' → x' ≤ x + 7502
-  parts-near y y' {x} {x'} h f g = at-most x' q (x + 7502) (omega (arith, f .near, g .near, mul-le-mul-right p h, e .at-most-one))
+  parts-near : (y y' c d : ℕ) {x x' : ℕ} → y' ≤ y + c → c * p + q ≤ d * q → RoundedDown (y * p) q x → RoundedUp (y' * p) q x' → x' ≤ x + d
+  parts-near y y' c d {x} {x'} h k f g = at-most x' q (x + d) (omega (arith, f .near, g .near, mul-le-mul-right p h))
 
   pub part-fits : {y : ℕ} → y ≤ 3914000000 → y * p ≤ 3914000000 * 1000
   part-fits h = mul-le-mul {m₂ = 1000} h (omega arith)
@@ -57,12 +58,22 @@ module _ (N r p q : ℕ) (s : SmallRest N r) (e : Exponent p q) where
       ratio-power-high-whole N r scale p q 3 (logHigh N r) (quotientUp (logHigh N r * p) q) (remainderHigh N r p q) (s .positive) (lit< tt)
       (omega arith) (omega (arith, high-part-small)) (log-high-stands N r s) (high-part .above) (high-is .stands)
 
-  -- 7.583 * 10^-9 apart at most
-  pub remainder-near : remainderHigh N r p q ≤ remainderLow N r p q + 7583
+  -- how near they are, where the logarithm's bounds are c apart at most: d is c p/q, rounded up and one more
+  pub remainder-near-by : (c d : ℕ) → logHigh N r ≤ logLow N r + c → c * p + q ≤ d * q → d ≤ 7502 → remainderHigh N r p q ≤ remainderLow N r p q + (d + 81)
   unfolding remainderLow remainderHigh
-  remainder-near =
-      exponentials-near (quotientDown (logLow N r * p) q) (quotientUp (logHigh N r * p) q) low-part-small high-part-small
-      (parts-near e (logLow N r) (logHigh N r) (log-near N r s) low-part high-part)
+  remainder-near-by c d near part few =
+      exponentials-near (quotientDown (logLow N r * p) q) (quotientUp (logHigh N r * p) q) d low-part-small high-part-small few
+      (parts-near e (logLow N r) (logHigh N r) c d near part low-part high-part)
+
+  -- 7.583 * 10^-9 apart at most, 6.833 * 10^-9 for an exponent up to 9/10, and 0.082 * 10^-9 where there is no rest
+  pub remainder-near : remainderHigh N r p q ≤ remainderLow N r p q + 7583
+  remainder-near = remainder-near-by 7501 7502 (log-near N r s) (omega arith) (lit≤ tt)
+
+  pub remainder-near-to-nine-tenths : 10 * p ≤ 9 * q → remainderHigh N r p q ≤ remainderLow N r p q + 6833
+  remainder-near-to-nine-tenths h = remainder-near-by 7501 6752 (log-near N r s) (omega arith) (lit≤ tt)
+
+  pub remainder-near-whole : r ≡ 0 → remainderHigh N r p q ≤ remainderLow N r p q + 82
+  remainder-near-whole h = remainder-near-by 0 1 (log-near-whole N r s h) (omega arith) (lit≤ tt)
 
   -- from 1 to 1.005
   pub remainder-low-from-one : scale ≤ remainderLow N r p q

@@ -23,7 +23,8 @@ restOf a = a - firstFactor a * secondFactor a
 abbrev pub splitOf : ℕ → Parts
 splitOf a = record { n = firstFactor a; m = secondFactor a; r = restOf a }
 
--- what the split gives: both factors within the stored numbers, and a rest that is small beside their product
+-- what the split gives: both factors within the stored numbers, and a rest that is small beside their product; where there is one,
+-- the factors are not small
 pub record Splits (a n m r : ℕ) : Type 0 where
   pub is : n * m + r ≡ a
   pub n-from : 1 ≤ n
@@ -31,6 +32,8 @@ pub record Splits (a n m r : ℕ) : Type 0 where
   pub m-from : 1 ≤ m
   pub m-to : m ≤ 256
   pub rest : SmallRest (n * m) r
+  pub n-from-two : 0 < r → 2 ≤ n
+  pub m-from-128 : 0 < r → 128 ≤ m
 
 splits-by : (a n m : ℕ) → 1 ≤ a → a ≤ 65536 → RoundedUp a 256 n → RoundedDown a n m → Splits a n m (a - n * m)
 splits-by a n m h k f g =
@@ -44,6 +47,8 @@ splits-by a n m h k f g =
       m-from = m-from;
       m-to = at-most m n 256 (omega (arith, f .above, g .below));
       rest = record { positive = mul-pos n-from m-from; small = omega (arith, f .near, g .near); few = omega arith };
+      n-from-two = λ r. omega (arith, g .near);
+      m-from-128 = λ r. at-most 128 n m (omega (arith, f .near, g .near));
     }
   where
     from-one : (m n : ℕ) → n < m * n + n → 1 ≤ m
