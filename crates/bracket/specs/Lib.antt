@@ -2,3 +2,4 @@
 pub mod Bracket
 pub mod Carry
 pub mod CarryLaws
+pub mod Pieces

@@ -1,11 +1,12 @@
 -- A rule of a table: one test, computed entry after entry, and one law that carries it to each entry.
 -- Assumes nothing.
-use mathlib.Core.Path.{_∙_, subst, sym}
+use mathlib.Core.Path.{_≡_, _∙_, subst, sym}
 use mathlib.Core.Bool.{Bool, true, false}
+use mathlib.Core.Logic.{⊎-elim}
 use mathlib.Core.List.{List, [], _∷_, _++_}
 use Prim.Native.Nat.{ℕ, zero, suc, _+_, _<_}
-use native.Mathlib.Nat.{add-zero, zero-add, add-suc, suc-add, le-of-suc-le-suc, not-suc-le-zero}
-use lib.Dec.{T}
+use native.Mathlib.Nat.{add-zero, zero-add, add-suc, suc-add, le-of-suc-le-suc, not-suc-le-zero, eq-or-lt-of-le}
+use lib.Dec.{T, eqb, eqb→eq}
 use lib.ListN.{length, getD}
 
 -- both tests pass
@@ -48,3 +49,22 @@ every-append test (x ∷ xs) ys i s t =
     both-of (test i x) (every test (suc i) (xs ++ ys)) (both-left (test i x) (every test (suc i) xs) s)
     (every-append test xs ys (suc i) (both-right (test i x) (every test (suc i) xs) s)
     (subst (λ (m : ℕ). T (every test m ys)) (add-suc i (length xs) ∙ sym (suc-add i (length xs))) t))
+
+-- a test passes at each number below n
+unfoldable pub allBelow : (ℕ → Bool) → ℕ → Bool
+allBelow test zero = true
+allBelow test (suc n) = both (test n) (allBelow test n)
+
+pub all-below : (test : ℕ → Bool) (n : ℕ) → T (allBelow test n) → (i : ℕ) → i < n → T (test i)
+unfolding allBelow
+all-below test zero t i h = absurd (not-suc-le-zero h)
+all-below test (suc n) t i h =
+    ⊎-elim (λ (e : i ≡ n). rw e (both-left (test n) (allBelow test n) t)) (λ (l : i < n). all-below test n (both-right (test n) (allBelow test n) t) i l)
+    (eq-or-lt-of-le (le-of-suc-le-suc h))
+
+-- two functions that a test finds equal at each number below n, and two of two numbers
+pub agree-below : (f g : ℕ → ℕ) (n : ℕ) → T (allBelow (λ i. eqb (f i) (g i)) n) → (i : ℕ) → i < n → f i ≡ g i
+agree-below f g n t i h = eqb→eq (f i) (g i) (all-below (λ i. eqb (f i) (g i)) n t i h)
+
+pub agree-below-both : (f g : ℕ → ℕ → ℕ) (m n : ℕ) → T (allBelow (λ i. allBelow (λ j. eqb (f i j) (g i j)) n) m) → (i j : ℕ) → i < m → j < n → f i j ≡ g i j
+agree-below-both f g m n t i j h k = agree-below (f i) (g i) n (all-below (λ i. allBelow (λ j. eqb (f i j) (g i j)) n) m t i h) j k

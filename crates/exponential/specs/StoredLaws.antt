@@ -1,17 +1,15 @@
 -- A table is tested by one computation. Each stored number is at most e^i, and the next one is at least e^i.
 -- Assumes nothing.
-use Prim.Native.Nat.{ℕ, zero, suc, _+_, _*_, _≤_, _<_}
+use Prim.Native.Nat.{ℕ, _+_, _*_, _≤_, _<_}
 use mathlib.Core.Path.{_≡_}
-use mathlib.Core.Bool.{Bool, true}
+use mathlib.Core.Bool.{Bool}
 use mathlib.Core.List.{List}
-use mathlib.Core.Logic.{⊎-elim}
-use native.Mathlib.Nat.{not-suc-le-zero, le-of-suc-le-suc, eq-or-lt-of-le}
 use native.Mathlib.Omega.{arith}
 use lib.Dec.{T, leb, ltb, eqb, leb→le, ltb→lt, eqb→eq}
 use lib.ListN.{length, getD}
 use Rattle.estimate.specs.Fraction.{_≤ᶠ_, fraction, whole, leᶠ}
 use Rattle.estimate.specs.FractionLaws.{≤ᶠ-refl, leᶠ-sound, whole-mono}
-use Rattle.estimate.specs.Table.{both, both-left, both-right, every, at}
+use Rattle.estimate.specs.Table.{both, both-left, both-right, every, at, allBelow, all-below}
 use Rattle.estimate.specs.Exponential.{termNum, termDen, sumNum, partialSum, sumWithTail, expUnder, expOver}
 use Rattle.estimate.specs.ExponentialBounds.{AtMostExp, AtLeastExp, at-most-weaker, at-least-weaker, exp-under-at-most, exp-over-at-least}
 use Rattle.exponential.specs.Scale.{scale, scaled, rounded-down-≤}
@@ -52,18 +50,6 @@ bounded-sound i t =
       most = ltb→lt _ _ (both-right (leb scale (storedExp i)) (ltb (storedExp i) storedMost) s);
       next-over = leᶠ-sound _ _ (both-right (sized i) (nextOver i) t);
     }
-
--- a test passes at each number below n
-allBelow : (ℕ → Bool) → ℕ → Bool
-allBelow test zero = true
-allBelow test (suc n) = both (test n) (allBelow test n)
-
-all-below : (test : ℕ → Bool) (n : ℕ) → T (allBelow test n) → (i : ℕ) → i < n → T (test i)
-unfolding allBelow
-all-below test zero t i h = absurd (not-suc-le-zero h)
-all-below test (suc n) t i h =
-    ⊎-elim (λ (e : i ≡ n). rw e (both-left (test n) (allBelow test n) t)) (λ (l : i < n). all-below test n (both-right (test n) (allBelow test n) t) i l)
-    (eq-or-lt-of-le (le-of-suc-le-suc h))
 
 all-bounded : T (allBelow bounded 15)
 unfolding allBelow bounded sized nextOver storedExp expUnder expOver partialSum sumWithTail sumNum termNum termDen whole scaled fraction leᶠ

@@ -5,6 +5,7 @@ pub mod Widths
 pub mod Alignment
 pub mod Access
 pub mod Crossings
+pub mod Grade
 pub mod Parts
 pub mod Predicted
 pub mod Expected
@@ -12,3 +13,4 @@ pub mod ExpectedLaws
 pub mod Truncation
 pub mod KnownFigures
 pub mod Tempting
+pub mod FactorBounds

@@ -2,8 +2,8 @@
 use Prim.Native.Nat.{ℕ, _+_, _-_, _*_}
 use mathlib.Core.Bool.{cond}
 use mathlib.Core.List.{List, [], _∷_}
-use lib.Dec.{leb, eqb}
-use Rattle.estimate.specs.Fraction.{Fraction, _//_, whole, lesser, greater}
+use lib.Dec.{leb, eqb, lit<}
+use Rattle.estimate.specs.Fraction.{Fraction, fraction, _//_, whole, lesser, greater}
 use Rattle.estimate.specs.Power.{powerUnder, powerOver}
 use Rattle.estimate.specs.Exponential.{expUnder, expOver, expNegUnder, expNegOver}
 use Rattle.estimate.specs.Logarithm.{lnUnder, lnOver}
@@ -30,11 +30,14 @@ abbrev pub power : (traffic hundredths : ℕ) → Part
 power traffic hundredths = record { under = λ d. powerUnder d traffic hundredths 100; over = λ d. powerOver d traffic hundredths 100 }
 
 -- e^x and e^(-x), x in ten-thousandths
+abbrev pub tenThousandths : ℕ → Fraction
+tenThousandths x = fraction x 10000 (lit< tt)
+
 abbrev pub exponential : ℕ → Part
-exponential x = record { under = λ d. expUnder d (x // 10000); over = λ d. expOver d (x // 10000) }
+exponential x = record { under = λ d. expUnder d (tenThousandths x); over = λ d. expOver d (tenThousandths x) }
 
 abbrev pub exponentialNegative : ℕ → Part
-exponentialNegative x = record { under = λ d. expNegUnder d (x // 10000); over = λ d. expNegOver d (x // 10000) }
+exponentialNegative x = record { under = λ d. expNegUnder d (tenThousandths x); over = λ d. expNegOver d (tenThousandths x) }
 
 -- "e^(0.0668(RHR − 3))": a rating below 3 has a negative exponent
 abbrev pub hazard : ℕ → Part
@@ -80,17 +83,18 @@ segmentParts k calibration site term =
     ∷ exact (superelevation (number (site .deficiency)))
     ∷ [])
 
--- "3ST: Y × calibration × e^(−10.9) × A^0.79 × B^0.49 × factors × e^(0.0040 skew); 4ST: the same with ..; 4SG: .., no skew"
+-- "3ST: Y × calibration × e^(−10.9) × A^0.79 × B^0.49 × factors × e^(0.0040 skew); 4ST: the same with ..; 4SG: .., no skew", the
+-- base factor e^(−10.9) last
 unfoldable pub crossingParts : Coefficients → (calibration : ℕ) → Site → Term → List Part
 crossingParts k calibration site term =
     exact ((term .years * calibration) // 1000)
-    ∷ exponentialNegative (k .base-exponent (site .kind))
     ∷ power (term .traffic) (majorExponent (site .kind))
     ∷ power (term .minor) (minorExponent (site .kind))
     ∷ exact (leftTurn k (site .kind) (number (site .«left_lanes»)))
     ∷ exact (rightTurn k (site .kind) (number (site .«right_lanes»)))
     ∷ exact (sight (number (site .«limited_sight»)))
     ∷ exponential (skewExponent (site .kind) * number (site .skew))
+    ∷ exponentialNegative (k .base-exponent (site .kind))
     ∷ []
 
 abbrev pub partsOf : Coefficients → (segments crossings : ℕ) → Site → Term → List Part

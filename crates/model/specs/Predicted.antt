@@ -1,8 +1,10 @@
 -- A site's prediction N at depth d: "N's under-estimate takes each part's under .. Over takes each part's over".
 use Prim.Native.Nat.{ℕ}
+use mathlib.Core.Bool.{Bool, _&&_}
 use mathlib.Core.List.{List, [], _∷_}
 use Rattle.estimate.specs.Fraction.{Fraction, whole, _+ᶠ_, _*ᶠ_}
 use Rattle.site.specs.declared.values.Site.{Site}
+use Rattle.site.specs.Rules.{inside}
 use Rattle.model.specs.Coefficients.{Coefficients}
 use Rattle.model.specs.Parts.{Part, Term, number, partsOf}
 
@@ -22,9 +24,19 @@ pub record Header : Type 0 where
   pub segments : ℕ
   pub crossings : ℕ
 
+abbrev pub headerOf : (years segments crossings : ℕ) → Header
+headerOf years segments crossings = record { years = years; segments = segments; crossings = crossings }
+
+-- "years Y, 1 to 10"; "segment calibration, 1 to 9,999 thousandths. .. the same for crossings"
+unfoldable pub inLimits : Header → Bool
+inLimits header = inside 1 10 (header .years) && (inside 1 9999 (header .segments) && inside 1 9999 (header .crossings))
+
 -- one traffic for all the years
+abbrev pub termOf : (years : ℕ) → Site → Term
+termOf years site = record { years = years; traffic = number (site .traffic); minor = number (site .«minor_traffic») }
+
 unfoldable pub termsOf : Header → Site → List Term
-termsOf header site = record { years = header .years; traffic = number (site .traffic); minor = number (site .«minor_traffic») } ∷ []
+termsOf header site = termOf (header .years) site ∷ []
 
 unfoldable pub sumUnder : Coefficients → Header → Site → ℕ → List Term → Fraction
 sumUnder k header site d [] = whole 0

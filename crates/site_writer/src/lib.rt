@@ -5,7 +5,7 @@ ghost use lib.ListN.{length};
 ghost use lib.Seq.{sets};
 ghost use mathlib.Core.Bool.{_&&_, not};
 ghost use Rattle.site.specs.Rules.{lastKind, slotCount, bits, onCurve, absent};
-ghost use Rattle.site.specs.Writing.{slotsOf, curveHeld, rulesHeld, fits, allFit, slotBit, mapOf, fieldBytes, bytesOf};
+ghost use Rattle.site.specs.Writing.{slotsOf, curveHeld, rulesHeld, fits, allFit, slotBit, mapOf, fieldBytes, bytesOf, sound};
 ghost use Rattle.site.specs.Tested.{bitCount};
 ghost use Rattle.site.specs.Promises.{WritesSite};
 use site::rules;
@@ -127,6 +127,18 @@ fn do_all_fit(rules: [Rule; SLOTS], slots: [Slot; SLOTS]) -> bool
         i += 1;
     }
     true
+}
+
+// Whether nothing of a site is outside its range.
+pub fn is_sound(site: Site) -> bool
+    ensures { λ r. ⌜ r ≡ sound site ⌝ }
+{
+    let kind = site.kind;
+    if LAST_KIND < kind {
+        return false;
+    }
+    let slots = slots_of(site);
+    do_all_fit(rules_held(kind, slots), slots)
 }
 
 // The bit of a slot: 0 where it is absent or its rule's default.

@@ -1,0 +1,31 @@
+-- The part's bracket from the bracket of ln A and the part's values at its ends.
+-- Assumes nothing.
+use Prim.Native.Nat.{ℕ, _*_, _≤_, _<_}
+use mathlib.Core.Path.{_≡_, sym}
+use native.Mathlib.Omega.{arith}
+use Rattle.bracket.specs.declared.Bracket.{Bracket}
+use Rattle.logarithm.specs.Logarithm.{logarithmBracket}
+use Rattle.logarithm.specs.LogarithmLaws.{logarithm-in-order, logarithm-high-small}
+use Rattle.model.specs.Access.{drivewayAt}
+use Rattle.driveways.specs.Driveways.{valueOf, between, lowEnd, highEnd, drivewayBracket}
+use Rattle.driveways.specs.DrivewayLaws.{bracket-rising, bracket-falling}
+use Rattle.driveways.specs.declared.Value.{Value}
+
+-- an end of ln A is at most 10, so the slope there does not go below 0
+abbrev Fits : (num den : ℕ) → Type 0
+Fits num den = (0 < den) × (den ≤ 1000000000000) × (num ≤ 10 * den)
+
+module _ (a : ℕ) (from : 1 ≤ a) (to : a ≤ 20000) {ln : Bracket} (is : ln ≡ logarithmBracket a) where
+  pub low-fits : Fits (ln .«low_num») (ln .«low_den»)
+  low-fits = rw is (omega arith, omega arith, omega (arith, logarithm-in-order a from to, logarithm-high-small a from to))
+
+  pub high-fits : Fits (ln .«high_num») (ln .«high_den»)
+  high-fits = rw is (omega arith, omega arith, omega (arith, logarithm-high-small a from to))
+
+module _ (constant fewest count : ℕ) {ln known : Bracket} {at-low at-high : Value}
+    (is : known ≡ ln) (low-is : at-low ≡ valueOf (drivewayAt constant count (lowEnd known))) (high-is : at-high ≡ valueOf (drivewayAt constant count (highEnd known))) (l : fewest ≤ count) where
+  pub rising-ends : count < 5 → between at-low at-high ≡ drivewayBracket constant fewest count ln
+  rising-ends few = rw (low-is, high-is, is) (sym (bracket-rising constant fewest count ln l few))
+
+  pub falling-ends : 5 ≤ count → between at-high at-low ≡ drivewayBracket constant fewest count ln
+  falling-ends many = rw (low-is, high-is, is) (sym (bracket-falling constant fewest count ln l many))

@@ -1,0 +1,53 @@
+-- The bracket of the driveway part from a bracket of ln A: the model's value at each end of it.
+use Prim.Native.Nat.{ℕ, _≤_, _<_}
+use mathlib.Core.Bool.{cond}
+use lib.Dec.{ltb}
+use Rattle.estimate.specs.Fraction.{Fraction, _//_, whole}
+use Rattle.bracket.specs.declared.Bracket.{Bracket}
+use Rattle.logarithm.specs.Logarithm.{logarithmBracket}
+use Rattle.model.specs.Access.{drivewayAt}
+use Rattle.driveways.specs.declared.Value.{Value}
+
+-- a fraction as the two numbers that the code holds
+abbrev pub valueOf : Fraction → Value
+valueOf x = record { num = x .num; den = x .den }
+
+-- the bracket with these ends
+abbrev pub between : (low high : Value) → Bracket
+between low high = record { «low_num» = low .num; «low_den» = low .den; «high_num» = high .num; «high_den» = high .den }
+
+-- the ends of a bracket as fractions
+abbrev pub lowEnd : Bracket → Fraction
+lowEnd b = b .«low_num» // b .«low_den»
+
+abbrev pub highEnd : Bracket → Fraction
+highEnd b = b .«high_num» // b .«high_den»
+
+-- the ends where the part rises with ln A, and where it falls: there its low is at the high of ln A
+abbrev pub rising : (constant driveways : ℕ) → Bracket → Bracket
+rising constant driveways ln = between (valueOf (drivewayAt constant driveways (lowEnd ln))) (valueOf (drivewayAt constant driveways (highEnd ln)))
+
+abbrev pub falling : (constant driveways : ℕ) → Bracket → Bracket
+falling constant driveways ln = between (valueOf (drivewayAt constant driveways (highEnd ln))) (valueOf (drivewayAt constant driveways (lowEnd ln)))
+
+-- "(0.2 + c·DD)/(0.2 + 5c), c = 0.05 − 0.005 ln A" rises with ln A below 5 driveways and falls from 5 on
+unfoldable pub drivewayBracket : (constant fewest driveways : ℕ) → Bracket → Bracket
+drivewayBracket constant fewest driveways ln =
+    cond (ltb driveways fewest)
+    (between (valueOf (whole 1)) (valueOf (whole 1)))
+    (cond (ltb driveways 5) (rising constant driveways ln) (falling constant driveways ln))
+
+-- at a traffic
+abbrev pub drivewaysOf : (constant fewest driveways traffic : ℕ) → Bracket
+drivewaysOf constant fewest driveways traffic = drivewayBracket constant fewest driveways (logarithmBracket traffic)
+
+-- no number of the bracket is 0, and none is more than the most
+pub record Sized (most : ℕ) (b : Bracket) : Type 0 where
+  pub low-num-from : 0 < b .«low_num»
+  pub low-den-from : 0 < b .«low_den»
+  pub high-num-from : 0 < b .«high_num»
+  pub high-den-from : 0 < b .«high_den»
+  pub low-num-to : b .«low_num» ≤ most
+  pub low-den-to : b .«low_den» ≤ most
+  pub high-num-to : b .«high_num» ≤ most
+  pub high-den-to : b .«high_den» ≤ most

@@ -1,0 +1,35 @@
+use borrow.Author.Needs.{needs}
+use native.Mathlib.Omega.{arith}
+use mathlib.Core.Path.{sym}
+use native.Mathlib.Nat.{mul-le-mul}
+use Prim.Native.Nat.{_-_, _*_, _≤_}
+use Rattle.model.specs.FactorBounds.{highestValue}
+use Rattle.factors.specs.Ratio.{coded-quotient}
+use Rattle.factors.proofs.widths.of_related.Statement.{statement}
+use Rattle.factors.proofs.widths.of_related.Tie as tie
+
+products : (c : tie.Start) → let a = c .args in ((1000 - a .share) * a .unit ≤ 1000 * 10000000000) × (a .share * a .r ≤ 1000 * highestValue)
+products c =
+    let rest : 1000 - c .args .share ≤ 1000 = omega arith in
+    (mul-le-mul rest (c .pre .2), mul-le-mul (c .pre .0) (c .pre .3))
+
+sub-t4 : tie.Need-sub-t4
+sub-t4 c = search needs
+
+mul-t5 : tie.Need-mul-t5
+mul-t5 c = omega (arith, products c .0)
+
+mul-t6 : tie.Need-mul-t6
+mul-t6 c = omega (arith, products c .1)
+
+add-t7 : tie.Need-add-t7
+add-t7 c = omega (arith, products c .0, products c .1)
+
+mul-t8 : tie.Need-mul-t8
+mul-t8 c = search needs
+
+returns : tie.Need-returns
+returns c = sym (coded-quotient _ _ (omega arith))
+
+pub of-related-spec : {M : Type 1} → statement M
+of-related-spec = tie.close (tie.spec sub-t4 mul-t5 mul-t6 add-t7 mul-t8 returns)

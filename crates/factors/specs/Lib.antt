@@ -1,0 +1,3 @@
+-- What the factors' contracts cite beside the model's definitions.
+pub mod Ratio
+pub mod Column

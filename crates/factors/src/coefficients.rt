@@ -1,0 +1,52 @@
+// The numbers of edition 1, each once: constants, and tables by kind (0 segment, 1 3ST, 2 4ST, 3 4SG).
+ghost use mathlib.Core.Path.{_≡_};
+ghost use Prim.Native.Nat.{_≤_};
+ghost use Rattle.model.specs.Coefficients.{editionOne};
+ghost use Rattle.factors.specs.Ratio.{coded};
+use crate::Ratio;
+
+// What an edition sets and no kind changes.
+pub struct Coefficients {
+    // The share of a segment's crashes that lane and shoulder bear on, in thousandths.
+    pub related_share: u64,
+    // The constant of the driveway part, in thousandths.
+    pub driveway_constant: u64,
+    // The driveways per mile below which that part is 1.
+    pub fewest_driveways: u64,
+}
+
+// x of the base factor e^(-x), in ten-thousandths.
+const BASE_EXPONENTS: [u64; 4] = [4865, 109000, 93400, 57300];
+
+// Overdispersion k, in hundredths.
+const OVERDISPERSIONS: [u64; 4] = [31, 54, 24, 11];
+
+// Edition 1's numbers that are the same for every kind.
+pub fn edition_one() -> Coefficients
+    ensures { λ r. ⌜ (r .«related_share» ≡ editionOne .related-share) × (r .«driveway_constant» ≡ editionOne .driveway-constant) × (r .«fewest_driveways» ≡ editionOne .fewest-driveways) ⌝ }
+{
+    Coefficients {
+        related_share: 350,
+        driveway_constant: 200,
+        fewest_driveways: 0,
+    }
+}
+
+// x of a kind's base factor e^(-x), in ten-thousandths: the argument of the exponential.
+pub fn base_exponent(kind: u8) -> u64
+    requires { ⌜ kind ≤ 3 ⌝ }
+    ensures { λ r. ⌜ r ≡ editionOne .base-exponent kind ⌝ }
+{
+    BASE_EXPONENTS[kind as usize]
+}
+
+// A kind's overdispersion, by which its history is weighed; no length bears on it in edition 1.
+pub fn overdispersion(kind: u8, length: u64) -> Ratio
+    requires { ⌜ kind ≤ 3 ⌝ }
+    ensures { λ r. ⌜ r ≡ coded (editionOne .overdispersion kind length) ⌝ }
+{
+    Ratio {
+        num: OVERDISPERSIONS[kind as usize],
+        den: 100,
+    }
+}

@@ -1,0 +1,190 @@
+// Lane and shoulder: values by column that change with the traffic, and the factor of the related crashes.
+ghost use mathlib.Core.Path.{_≡_};
+ghost use Prim.Native.Nat.{_*_, _≤_, _<_};
+ghost use lib.ListN.{getD};
+ghost use Rattle.model.specs.Widths.{laneColumns, laneColumn, laneValue, shoulderColumns, shoulderColumn, shoulderValue, typeValue, none, atTraffic, ofRelated};
+ghost use Rattle.model.specs.FactorBounds.{ColumnWithin, highestValue};
+ghost use Rattle.factors.specs.Ratio.{coded};
+ghost use Rattle.factors.specs.Column.{columnOf};
+use crate::Ratio;
+
+// A column, in hundred-millionths: the value below A = 400, what each vehicle above 400 adds to it or takes from it, and the
+// value above 2,000.
+struct Column {
+    light: u64,
+    adds: u64,
+    takes: u64,
+    heavy: u64,
+}
+
+// 9 feet or less, 10, 11, 12 or more.
+const LANE_COLUMNS: [Column; 4] = [
+    Column {
+        light: 105_000_000,
+        adds: 28_100,
+        takes: 0,
+        heavy: 150_000_000,
+    },
+    Column {
+        light: 102_000_000,
+        adds: 17_500,
+        takes: 0,
+        heavy: 130_000_000,
+    },
+    Column {
+        light: 101_000_000,
+        adds: 2_500,
+        takes: 0,
+        heavy: 105_000_000,
+    },
+    Column {
+        light: 100_000_000,
+        adds: 0,
+        takes: 0,
+        heavy: 100_000_000,
+    },
+];
+
+// 0 feet, 2, 4, 6, 8 or more.
+const SHOULDER_COLUMNS: [Column; 5] = [
+    Column {
+        light: 110_000_000,
+        adds: 25_000,
+        takes: 0,
+        heavy: 150_000_000,
+    },
+    Column {
+        light: 107_000_000,
+        adds: 14_300,
+        takes: 0,
+        heavy: 130_000_000,
+    },
+    Column {
+        light: 102_000_000,
+        adds: 8_125,
+        takes: 0,
+        heavy: 115_000_000,
+    },
+    Column {
+        light: 100_000_000,
+        adds: 0,
+        takes: 0,
+        heavy: 100_000_000,
+    },
+    Column {
+        light: 98_000_000,
+        adds: 0,
+        takes: 6_875,
+        heavy: 87_000_000,
+    },
+];
+
+// Paved, gravel, composite and turf at the shoulder's columns, in hundredths.
+const TYPE_MULTIPLIERS: [[u64; 5]; 4] = [
+    [100, 100, 100, 100, 100],
+    [100, 101, 101, 102, 102],
+    [100, 102, 103, 104, 106],
+    [100, 103, 105, 108, 111],
+];
+
+// A column's value at a traffic: one rule for lane and shoulder.
+fn at_traffic(column: Column, traffic: u64) -> u64
+    requires { ⌜ ColumnWithin 1 (columnOf column) ⌝ }
+    ensures { λ r. ⌜ r ≡ atTraffic (columnOf column) traffic ⌝ }
+{
+    if traffic < 400 {
+        return column.light;
+    }
+    if traffic <= 2000 {
+        let above = traffic - 400;
+        return column.light + column.adds * above - column.takes * above;
+    }
+    column.heavy
+}
+
+// The place of a lane's column.
+fn lane_place(feet: u64) -> u64
+    ensures { λ r. ⌜ r ≡ laneColumn feet ⌝ }
+{
+    if feet <= 9 {
+        return 0;
+    }
+    if feet <= 12 {
+        return feet - 9;
+    }
+    3
+}
+
+// The place of a shoulder's column: an odd width takes the next lower one.
+fn shoulder_place(feet: u64) -> u64
+    ensures { λ r. ⌜ r ≡ shoulderColumn feet ⌝ }
+{
+    if feet <= 1 {
+        return 0;
+    }
+    if feet <= 3 {
+        return 1;
+    }
+    if feet <= 5 {
+        return 2;
+    }
+    if feet <= 7 {
+        return 3;
+    }
+    4
+}
+
+// The factor 1 + share (r - 1), of r / unit and a share in thousandths.
+fn of_related(share: u64, r: u64, unit: u64) -> Ratio
+    requires { ⌜ (share ≤ 1000) × (0 < unit) × (unit ≤ 10000000000) × (r ≤ highestValue) ⌝ }
+    ensures { λ f. ⌜ f ≡ coded (ofRelated share r unit) ⌝ }
+{
+    Ratio {
+        num: (1000 - share) * unit + share * r,
+        den: 1000 * unit,
+    }
+}
+
+// The lane's column.
+fn lane_column(feet: u64) -> Column
+    ensures { λ r. ⌜ columnOf r ≡ getD laneColumns (laneColumn feet) none ⌝ }
+{
+    LANE_COLUMNS[lane_place(feet) as usize]
+}
+
+// The shoulder's column.
+fn shoulder_column(feet: u64) -> Column
+    ensures { λ r. ⌜ columnOf r ≡ getD shoulderColumns (shoulderColumn feet) none ⌝ }
+{
+    SHOULDER_COLUMNS[shoulder_place(feet) as usize]
+}
+
+// The multiplier of a shoulder's type at its width, in hundredths.
+fn type_multiplier(surface: u64, feet: u64) -> u64
+    requires { ⌜ surface ≤ 3 ⌝ }
+    ensures { λ r. ⌜ r ≡ typeValue surface feet ⌝ }
+{
+    let place = shoulder_place(feet) as usize;
+    TYPE_MULTIPLIERS[surface as usize][place]
+}
+
+// The lane's factor, for the share of crashes that it bears on.
+pub fn lane(share: u64, feet: u64, traffic: u64) -> Ratio
+    requires { ⌜ share ≤ 1000 ⌝ }
+    ensures { λ r. ⌜ r ≡ coded (ofRelated share (laneValue feet traffic) 100000000) ⌝ }
+{
+    of_related(share, at_traffic(lane_column(feet), traffic), 100_000_000)
+}
+
+// The shoulder's factor, of its width's value times its type's.
+pub fn shoulder(share: u64, feet: u64, surface: u64, traffic: u64) -> Ratio
+    requires { ⌜ (share ≤ 1000) × (surface ≤ 3) ⌝ }
+    ensures { λ r. ⌜ r ≡ coded (ofRelated share (shoulderValue feet traffic * typeValue surface feet) 10000000000) ⌝ }
+{
+    let width = at_traffic(shoulder_column(feet), traffic);
+    of_related(
+        share,
+        width * type_multiplier(surface, feet),
+        10_000_000_000,
+    )
+}

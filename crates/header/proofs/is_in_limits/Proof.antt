@@ -1,0 +1,49 @@
+-- `header::is_in_limits` meets its contract. Each test is one of the definition's, in its order.
+-- Assumes nothing.
+use borrow.Author.Needs.{needs}
+use borrow.Author.Tests.{not-true, not-false}
+use Rattle.model.specs.Predicted.{inLimits}
+use Rattle.header.proofs.is_in_limits.Statement.{statement}
+use Rattle.header.proofs.is_in_limits.Tie as tie
+
+is-up-to-requires : tie.Need-is-up-to-requires
+is-up-to-requires c κs = search needs
+
+returns : tie.Need-returns
+unfolding inLimits
+returns c = simp (← c .before .is-up-to .ensures, not-true (c .before .is-up-to .result) (c .if1 .taken))
+
+is-up-to-requires-2 : tie.Need-is-up-to-requires-2
+is-up-to-requires-2 c κs = search needs
+
+returns-2 : tie.Need-returns-2
+unfolding inLimits
+returns-2 c = simp (
+  ← c .before .before .before .is-up-to .ensures,
+  not-false (c .before .before .before .is-up-to .result) (c .before .before .if1 .left),
+  ← c .before .is-up-to2 .ensures,
+  not-true (c .before .is-up-to2 .result) (c .if2 .taken),
+)
+
+is-up-to-requires-3 : tie.Need-is-up-to-requires-3
+is-up-to-requires-3 c κs = search needs
+
+returns-3 : tie.Need-returns-3
+unfolding inLimits
+returns-3 c = simp (
+  ← c .before .before .before .before .is-up-to .ensures,
+  not-false (c .before .before .before .before .is-up-to .result) (c .before .before .before .if1 .left),
+  ← c .before .before .is-up-to2 .ensures,
+  not-false (c .before .before .is-up-to2 .result) (c .before .if2 .left),
+) (c .is-up-to3 .ensures)
+
+pub is-in-limits-spec : {M : Type 1} → statement M
+is-in-limits-spec =
+    tie.close
+    (tie.spec
+    is-up-to-requires
+    returns
+    is-up-to-requires-2
+    returns-2
+    is-up-to-requires-3
+    returns-3)

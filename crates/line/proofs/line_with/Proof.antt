@@ -1,0 +1,55 @@
+-- `line::line_with` meets its contract.
+-- Assumes nothing.
+use Prim.Native.Nat.{ℕ}
+use mathlib.Core.Path.{ap, _∙_}
+use mathlib.Core.List.{List}
+use lib.ListN.{getD}
+use Rattle.site.specs.Ranges.{valid-kind}
+use Rattle.model.specs.Coefficients.{editionOne}
+use Rattle.model.specs.Predicted.{headerOf}
+use Rattle.factors.specs.declared.Ratio.{Ratio}
+use Rattle.factors.specs.Ratio.{coded}
+use Rattle.prediction.specs.PredictedLaws.{HeaderMost}
+use Rattle.line.specs.LineSizes.{low-sizes, high-sizes}
+use Rattle.line.specs.Weighing.{line-made}
+use borrow.Author.Needs.{needs}
+use Rattle.line.proofs.line_with.Statement.{statement}
+use Rattle.line.proofs.line_with.Tie as tie
+
+limits : (c : tie.Start) → HeaderMost (headerOf (c .args .years) (c .args .segments) (c .args .crossings))
+limits c = record { years-most = c .pre .3; segments-most = c .pre .4; crossings-most = c .pre .5 }
+
+numbers-of-requires : tie.Need-numbers-of-requires
+numbers-of-requires c κs = search needs
+
+array-read-overdispersion : tie.Need-array-read-overdispersion
+array-read-overdispersion c = search needs
+
+overdispersion-requires : tie.Need-overdispersion-requires
+overdispersion-requires c κs = valid-kind (c .before .args .site) (c .before .pre .6)
+
+predicted-with-requires : tie.Need-predicted-with-requires
+predicted-with-requires c κs = search needs
+
+weigh-requires : tie.Need-weigh-requires
+weigh-requires c κs =
+    let start = c .before .before .before in
+    rw (c .before .overdispersion .ensures, c .predicted-with .ensures)
+    (low-sizes _ (limits start) (start .args .site) (start .pre .6) _, high-sizes _ (limits start) (start .args .site) (start .pre .6) _)
+
+returns : tie.Need-returns
+returns c =
+    let length = ap (λ (numbers : List ℕ). editionOne .overdispersion (c .before .before .before .before .args .site .kind) (getD numbers 1 0)) (c .before .before .before .numbers-of .ensures) in
+    let k = c .before .before .overdispersion .ensures ∙ ap coded length in
+    line-made editionOne _ (c .before .before .before .before .args .site) _ _ _ _ (ap (λ (r : Ratio). r .num) k) (ap (λ (r : Ratio). r .den) k) (c .before .predicted-with .ensures) (c .weigh .ensures)
+
+pub line-with-spec : {M : Type 1} → statement M
+line-with-spec =
+    tie.close
+    (tie.spec
+    numbers-of-requires
+    array-read-overdispersion
+    overdispersion-requires
+    predicted-with-requires
+    weigh-requires
+    returns)

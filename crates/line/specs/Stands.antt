@@ -1,0 +1,54 @@
+-- What is claimed of a site's line, whatever makes it: right at every depth, in order, narrow, and between prediction and history.
+use Prim.Native.Nat.{ℕ, _+_, _*_, _≤_, min, max}
+use mathlib.Core.Path.{_≡_}
+use mathlib.Core.Bool.{false, _&&_}
+use Rattle.estimate.specs.Fraction.{Fraction, millionths}
+use Rattle.estimate.specs.Standing.{LowRight, HighRight}
+use Rattle.wide.specs.Rounding.{Narrow}
+use Rattle.site.specs.declared.values.Site.{Site}
+use Rattle.site.specs.declared.values.Slot.{Slot}
+use Rattle.site.specs.declared.values.Slot.the-variants.{Absent, Number}
+use Rattle.site.specs.Writing.{sound}
+use Rattle.model.specs.Coefficients.{Coefficients}
+use Rattle.model.specs.Parts.{number}
+use Rattle.model.specs.Predicted.{Header, inLimits, predictedUnder, predictedOver}
+use Rattle.model.specs.Expected.{expectedUnder, expectedOver}
+use Rattle.line.specs.declared.Line.{Line}
+use Rattle.line.specs.declared.LineAnswer.{LineAnswer}
+use Rattle.line.specs.declared.LineAnswer.the-variants.{Made, OutsideRange}
+
+-- THE STATED WIDTHS: at most a hundred-thousandth of the high, and for each site and crash
+abbrev pub widthParts : ℕ
+widthParts = 100000
+
+abbrev pub predictedEach : ℕ
+predictedEach = 4
+
+abbrev pub expectedEach : ℕ
+expectedEach = 8
+
+-- a number lies from the lesser to the greater of two
+pub record Amid (x y n : ℕ) : Type 0 where
+  pub from : min x y ≤ n
+  pub to : n ≤ max x y
+
+pub record LineStands (c : Coefficients) (header : Header) (site : Site) (line : Line) : Type 0 where
+  -- "A low is right when it is at most the over-estimate at every depth, a high when it is at least the under-estimate"
+  pub predicted-low-right : LowRight (millionths (line .«predicted_low»)) (predictedOver c header site)
+  pub predicted-high-right : HighRight (millionths (line .«predicted_high»)) (predictedUnder c header site)
+  pub expected-low-right : LowRight (millionths (line .«expected_low»)) (expectedOver c header site)
+  pub expected-high-right : HighRight (millionths (line .«expected_high»)) (expectedUnder c header site)
+  -- "No low passes its high"
+  pub predicted-in-order : line .«predicted_low» ≤ line .«predicted_high»
+  pub expected-in-order : line .«expected_low» ≤ line .«expected_high»
+  -- at most 4 and a hundred-thousandth of the high apart; with O crashes, 8 (1 + O) and a hundred-thousandth
+  pub predicted-narrow : Narrow widthParts predictedEach 1 (line .«predicted_low») (line .«predicted_high»)
+  pub expected-narrow : Narrow widthParts (expectedEach * (1 + number (site .observed))) 1 (line .«expected_low») (line .«expected_high»)
+  -- with a history, between the prediction and it
+  pub low-amid : (observed : ℕ) → site .observed ≡ Number observed → Amid (line .«predicted_low») (observed * 1000000) (line .«expected_low»)
+  pub high-amid : (observed : ℕ) → site .observed ≡ Number observed → Amid (line .«predicted_high») (observed * 1000000) (line .«expected_high»)
+
+-- an answer: its line stands, and none is answered only where the header or the site is outside its range
+abbrev pub AnswerStands : Coefficients → Header → Site → LineAnswer → Type 0
+AnswerStands c header site (Made line) = LineStands c header site line
+AnswerStands c header site OutsideRange = (inLimits header && sound site) ≡ false

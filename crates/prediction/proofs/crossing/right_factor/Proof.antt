@@ -1,0 +1,18 @@
+-- `prediction::crossing::right_factor` meets its contract.
+-- Assumes nothing.
+use Rattle.prediction.specs.Values.{exact-is}
+use borrow.Author.Needs.{needs}
+use Rattle.prediction.proofs.crossing.right_factor.Statement.{statement}
+use Rattle.prediction.proofs.crossing.right_factor.Tie as tie
+
+right-turn-requires : tie.Need-right-turn-requires
+right-turn-requires c κs = search needs
+
+exact-requires : tie.Need-exact-requires
+exact-requires c κs = search needs
+
+returns : tie.Need-returns
+returns c = exact-is _ (c .exact .ensures) (c .before .right-turn .ensures)
+
+pub right-factor-spec : {M : Type 1} → statement M
+right-factor-spec = tie.close (tie.spec right-turn-requires exact-requires returns)

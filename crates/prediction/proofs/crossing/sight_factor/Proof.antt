@@ -1,0 +1,18 @@
+-- `prediction::crossing::sight_factor` meets its contract.
+-- Assumes nothing.
+use Rattle.prediction.specs.Values.{exact-is}
+use borrow.Author.Needs.{needs}
+use Rattle.prediction.proofs.crossing.sight_factor.Statement.{statement}
+use Rattle.prediction.proofs.crossing.sight_factor.Tie as tie
+
+sight-requires : tie.Need-sight-requires
+sight-requires c κs = search needs
+
+exact-requires : tie.Need-exact-requires
+exact-requires c κs = search needs
+
+returns : tie.Need-returns
+returns c = exact-is _ (c .exact .ensures) (c .before .sight .ensures)
+
+pub sight-factor-spec : {M : Type 1} → statement M
+sight-factor-spec = tie.close (tie.spec sight-requires exact-requires returns)

@@ -1,0 +1,99 @@
+// A site's numbers, an exact factor as a bracket, and a carried bracket in whole millionths.
+ghost use mathlib.Core.Path.{_≡_};
+ghost use mathlib.Core.List.{map};
+ghost use Prim.Native.Nat.{_≤_};
+ghost use Rattle.wide.specs.Scaling.{floor, ceiling};
+ghost use Rattle.exponential.specs.Exponential.{expNegBracket};
+ghost use Rattle.exponential.specs.Stored.{StoredExponentials};
+ghost use Rattle.site.specs.Writing.{slotsOf};
+ghost use Rattle.model.specs.Coefficients.{editionOne};
+ghost use Rattle.model.specs.Parts as parts;
+ghost use Rattle.prediction.specs.Pair.{unit, outward, exactBracket};
+use crate::Pair;
+use bracket::Bracket;
+use bracket::carry::CarryAnswer;
+use exponential::exponential_negative_with;
+use factors::Ratio;
+use factors::coefficients::base_exponent;
+use site::rules::SLOTS;
+use site::values::Site;
+use site::values::Slot;
+use site_writer::slots_of;
+
+// Units to a millionth.
+const UNIT: u64 = 200_000;
+
+// The number in a slot.
+fn number(slot: Slot) -> u64
+    ensures { λ r. ⌜ r ≡ parts.number slot ⌝ }
+{
+    match slot {
+        Slot::Absent => 0,
+        Slot::Number(n) => n as u64,
+    }
+}
+
+// The numbers of a site, in the order of its slots.
+pub fn numbers_of(site: Site) -> [u64; SLOTS]
+    ensures { λ r. ⌜ r ≡ map parts.number (slotsOf site) ⌝ }
+{
+    let slots = slots_of(site);
+    let mut numbers = [0; SLOTS];
+    let mut i = 0;
+    while i < SLOTS {
+        numbers[i] = number(slots[i]);
+        i += 1;
+    }
+    numbers
+}
+
+// An exact factor: both ends are the same.
+pub fn exact(ratio: Ratio) -> Bracket
+    ensures { λ r. ⌜ r ≡ exactBracket ratio ⌝ }
+{
+    Bracket {
+        low_num: ratio.num,
+        low_den: ratio.den,
+        high_num: ratio.num,
+        high_den: ratio.den,
+    }
+}
+
+// The base factor of a kind, e^(-0.4865) for a segment.
+pub fn base_factor(exponentials: &[u64; 15], kind: u8) -> Bracket
+    requires { ⌜ StoredExponentials (now exponentials) × (kind ≤ 3) ⌝ }
+    ensures { λ r. ⌜ r ≡ expNegBracket (editionOne .base-exponent kind) ⌝ }
+{
+    exponential_negative_with(exponentials, base_exponent(kind))
+}
+
+// Units in millionths, rounded down.
+fn down(units: u64) -> u64
+    ensures { λ r. ⌜ r ≡ floor units 1 unit ⌝ }
+{
+    units / UNIT
+}
+
+// Units in millionths, rounded up.
+fn up(units: u64) -> u64
+    ensures { λ r. ⌜ r ≡ ceiling units 1 unit ⌝ }
+{
+    let whole = units / UNIT;
+    if whole * UNIT == units {
+        return whole;
+    }
+    whole + 1
+}
+
+// A carried bracket, rounded outward. A site that is in its range is never too large.
+pub fn round_outward(answer: CarryAnswer) -> Pair
+    ensures { λ r. ⌜ r ≡ outward answer ⌝ }
+{
+    match answer {
+        CarryAnswer::Carried(low, high) => Pair {
+            low: down(low),
+            high: up(high),
+        },
+        CarryAnswer::TooLarge => Pair { low: 0, high: 0 },
+    }
+}
