@@ -3,7 +3,8 @@
 use crate::project::{encode_header, write_project, Header, Project};
 use crate::record::{encode_record, write_site, Site, RECORD_HEAD};
 use crate::rules::{
-    rules, Field, Presence, Rule, EDITION, KIND_NAMES, MOST_CALIBRATION, MOST_SITES, MOST_YEARS,
+    rules, Field, Presence, Rule, EDITION, FIELD_NAMES, KIND_NAMES, MOST_CALIBRATION, MOST_SITES,
+    MOST_YEARS,
 };
 
 /// A small generator of numbers (splitmix64): the same seed, the same run.
@@ -89,7 +90,27 @@ pub fn site(random: &mut Random) -> Site {
     site
 }
 
-fn header(random: &mut Random) -> Header {
+/// A site with some slots replaced, emptied or filled, which the writer may
+/// refuse.
+pub fn disturbed_site(random: &mut Random) -> Site {
+    let mut site = site(random);
+    for _ in 0..random.below(3) {
+        let (field, _) = random.pick(&FIELD_NAMES);
+        let value = match random.below(4) {
+            0 => None,
+            1 => Some(random.next() as u16),
+            _ => Some(random.between(0, 20)),
+        };
+        site.set(field, value);
+    }
+    if random.once_in(20) {
+        site.kind = random.next() as u8;
+    }
+    site
+}
+
+/// A header within the limits, often at an edge.
+pub fn header(random: &mut Random) -> Header {
     let calibration = |random: &mut Random| match random.below(3) {
         0 => random.pick(&[1, 2, 1_000, MOST_CALIBRATION - 1, MOST_CALIBRATION]),
         _ => random.between(1, MOST_CALIBRATION),

@@ -5,3 +5,4 @@ pub mod LineLaws
 pub mod Weighing
 pub mod LineSizes
 pub mod AnswerLaws
+pub mod NeededParts

@@ -90,10 +90,10 @@ module _ (c : Coefficients) (rated : Rated c) (small : (kind length : ℕ) → c
         predicted-high-right = p .high-right;
         expected-low-right = e .low-right;
         expected-high-right = e .high-right;
-        predicted-in-order = p .in-order;
-        expected-in-order = e .in-order;
+        predicted-in-order = omega (arith, p .in-order);
+        expected-in-order = omega (arith, e .in-order);
         predicted-narrow = record { width = omega (arith, p .narrow .width) };
-        expected-narrow = e .narrow;
+        expected-narrow = record { width = omega (arith, e .narrow .width) };
         low-amid = e .low-amid;
         high-amid = e .high-amid;
       }

@@ -1,4 +1,4 @@
--- A bracket's four numbers stored one after the other at the start of a run.
+-- Four numbers stored one after the other at the start of a run, and a bracket so.
 use Prim.Native.Nat.{ℕ, _≤_, _<_}
 use mathlib.Core.Path.{_≡_, refl, sym, ap, _∙_}
 use mathlib.Core.Bool.{Bool, cond}
@@ -11,7 +11,7 @@ use Rattle.bracket.specs.declared.BracketAnswer.{BracketAnswer}
 use Rattle.bracket.specs.declared.BracketAnswer.the-variants.{Between, OutOfRange}
 use Rattle.unit.specs.Lent.{Lends, bracketNumber, bracketInto, endsOf}
 
-four-stored : (run : List ℕ) (a b c d : ℕ) → 4 ≤ length run → set (set (set (set run 0 a) 1 b) 2 c) 3 d ≡ a ∷ b ∷ c ∷ d ∷ drop 4 run
+pub four-stored : (run : List ℕ) (a b c d : ℕ) → 4 ≤ length run → set (set (set (set run 0 a) 1 b) 2 c) 3 d ≡ a ∷ b ∷ c ∷ d ∷ drop 4 run
 four-stored [] a b c d h = absurd (omega arith)
 four-stored (v ∷ []) a b c d h = absurd (omega arith)
 four-stored (v ∷ w ∷ []) a b c d h = absurd (omega arith)

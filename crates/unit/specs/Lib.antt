@@ -2,3 +2,4 @@
 pub mod Lent
 pub mod SiteNumbers
 pub mod Malformed
+pub mod LineNumbers

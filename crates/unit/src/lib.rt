@@ -1,3 +1,4 @@
 // The calls that C and Rust link: numbers and lent runs of numbers only, none with a precondition.
 pub mod brackets;
+pub mod lines;
 pub mod sites;

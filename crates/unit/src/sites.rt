@@ -17,7 +17,7 @@ use site::values::WriteAnswer;
 
 const ABSENT: u64 = 65536;
 
-const SITE_NUMBERS: usize = SLOTS + 1;
+pub const SITE_NUMBERS: usize = SLOTS + 1;
 
 const ANSWER_NUMBERS: usize = SLOTS + 2;
 
@@ -108,7 +108,7 @@ fn slots_from(numbers: &[u64]) -> [Slot; SLOTS]
     slots
 }
 
-fn site_from(values: &[u64]) -> Site
+pub fn site_from(values: &[u64]) -> Site
     requires { ⌜ length (now values) ≡ siteNumbers ⌝ }
     ensures { λ r. ⌜ r ≡ siteFrom (now (values .entry)) ⌝ }
 {

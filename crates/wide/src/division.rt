@@ -53,7 +53,7 @@ fn left_over(rest: u64, next: u64, d: u64, q: u64) -> u64
 }
 
 // w / d, for w.high < d.
-pub(crate) fn divide(w: Wide, d: u64) -> u64
+fn divide(w: Wide, d: u64) -> u64
     requires { ⌜ w .high < d ⌝ }
     ensures { λ r. ⌜ r ≡ (w .high * 2 ^ 64 + w .low) / d ⌝ }
 {
@@ -66,4 +66,15 @@ pub(crate) fn divide(w: Wide, d: u64) -> u64
     let r1 = left_over(top, low / BASE, dn, q1);
     let q0 = digit(r1, low % BASE, dn);
     q1 * BASE + q0
+}
+
+// The same, by one hardware division where the number has one word.
+pub(crate) fn quotient(w: Wide, d: u64) -> u64
+    requires { ⌜ w .high < d ⌝ }
+    ensures { λ r. ⌜ r ≡ (w .high * 2 ^ 64 + w .low) / d ⌝ }
+{
+    if w.high == 0 {
+        return w.low / d;
+    }
+    divide(w, d)
 }

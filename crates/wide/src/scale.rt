@@ -2,7 +2,7 @@
 ghost use mathlib.Core.Path.{_≡_};
 ghost use Prim.Native.Nat.{_^_, _<_};
 ghost use Rattle.wide.specs.Scaling.{floor, ceiling, scaledDown, scaledUp};
-use crate::division::divide;
+use crate::division::quotient;
 use crate::word::plus;
 use crate::word::product;
 
@@ -12,20 +12,20 @@ pub enum Scaled {
     TooLarge,
 }
 
-// a * n / d, rounded down.
-pub fn scale_down(a: u64, n: u64, d: u64) -> Scaled
+// a * n / d, rounded down, through the product of two words.
+fn wide_down(a: u64, n: u64, d: u64) -> Scaled
     ensures { λ r. ⌜ r ≡ scaledDown a n d ⌝ }
 {
     let w = product(a, n);
     if w.high < d {
-        Scaled::Value(divide(w, d))
+        Scaled::Value(quotient(w, d))
     } else {
         Scaled::TooLarge
     }
 }
 
-// a * n / d, rounded up.
-pub fn scale_up(a: u64, n: u64, d: u64) -> Scaled
+// a * n / d, rounded up, through the product of two words.
+fn wide_up(a: u64, n: u64, d: u64) -> Scaled
     ensures { λ r. ⌜ r ≡ scaledUp a n d ⌝ }
 {
     if d == 0 {
@@ -33,10 +33,34 @@ pub fn scale_up(a: u64, n: u64, d: u64) -> Scaled
     }
     let w = plus(product(a, n), d - 1);
     if w.high < d {
-        Scaled::Value(divide(w, d))
+        Scaled::Value(quotient(w, d))
     } else {
         Scaled::TooLarge
     }
+}
+
+// a * n / d, rounded down. A factor of 1 is as common as any other, and leaves a as it is.
+pub fn scale_down(a: u64, n: u64, d: u64) -> Scaled
+    ensures { λ r. ⌜ r ≡ scaledDown a n d ⌝ }
+{
+    if n == d {
+        if 0 < d {
+            return Scaled::Value(a);
+        }
+    }
+    wide_down(a, n, d)
+}
+
+// a * n / d, rounded up.
+pub fn scale_up(a: u64, n: u64, d: u64) -> Scaled
+    ensures { λ r. ⌜ r ≡ scaledUp a n d ⌝ }
+{
+    if n == d {
+        if 0 < d {
+            return Scaled::Value(a);
+        }
+    }
+    wide_up(a, n, d)
 }
 
 // a * n / d, rounded down, for a caller that has shown that it fits.

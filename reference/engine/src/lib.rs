@@ -3,6 +3,8 @@
 
 use reference::rational::Rational;
 
+pub mod doubles;
+pub mod lines;
 pub mod sites;
 
 extern "C" {

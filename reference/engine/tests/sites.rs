@@ -99,30 +99,12 @@ fn random_bytes() {
     }
 }
 
-/// A generated site with some slots replaced, emptied or filled.
-fn disturbed_site(random: &mut Random) -> Site {
-    let mut site = generate::site(random);
-    for _ in 0..random.below(3) {
-        let (field, _) = random.pick(&FIELD_NAMES);
-        let value = match random.below(4) {
-            0 => None,
-            1 => Some(random.next() as u16),
-            _ => Some(random.between(0, 20)),
-        };
-        site.set(field, value);
-    }
-    if random.once_in(20) {
-        site.kind = random.next() as u8;
-    }
-    site
-}
-
 #[test]
 fn sites_that_can_and_cannot_be_written() {
     let mut random = Random::new(13);
     let (mut written, mut refused) = (0, 0);
     for _ in 0..200_000 {
-        let site = disturbed_site(&mut random);
+        let site = generate::disturbed_site(&mut random);
         let needed = record::write_site(&site, usize::MAX).map_or(0, |bytes| bytes.len());
         for room in [needed.saturating_sub(1), needed, needed + 3] {
             let expected = record::write_site(&site, room);

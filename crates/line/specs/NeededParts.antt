@@ -1,0 +1,67 @@
+-- EVERY PART OF THE CLAIM IS NEEDED: a line that fails one part does not stand, whatever its other numbers are. The widths are
+-- written out as numbers here, so that a wider claim is refused.
+use Prim.Native.Nat.{ℕ, _+_, _*_, _≤_, _<_, min, max}
+use mathlib.Core.Path.{_≡_}
+use native.Mathlib.Omega.{arith}
+use Rattle.estimate.specs.Fraction.{millionths, _<ᶠ_}
+use Rattle.estimate.specs.FractionLaws.{not-≤ᶠ-and-<ᶠ}
+use Rattle.site.specs.declared.values.Site.{Site}
+use Rattle.site.specs.declared.values.Slot.the-variants.{Number}
+use Rattle.model.specs.Coefficients.{Coefficients}
+use Rattle.model.specs.Parts.{number}
+use Rattle.model.specs.Predicted.{Header, predictedUnder, predictedOver}
+use Rattle.model.specs.Expected.{expectedUnder, expectedOver}
+use Rattle.line.specs.declared.Line.{Line}
+use Rattle.line.specs.Stands.{Amid, LineStands}
+
+-- no number between two is below both, or above both
+below-both : (x y n : ℕ) → n < x → n < y → Amid x y n → ⊥
+below-both x y n h k a = omega (arith, a .from)
+
+above-both : (x y n : ℕ) → x < n → y < n → Amid x y n → ⊥
+above-both x y n h k a = omega (arith, a .to)
+
+module _ (c : Coefficients) (header : Header) (site : Site) (line : Line) where
+  abbrev Fails : Type 0
+  Fails = LineStands c header site line → ⊥
+
+  -- a low above the over-estimate at some depth, a high below the under-estimate
+  pub predicted-low-too-high : (d : ℕ) → 1 ≤ d → predictedOver c header site d <ᶠ millionths (line .«predicted_low») → Fails
+  predicted-low-too-high d h l s = not-≤ᶠ-and-<ᶠ (s .predicted-low-right .at d h) l
+
+  pub predicted-high-too-low : (d : ℕ) → 1 ≤ d → millionths (line .«predicted_high») <ᶠ predictedUnder c header site d → Fails
+  predicted-high-too-low d h l s = not-≤ᶠ-and-<ᶠ (s .predicted-high-right .at d h) l
+
+  pub expected-low-too-high : (d : ℕ) → 1 ≤ d → expectedOver c header site d <ᶠ millionths (line .«expected_low») → Fails
+  expected-low-too-high d h l s = not-≤ᶠ-and-<ᶠ (s .expected-low-right .at d h) l
+
+  pub expected-high-too-low : (d : ℕ) → 1 ≤ d → millionths (line .«expected_high») <ᶠ expectedUnder c header site d → Fails
+  expected-high-too-low d h l s = not-≤ᶠ-and-<ᶠ (s .expected-high-right .at d h) l
+
+  -- a low that passes its high
+  pub predicted-exchanged : line .«predicted_high» < line .«predicted_low» → Fails
+  predicted-exchanged l s = omega (arith, s .predicted-in-order)
+
+  pub expected-exchanged : line .«expected_high» < line .«expected_low» → Fails
+  expected-exchanged l s = omega (arith, s .expected-in-order)
+
+  -- more than 4, or 8 (1 + O), and a hundred-thousandth of the high apart
+  pub predicted-too-wide : 100000 * (line .«predicted_low» + 4) + line .«predicted_high» < 100000 * line .«predicted_high» → Fails
+  predicted-too-wide l s = omega (arith, s .predicted-narrow .width)
+
+  pub expected-too-wide : 100000 * (line .«expected_low» + 8 * (1 + number (site .observed))) + line .«expected_high» < 100000 * line .«expected_high» → Fails
+  expected-too-wide l s = omega (arith, s .expected-narrow .width)
+
+  -- an expected number that is not between the prediction and the history
+  module _ (observed : ℕ) (history : site .observed ≡ Number observed) where
+    pub expected-low-below-both : line .«expected_low» < line .«predicted_low» → line .«expected_low» < observed * 1000000 → Fails
+    expected-low-below-both h k s = below-both _ _ _ h k (s .low-amid observed history)
+
+    pub expected-low-above-both : line .«predicted_low» < line .«expected_low» → observed * 1000000 < line .«expected_low» → Fails
+    expected-low-above-both h k s = above-both _ _ _ h k (s .low-amid observed history)
+
+    pub expected-high-below-both : line .«expected_high» < line .«predicted_high» → line .«expected_high» < observed * 1000000 → Fails
+    expected-high-below-both h k s = below-both _ _ _ h k (s .high-amid observed history)
+
+    pub expected-high-above-both : line .«predicted_high» < line .«expected_high» → observed * 1000000 < line .«expected_high» → Fails
+    expected-high-above-both h k s = above-both _ _ _ h k (s .high-amid observed history)

@@ -1,0 +1,93 @@
+-- `line_rounds::round` meets its contract. The loop's invariant: the place is within the records.
+-- Assumes nothing.
+use Prim.Native.Nat.{ℕ, _+_, _≤_, _<_, _^_, _-_}
+use denote.Ref.{now}
+use native.Mathlib.Omega.{arith}
+use borrow.Author.Needs.{needs}
+use mathlib.Core.List.{List}
+use lib.ListN.{length, take, drop, length-take, length-drop}
+use Rattle.site.specs.Theorems.{RecordLength}
+use Rattle.line_rounds.proofs.round.Statement.{statement}
+use Rattle.line_rounds.proofs.round.Tie as tie
+
+-- a record of the rest, from a place, ends within the whole
+within : (records : List ℕ) (at n : ℕ) → at ≤ length records → RecordLength (take (length records - at) (drop at records)) n
+    → (3 ≤ n) × (at + n ≤ length records)
+within records at n h b = (b .at-least, omega (arith, b .within, length-take (length records - at) (drop at records), length-drop at records))
+
+abbrev Inv-loop : tie.InvT-loop
+Inv-loop powers logarithms exponentials lines records start sum₀ at₀ sum at = (at ≤ length records) × (sum < 2 ^ 32)
+
+abbrev μ-loop : tie.MeasureT-loop
+μ-loop powers logarithms exponentials lines records start sum₀ at₀ sum at = length records - at
+
+loop-holds : tie.Need-loop-holds Inv-loop μ-loop
+loop-holds c = search needs
+
+sub-read-site : tie.Need-sub-read-site Inv-loop μ-loop
+sub-read-site c = search needs
+
+part-read-site-start : tie.Need-part-read-site-start Inv-loop μ-loop
+part-read-site-start c = search needs
+
+part-read-site-end : tie.Need-part-read-site-end Inv-loop μ-loop
+part-read-site-end c = search needs
+
+read-site-requires : tie.Need-read-site-requires Inv-loop μ-loop
+read-site-requires c κs = search needs
+
+enum-known-answer : tie.Need-enum-known-answer Inv-loop μ-loop
+enum-known-answer c = search needs
+
+enum-told : tie.Need-enum-told Inv-loop μ-loop
+enum-told c = search needs
+
+returns : tie.Need-returns Inv-loop μ-loop
+returns c = search needs
+
+site-added-requires : tie.Need-site-added-requires Inv-loop μ-loop
+site-added-requires c κs =
+    let start = c .before .before .before .before .before .before .before .before in
+    let valid = c .before .before .before .read-site .ensures .valid _ _ (c .before .answer .given .1) in
+    (start .pre .0, start .pre .1, start .pre .2, valid, c .before .before .before .before .before .before .loop .inv .1)
+
+add-at : tie.Need-add-at Inv-loop μ-loop
+add-at c =
+    let loop = c .before .before .before .before .before .before .before .loop in
+    let w = within (now (c .before .before .before .before .before .before .before .before .before .args .records)) (loop .at) _ (loop .inv .0) (c .before .before .before .before .read-site .ensures .bounds _ _ (c .before .before .answer .given .1)) in
+    omega (arith, w .0, w .1)
+
+loop-less : tie.Need-loop-less Inv-loop μ-loop
+loop-less c =
+    let loop = c .before .before .before .before .before .before .before .loop in
+    let w = within (now (c .before .before .before .before .before .before .before .before .before .args .records)) (loop .at) _ (loop .inv .0) (c .before .before .before .before .read-site .ensures .bounds _ _ (c .before .before .answer .given .1)) in
+    omega (arith, w .0, w .1)
+
+loop-again : tie.Need-loop-again Inv-loop μ-loop
+loop-again c =
+    let loop = c .before .before .before .before .before .before .before .loop in
+    let w = within (now (c .before .before .before .before .before .before .before .before .before .args .records)) (loop .at) _ (loop .inv .0) (c .before .before .before .before .read-site .ensures .bounds _ _ (c .before .before .answer .given .1)) in
+    (w .1, c .site-added .ensures)
+
+returns-2 : tie.Need-returns-2 Inv-loop μ-loop
+returns-2 c = search needs
+
+pub round-spec : {M : Type 1} → statement M
+round-spec =
+    tie.close
+    (tie.spec
+    Inv-loop
+    μ-loop
+    loop-holds
+    sub-read-site
+    part-read-site-start
+    part-read-site-end
+    read-site-requires
+    enum-known-answer
+    enum-told
+    returns
+    site-added-requires
+    add-at
+    loop-less
+    loop-again
+    returns-2)

@@ -1,0 +1,57 @@
+-- `unit::lines::lend_line` meets its contract.
+-- Assumes nothing.
+use native.Mathlib.Omega.{arith}
+use borrow.Author.Needs.{needs}
+use lib.ListN.{length-set}
+use Rattle.unit.proofs.LineSteps.{no-space, lent}
+use Rattle.unit.proofs.lines.lend_line.Statement.{statement}
+use Rattle.unit.proofs.lines.lend_line.Tie as tie
+
+enum-known-answer : tie.Need-enum-known-answer
+enum-known-answer c = search needs
+
+enum-told : tie.Need-enum-told
+enum-told c = search needs
+
+returns : tie.Need-returns
+returns c = search needs
+
+returns-2 : tie.Need-returns-2
+returns-2 c =
+    let a = c .before .before in
+    no-space (a .answer .given .0 .0) _ _ (a .answer .given .1) (c .if1 .taken)
+
+slice-write-run : tie.Need-slice-write-run
+slice-write-run c = search needs
+
+slice-write-run-2 : tie.Need-slice-write-run-2
+slice-write-run-2 c = simp length-set (omega arith)
+
+slice-write-run-3 : tie.Need-slice-write-run-3
+slice-write-run-3 c = simp length-set (omega arith)
+
+slice-write-run-4 : tie.Need-slice-write-run-4
+slice-write-run-4 c = search needs
+
+same-length : tie.Need-same-length
+same-length c = search needs
+
+returns-3 : tie.Need-returns-3
+returns-3 c =
+    let a = c .before .before in
+    lent (a .answer .given .0 .0) _ _ (a .answer .given .1) (c .if1 .left)
+
+pub lend-line-spec : {M : Type 1} → statement M
+lend-line-spec =
+    tie.close
+    (tie.spec
+    enum-known-answer
+    enum-told
+    returns
+    returns-2
+    slice-write-run
+    slice-write-run-2
+    slice-write-run-3
+    slice-write-run-4
+    same-length
+    returns-3)

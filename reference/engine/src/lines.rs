@@ -1,0 +1,58 @@
+//! The line of a site: predicted low, predicted high, expected low, expected
+//! high, in millionths.
+
+use crate::sites::numbers_of;
+use reference::project::Header;
+use reference::record::Site;
+
+extern "C" {
+    fn crash_line(
+        years: u64,
+        segments: u64,
+        crossings: u64,
+        values: *const u64,
+        values_len: usize,
+        line: *mut u64,
+        line_len: usize,
+    ) -> u64;
+}
+
+/// The number of the line's call, which writes to the start of `line`. The
+/// header is its years, segment calibration and crossing calibration.
+pub fn line_into(header: [u64; 3], values: &[u64], line: &mut [u64]) -> u64 {
+    let [years, segments, crossings] = header;
+    // SAFETY: each pointer and length are those of one slice.
+    unsafe {
+        crash_line(
+            years,
+            segments,
+            crossings,
+            values.as_ptr(),
+            values.len(),
+            line.as_mut_ptr(),
+            line.len(),
+        )
+    }
+}
+
+/// The header's numbers as the call takes them.
+pub fn numbers_of_header(header: &Header) -> [u64; 3] {
+    [
+        header.years.into(),
+        header.segment_calibration.into(),
+        header.crossing_calibration.into(),
+    ]
+}
+
+/// The four numbers of a site, or the number of the refusal.
+pub fn line(header: &Header, site: &Site) -> Result<[u64; 4], u64> {
+    const UNTOUCHED: u64 = 0xA5A5;
+    let mut run = [UNTOUCHED; 6];
+    let number = line_into(numbers_of_header(header), &numbers_of(site), &mut run);
+    let kept = if number == 0 { 4 } else { 0 };
+    assert!(run[kept..].iter().all(|left| *left == UNTOUCHED));
+    match number {
+        0 => Ok([run[0], run[1], run[2], run[3]]),
+        refused => Err(refused),
+    }
+}

@@ -1,0 +1,343 @@
+//! The engine's line of a site against the reference's own estimates at five
+//! depths, on random and extreme sites, and its refusals.
+
+use engine::lines::{line, line_into, numbers_of_header};
+use engine::sites::numbers_of;
+use engine::{DONE, OUT_OF_RANGE, TOO_SHORT};
+use reference::checker::{site_line_faults, site_standing_faults, Wrong};
+use reference::generate::{self, Random};
+use reference::model::FIRST_EDITION;
+use reference::prediction::site_estimates;
+use reference::project::Header;
+use reference::record::{read_site, write_site, Site};
+use reference::rules::{rules, Field, Presence, Rule, EDITION};
+
+const DEPTHS: [u32; 5] = [1, 2, 3, 6, 9];
+const KINDS: std::ops::RangeInclusive<u8> = 0..=3;
+
+/// Everything that is wrong with four numbers of a site: standing at every
+/// depth, order, widths, the expected pair, and its place between prediction
+/// and history.
+fn faults(header: &Header, site: &Site, numbers: &[u64; 4]) -> Vec<Wrong> {
+    let mut faults = site_line_faults(&FIRST_EDITION, site, numbers);
+    for depth in DEPTHS {
+        let estimates = site_estimates(&FIRST_EDITION, header, site, depth);
+        faults.extend(site_standing_faults(numbers, &estimates, depth));
+    }
+    faults
+}
+
+fn made(header: &Header, site: &Site) -> [u64; 4] {
+    line(header, site).unwrap_or_else(|number| panic!("refused with {number}: {header:?} {site:?}"))
+}
+
+fn assert_right(header: &Header, site: &Site) {
+    let numbers = made(header, site);
+    let faults = faults(header, site, &numbers);
+    assert!(
+        faults.is_empty(),
+        "{numbers:?} {faults:?}: {header:?} {site:?}"
+    );
+}
+
+fn header(years: u8, segment_calibration: u16, crossing_calibration: u16) -> Header {
+    Header {
+        edition: EDITION,
+        years,
+        segment_calibration,
+        crossing_calibration,
+    }
+}
+
+/// Every corner of the header's limits.
+fn corner_headers() -> Vec<Header> {
+    let mut headers = Vec::new();
+    for years in [1, 10] {
+        for segments in [1, 9_999] {
+            for crossings in [1, 9_999] {
+                headers.push(header(years, segments, crossings));
+            }
+        }
+    }
+    headers
+}
+
+/// No history, a history of none and the longest.
+const HISTORIES: [Option<u16>; 3] = [None, Some(0), Some(500)];
+
+/// Runs over every corner of the header with every history.
+fn for_each_corner(site: &Site, mut each: impl FnMut(&Header, &Site)) {
+    for header in corner_headers() {
+        for history in HISTORIES {
+            let mut site = *site;
+            site.set(Field::Observed, history);
+            each(&header, &site);
+        }
+    }
+}
+
+/// A kind's sites with every field at its default, at its low and at its high:
+/// straight ones first, a segment's on a curve too.
+fn base_sites(kind: u8) -> Vec<Site> {
+    let table = rules(kind).unwrap_or(&[]);
+    let plain = Site::plain(kind, 1_000, 500);
+    let filled = |value: fn(&Rule) -> u16, curve: bool| {
+        let standing = table.iter().filter(|rule| curve || !rule.is_of_curve());
+        standing.fold(Site::empty(kind), |site, rule| {
+            site.with(rule.field, value(rule))
+        })
+    };
+    let mut sites = vec![
+        plain,
+        filled(|rule| rule.low, false),
+        filled(|rule| rule.high, false),
+    ];
+    if table.iter().any(Rule::is_of_curve) {
+        sites.push(plain.with_curve(100, 1_000));
+        sites.push(filled(|rule| rule.low, true));
+        sites.push(filled(|rule| rule.high, true));
+    }
+    sites
+}
+
+/// Whether a field may stand in a site, straight or not.
+fn may_stand(rule: &Rule, site: &Site) -> bool {
+    site.is_curve() || !rule.is_of_curve()
+}
+
+/// The ends of a range and their neighbours within it.
+fn edges(rule: &Rule) -> Vec<u16> {
+    let mut edges = vec![rule.low, rule.low + 1, rule.high - 1, rule.high];
+    edges.sort_unstable();
+    edges.dedup();
+    edges
+}
+
+#[test]
+fn random_sites() {
+    let mut random = Random::new(31);
+    for _ in 0..24_000 {
+        let header = generate::header(&mut random);
+        assert_right(&header, &generate::site(&mut random));
+    }
+}
+
+/// One field at an edge, the rest at their defaults, lows or highs, at every
+/// corner of the header, with and without a history.
+#[test]
+fn every_edge_of_every_range() {
+    let mut sites: u32 = 0;
+    for kind in KINDS {
+        for base in base_sites(kind) {
+            let table = rules(kind).unwrap_or(&[]);
+            let standing = table.iter().filter(|rule| may_stand(rule, &base));
+            for rule in standing.filter(|rule| rule.presence != Presence::History) {
+                for value in edges(rule) {
+                    for_each_corner(&base.with(rule.field, value), |header, site| {
+                        assert_right(header, site);
+                        sites += 1;
+                    });
+                }
+            }
+        }
+    }
+    assert_eq!(sites, 10_368);
+}
+
+/// Traffic where a width table turns or a stored power ends, and the ends of
+/// its range, on both roads of a crossing and with a segment's lengths.
+#[test]
+fn traffic_where_the_cases_meet() {
+    const TRAFFIC: [u16; 6] = [1, 399, 400, 2_000, 2_001, 20_000];
+    const LENGTHS: [u16; 2] = [1, 20_000];
+    let mut sites: u32 = 0;
+    for kind in KINDS {
+        let (second, values) = match kind {
+            0 => (Field::Length, &LENGTHS[..]),
+            _ => (Field::MinorTraffic, &TRAFFIC[..]),
+        };
+        for base in base_sites(kind) {
+            for traffic in TRAFFIC {
+                for value in values {
+                    let site = base.with(Field::Traffic, traffic).with(second, *value);
+                    for_each_corner(&site, |header, site| {
+                        assert_right(header, site);
+                        sites += 1;
+                    });
+                }
+            }
+        }
+    }
+    assert_eq!(sites, 9_504);
+}
+
+/// Every value of every field with at most 501 of them, where the width tables
+/// turn.
+#[test]
+fn every_value_of_every_short_range() {
+    let header = header(5, 1_100, 900);
+    for kind in KINDS {
+        let table = rules(kind).unwrap_or(&[]);
+        for rule in table.iter().filter(|rule| rule.high - rule.low <= 500) {
+            for traffic in [399, 2_000, 2_001] {
+                let plain = Site::plain(kind, traffic, 500);
+                let base = if rule.is_of_curve() {
+                    plain.with_curve(100, 1_000)
+                } else {
+                    plain
+                };
+                for value in rule.low..=rule.high {
+                    assert_right(&header, &base.with(rule.field, value));
+                }
+            }
+        }
+    }
+}
+
+/// A history of none is one: it lowers what is expected.
+#[test]
+fn a_history_of_none_is_a_history() {
+    let header = header(10, 1_000, 1_000);
+    for kind in KINDS {
+        let site = Site::plain(kind, 10_000, 5_000);
+        let [low, high, expected_low, expected_high] = made(&header, &site);
+        assert_eq!((expected_low, expected_high), (low, high));
+        let [same_low, same_high, _, expected_high] = made(&header, &site.with(Field::Observed, 0));
+        assert_eq!((same_low, same_high), (low, high));
+        assert!(expected_high < low);
+    }
+}
+
+/// What the other tests rest on: numbers moved by more than the widest pair's
+/// width are noticed.
+#[test]
+fn a_moved_line_is_noticed() {
+    let mut random = Random::new(32);
+    for _ in 0..500 {
+        let header = generate::header(&mut random);
+        let mut site = generate::site(&mut random);
+        site.set(Field::Observed, None);
+        let [low, high, ..] = made(&header, &site);
+        let step = 5 + high / 50_000;
+        let above = [low + step, high + step, low + step, high + step];
+        let noticed = faults(&header, &site, &above);
+        let is_above = |wrong: &Wrong| matches!(wrong, Wrong::LowAboveOver(..));
+        assert!(noticed.iter().any(is_above), "{header:?} {site:?}");
+        let Some(low_below) = low.checked_sub(step) else {
+            continue;
+        };
+        let below = [low_below, high - step, low_below, high - step];
+        let noticed = faults(&header, &site, &below);
+        let is_below = |wrong: &Wrong| matches!(wrong, Wrong::HighBelowUnder(..));
+        assert!(noticed.iter().any(is_below), "{header:?} {site:?}");
+    }
+}
+
+/// What a call that refuses must leave.
+const BEFORE: [u64; 5] = [11, 12, 13, 14, 15];
+
+/// The number for a run of so many numbers, which stay as they were.
+fn refusal(header: [u64; 3], values: &[u64], room: usize) -> u64 {
+    let mut run = BEFORE;
+    let number = line_into(header, values, &mut run[..room]);
+    assert_eq!(run, BEFORE, "a refusal writes nothing");
+    number
+}
+
+#[test]
+fn headers_outside_limits() {
+    let wrong_years = [0, 11, 255, 257, u64::MAX];
+    let wrong_calibrations = [0, 10_000, 65_535, 66_536, (1 << 32) + 1, u64::MAX];
+    for kind in KINDS {
+        let values = numbers_of(&Site::plain(kind, 1_000, 500));
+        for room in 0..=BEFORE.len() {
+            for years in wrong_years {
+                assert_eq!(refusal([years, 1, 1], &values, room), OUT_OF_RANGE);
+            }
+            for calibration in wrong_calibrations {
+                assert_eq!(refusal([1, calibration, 1], &values, room), OUT_OF_RANGE);
+                assert_eq!(refusal([1, 1, calibration], &values, room), OUT_OF_RANGE);
+            }
+        }
+        for header in [[1, 1, 9_999], [10, 9_999, 1]] {
+            let mut run = BEFORE;
+            assert_eq!(line_into(header, &values, &mut run), DONE);
+        }
+    }
+}
+
+#[test]
+fn sites_that_the_writer_refuses() {
+    let mut random = Random::new(33);
+    let (mut made, mut refused) = (0, 0);
+    for _ in 0..100_000 {
+        let site = generate::disturbed_site(&mut random);
+        let header = generate::header(&mut random);
+        if write_site(&site, usize::MAX).is_ok() {
+            assert!(line(&header, &site).is_ok(), "{site:?}");
+            made += 1;
+        } else {
+            let values = numbers_of(&site);
+            let header = numbers_of_header(&header);
+            for room in [0, 3, 4, 5] {
+                assert_eq!(refusal(header, &values, room), OUT_OF_RANGE, "{site:?}");
+            }
+            refused += 1;
+        }
+    }
+    assert!(made > 20_000 && refused > 20_000, "{made} {refused}");
+}
+
+#[test]
+fn numbers_that_are_no_site() {
+    let numbers = numbers_of(&Site::plain(0, 1_000, 500));
+    let header = [5, 1_000, 1_000];
+    for wrong in [&numbers[..20], &[&numbers[..], &[0]].concat()[..], &[]] {
+        assert_eq!(refusal(header, wrong, 5), OUT_OF_RANGE);
+    }
+    for place in 0..numbers.len() {
+        for number in [65_537, 1 << 32, u64::MAX] {
+            let mut wrong = numbers;
+            wrong[place] = number;
+            assert_eq!(refusal(header, &wrong, 5), OUT_OF_RANGE, "{place}");
+        }
+    }
+}
+
+#[test]
+fn a_short_run_is_left_as_it_was() {
+    for kind in KINDS {
+        let values = numbers_of(&Site::plain(kind, 1_000, 500));
+        let header = [5, 1_000, 1_000];
+        for room in 0..4 {
+            assert_eq!(refusal(header, &values, room), TOO_SHORT);
+        }
+        let mut four = [7; 4];
+        assert_eq!(line_into(header, &values, &mut four), DONE);
+        let mut five = [7; 5];
+        assert_eq!(line_into(header, &values, &mut five), DONE);
+        assert_eq!((&five[..4], five[4]), (&four[..], 7));
+    }
+}
+
+/// The stored output of the engine's program `line_rounds` is the sum of the
+/// lines of its stored input, made by the exported call.
+#[test]
+fn the_stored_sum_of_rounds_is_that_of_the_call() {
+    let input = include_bytes!("../../../crates/line_rounds/stdin");
+    let stored = include_str!("../../../crates/line_rounds/stdout");
+    let word = |at: usize| u64::from(u16::from_be_bytes([input[at], input[at + 1]]));
+    let (making, reading) = (word(0), word(2));
+    let mut rest = &input[4..];
+    let mut sum: u64 = 0;
+    let mut sites = 0;
+    while !rest.is_empty() {
+        let (site, length) = read_site(rest).expect("a stored record");
+        let numbers = made(&header(5, 1_100, 900), &site);
+        sum += making * numbers.iter().sum::<u64>() + reading * u64::from(site.kind);
+        rest = &rest[length..];
+        sites += 1;
+    }
+    assert_eq!(sites, 10);
+    assert_eq!((sum % (1 << 32)).to_string(), stored.trim());
+}
