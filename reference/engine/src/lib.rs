@@ -5,6 +5,7 @@ use reference::rational::Rational;
 
 pub mod doubles;
 pub mod lines;
+pub mod program;
 pub mod sites;
 
 extern "C" {

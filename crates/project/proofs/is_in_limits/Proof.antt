@@ -1,0 +1,18 @@
+-- `project::is_in_limits` meets its contract. Each test is one of the definition's, in its order.
+-- Assumes nothing.
+use borrow.Author.Needs.{needs}
+use borrow.Author.Tests.{not-true, not-false, le-leb, lt-leb}
+use Rattle.project.proofs.is_in_limits.Statement.{statement}
+use Rattle.project.proofs.is_in_limits.Tie as tie
+
+is-in-limits-requires : tie.Need-is-in-limits-requires
+is-in-limits-requires c κs = search needs
+
+returns : tie.Need-returns
+returns c = simp (← c .before .is-in-limits .ensures, not-true (c .before .is-in-limits .result) (c .if1 .taken))
+
+returns-2 : tie.Need-returns-2
+returns-2 c = simp (← c .before .before .is-in-limits .ensures, not-false (c .before .before .is-in-limits .result) (c .before .if1 .left))
+
+pub is-in-limits-spec : {M : Type 1} → statement M
+is-in-limits-spec = tie.close (tie.spec is-in-limits-requires returns returns-2)

@@ -1,0 +1,86 @@
+-- `project::scan_records` meets its contract. The loop's invariant: the records from i on, at their place, tell what the scan answers.
+-- The measure is the number of records that are left. Assumes nothing.
+use borrow.Author.Needs.{needs}
+use native.Mathlib.Omega.{arith}
+use mathlib.Core.Path.{_≡_}
+use Prim.Native.Nat.{_-_, _≤_}
+use lib.ListN.{length}
+use Rattle.project.specs.File.{headerLength, scanRecords}
+use Rattle.project.proofs.RecordSteps.{start, record-refused, record-read, record-within, bytes-after, none-after}
+use Rattle.project.proofs.scan_records.Statement.{statement}
+use Rattle.project.proofs.scan_records.Tie as tie
+
+abbrev Inv-loop : tie.InvT-loop
+Inv-loop file sites at₀ i₀ at i = (i ≤ sites) × (at ≤ length file) × (scanRecords sites (sites - i) at file ≡ scanRecords sites sites headerLength file)
+
+abbrev μ-loop : tie.MeasureT-loop
+μ-loop file sites at₀ i₀ at i = sites - i
+
+loop-holds : tie.Need-loop-holds Inv-loop μ-loop
+loop-holds c = (search needs, search needs, start _ _ _)
+
+sub-read-site : tie.Need-sub-read-site Inv-loop μ-loop
+sub-read-site c = search needs
+
+part-read-site-start : tie.Need-part-read-site-start Inv-loop μ-loop
+part-read-site-start c = search needs
+
+part-read-site-end : tie.Need-part-read-site-end Inv-loop μ-loop
+part-read-site-end c = search needs
+
+read-site-requires : tie.Need-read-site-requires Inv-loop μ-loop
+read-site-requires c κs = search needs
+
+enum-known-answer : tie.Need-enum-known-answer Inv-loop μ-loop
+enum-known-answer c = search needs
+
+returns : tie.Need-returns Inv-loop μ-loop
+returns c = record-refused _ _ _ _ _ (c .before .before .before .before .before .before .loop .inv .2) _ (c .before .before .before .read-site .ensures) _ (c .before .before .before .before .before .loop-test .taken) (c .before .answer .given .1)
+
+enum-known-answer-2 : tie.Need-enum-known-answer-2 Inv-loop μ-loop
+enum-known-answer-2 c = search needs
+
+add-at : tie.Need-add-at Inv-loop μ-loop
+add-at c =
+    let w = record-within _ _ _ _ _ (c .before .before .before .before .before .before .loop .inv .2) _ (c .before .before .before .read-site .ensures) _ _ (c .before .before .before .before .before .before .loop .inv .1) (c .before .answer2 .given .1) in
+    omega arith
+
+add-i : tie.Need-add-i Inv-loop μ-loop
+add-i c = omega arith
+
+loop-less : tie.Need-loop-less Inv-loop μ-loop
+loop-less c = omega arith
+
+loop-again : tie.Need-loop-again Inv-loop μ-loop
+loop-again c = (
+  omega arith,
+  record-within _ _ _ _ _ (c .before .before .before .before .before .before .loop .inv .2) _ (c .before .before .before .read-site .ensures) _ _ (c .before .before .before .before .before .before .loop .inv .1) (c .before .answer2 .given .1),
+  record-read _ _ _ _ _ (c .before .before .before .before .before .before .loop .inv .2) _ (c .before .before .before .read-site .ensures) _ _ (c .before .before .before .before .before .loop-test .taken) (c .before .answer2 .given .1),
+)
+
+returns-2 : tie.Need-returns-2 Inv-loop μ-loop
+returns-2 c = bytes-after _ _ _ _ _ (c .before .before .loop .inv .2) (c .before .loop-test .left) (c .if1 .taken)
+
+returns-3 : tie.Need-returns-3 Inv-loop μ-loop
+returns-3 c = none-after _ _ _ _ _ (c .before .before .loop .inv .2) (c .before .loop-test .left) (c .if1 .left)
+
+pub scan-records-spec : {M : Type 1} → statement M
+scan-records-spec =
+    tie.close
+    (tie.spec
+    Inv-loop
+    μ-loop
+    loop-holds
+    sub-read-site
+    part-read-site-start
+    part-read-site-end
+    read-site-requires
+    enum-known-answer
+    returns
+    enum-known-answer-2
+    add-at
+    add-i
+    loop-less
+    loop-again
+    returns-2
+    returns-3)

@@ -1,0 +1,135 @@
+-- A file longer than the longest that can be accepted is answered as its prefix would be.
+use mathlib.Core.Path.{_≡_, refl, ap, sym, _∙_}
+use mathlib.Core.Bool.{Bool, true, false, cond}
+use mathlib.Core.List.{List, [], _∷_, _++_}
+use Prim.Native.Nat.{ℕ, zero, suc, _+_, _*_, _<_, _≤_}
+use native.Mathlib.Omega.{arith}
+use lib.ListN.{length, getD, take, drop, length-append, length-drop, take-append-drop, List·getD-append}
+use lib.Seq.{take-all, length-take-le, drop-append-le}
+use lib.Dec.{ltb, leb, eqb}
+use borrow.Author.Tests.{ltb-false, lt-ltb, le-ltb, leb-true, leb-false, eqb-true, eqb-false}
+use Rattle.site.specs.declared.rules.Rule.{Rule}
+use Rattle.site.specs.declared.values.Site.{Site}
+use Rattle.site.specs.declared.values.SiteAnswer.{SiteAnswer}
+use Rattle.site.specs.declared.values.SiteAnswer.the-variants as site
+use Rattle.site.specs.Rules.{entriesOf, lastKind, bits}
+use Rattle.site.specs.Record.{word, restOf, words, curved, kindIn, mapIn, rulesIn, lengthIn, readSite}
+use Rattle.site.specs.Digits.{digit-most}
+use Rattle.site.specs.Tested.{bitCount, sane}
+use Rattle.site.specs.Truth.{or-left}
+use Rattle.site.specs.BytesRead.{headRefused, bears, past-nothing}
+use Rattle.site.specs.Theorems.{longest, read-length}
+use Rattle.project.specs.declared.ScanAnswer.the-variants.{Refused}
+use Rattle.project.specs.File.{headerLength, countIn, mostSites, headerNumber, onward, scanRecords, scanFile}
+use Rattle.project.specs.Headed.{header-fine}
+use Rattle.project.specs.Scan.{scan-fine, scan-header}
+
+-- a header and 1,900 records of 33 bytes
+abbrev pub longestFile : ℕ
+longestFile = headerLength + mostSites * longest
+
+-- no more bytes bear on a record's answer than the longest record has
+words-most : (rules : List Rule) (map : ℕ) → words rules map ≤ bitCount rules
+unfolding words bitCount
+words-most [] map = omega arith
+words-most (rule ∷ rules) map = omega (arith, digit-most (bits rule) map, words-most rules (restOf rule map))
+
+pub bears-most : (s : List ℕ) → bears s ≤ longest
+unfolding bears
+bears-most s = by (ltb (length s) 3) (headRefused s) refl
+  where
+    by : (a b : Bool) → headRefused s ≡ b → cond a 3 (cond b 3 (lengthIn s)) ≤ longest
+    by true b e = omega arith
+    by false true e = omega arith
+    by false false e =
+        let known = ltb-false lastKind (kindIn s) (or-left _ _ e) in
+        let few = sane (kindIn s) (curved (entriesOf (kindIn s)) (mapIn s)) known .few in
+        let w = words-most (rulesIn s) (mapIn s) in
+        omega arith
+
+-- two files that share their first bytes, one of which goes on
+module _ (s t : List ℕ) (full : longestFile < length s) where
+  same-record : (i at : ℕ) → i < mostSites → at ≤ headerLength + i * longest → readSite (drop at (s ++ t)) ≡ readSite (drop at s)
+  same-record i at h w =
+      let a : at ≤ length s = omega arith in
+      let l : longest ≤ length (drop at s) = omega (arith, length-drop at s) in
+      let b : bears (drop at s) ≤ length (drop at s) = omega (arith, bears-most (drop at s)) in
+      ap readSite (drop-append-le at s t a) ∙ past-nothing (drop at s) t b
+
+  same-step : (sites left at : ℕ) (answer : SiteAnswer)
+      → ((value : Site) (n : ℕ) → answer ≡ site.Read value n → scanRecords sites left (at + n) (s ++ t) ≡ scanRecords sites left (at + n) s)
+      → onward at answer (λ next. scanRecords sites left next (s ++ t)) ≡ onward at answer (λ next. scanRecords sites left next s)
+  same-step sites left at (site.Refused number) later = refl
+  same-step sites left at (site.Read value n) later = later value n refl
+
+  same-records : (sites left i at : ℕ) → i + left ≤ mostSites → at ≤ headerLength + i * longest
+      → scanRecords sites left at (s ++ t) ≡ scanRecords sites left at s
+  unfolding scanRecords
+  same-records sites zero i at h w =
+      let a : at < length s = omega arith in
+      let b : at < length (s ++ t) = omega (arith, length-append s t) in
+      rw (lt-ltb at (length s) a, lt-ltb at (length (s ++ t)) b)
+  same-records sites (suc left) i at h w =
+      let r = same-record i at (omega arith) w in
+      rw r
+      (same-step sites left at (readSite (drop at s))
+      (λ value n e. same-records sites left (suc i) (at + n) (omega arith) (omega (arith, read-length (drop at s) value n e .at-most))))
+
+  same-word : (k : ℕ) → k < headerLength → word (drop k (s ++ t)) ≡ word (drop k s)
+  same-word k h =
+      let a : k ≤ length s = omega arith in
+      let b : 0 < length (drop k s) = omega (arith, length-drop k s) in
+      let c : 1 < length (drop k s) = omega (arith, length-drop k s) in
+      rw (drop-append-le k s t a, List·getD-append (drop k s) t 0 0 b, List·getD-append (drop k s) t 0 1 c)
+
+  same-count : countIn (s ++ t) ≡ countIn s
+  same-count = same-word 6 (omega arith)
+
+  same-byte : (k : ℕ) → k < headerLength → getD (s ++ t) k 0 ≡ getD s k 0
+  same-byte k h = let a : k < length s = omega arith in List·getD-append s t 0 k a
+
+  same-header : headerNumber (s ++ t) ≡ headerNumber s
+  unfolding headerNumber
+  same-header =
+      let a : headerLength ≤ length s = omega arith in
+      let b : headerLength ≤ length (s ++ t) = omega (arith, length-append s t) in
+      rw (
+        le-ltb (length s) headerLength a,
+        le-ltb (length (s ++ t)) headerLength b,
+        same-byte 0 (omega arith),
+        same-byte 1 (omega arith),
+        same-word 2 (omega arith),
+        same-word 4 (omega arith),
+        same-count,
+      )
+
+  same-by : (b : Bool) → eqb (headerNumber s) 0 ≡ b → scanFile (s ++ t) ≡ scanFile s
+  same-by true e =
+      let z = eqb-true (headerNumber s) 0 e in
+      let few = header-fine s z .few in
+      scan-fine (s ++ t) (same-header ∙ z)
+      ∙ ap (λ (k : ℕ). scanRecords k k headerLength (s ++ t)) same-count
+      ∙ same-records (countIn s) (countIn s) 0 headerLength (omega arith) (omega arith)
+      ∙ sym (scan-fine s z)
+  same-by false e =
+      let ne = eqb-false (headerNumber s) 0 e in
+      scan-header (s ++ t) (λ z. ne (sym same-header ∙ z)) ∙ ap (λ (k : ℕ). Refused k 0) same-header ∙ sym (scan-header s ne)
+
+  -- bytes past the longest file and one more bear on nothing
+  pub scan-past-nothing : scanFile (s ++ t) ≡ scanFile s
+  scan-past-nothing = same-by (eqb (headerNumber s) 0) refl
+
+-- so any prefix that is longer than every accepted file tells the answer
+pub prefix-tells : (m : ℕ) (s : List ℕ) → longestFile < m → scanFile (take m s) ≡ scanFile s
+prefix-tells m s h = by (leb (length s) m) refl
+  where
+    by : (b : Bool) → leb (length s) m ≡ b → scanFile (take m s) ≡ scanFile s
+    by true e = ap scanFile (take-all m s (leb-true (length s) m e))
+    by false e =
+        let k = leb-false (length s) m e in
+        let l : length (take m s) ≡ m = length-take-le m s (omega arith) in
+        let full : longestFile < length (take m s) = omega arith in
+        sym (scan-past-nothing (take m s) (drop m s) full) ∙ ap scanFile (take-append-drop m s)
+
+pub scan-prefix : (s : List ℕ) → scanFile (take (longestFile + 1) s) ≡ scanFile s
+scan-prefix s = prefix-tells (longestFile + 1) s (omega arith)

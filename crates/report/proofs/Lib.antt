@@ -1,0 +1,2 @@
+-- Steps of the proofs of the report's functions.
+pub mod RecordRead

@@ -1,0 +1,50 @@
+-- `report::fill::fill` meets its contract.
+-- Assumes nothing.
+use denote.Ref.{now}
+use lib.Seq.{sets}
+use mathlib.Core.Path.{ap, _∙_}
+use Rattle.project.specs.SitesRead.{accepted-sites}
+use Rattle.report.specs.Accepted.{fillable, filled-report, report-fits}
+use borrow.Author.Needs.{needs}
+use Rattle.report.proofs.fill.fill.Statement.{statement}
+use Rattle.report.proofs.fill.fill.Tie as tie
+
+stored-powers-requires : tie.Need-stored-powers-requires
+stored-powers-requires c κs = search needs
+
+stored-logarithms-requires : tie.Need-stored-logarithms-requires
+stored-logarithms-requires c κs = search needs
+
+stored-exponentials-requires : tie.Need-stored-exponentials-requires
+stored-exponentials-requires c κs = search needs
+
+header-of-requires : tie.Need-header-of-requires
+header-of-requires c κs = let a = c .before .before .before .before .before .pre in accepted-sites _ (a .sites) (a .scanned) .long
+
+fill-lines-requires : tie.Need-fill-lines-requires
+fill-lines-requires c κs =
+    let a = c .before .before .before .before .before .before .before .before .before .before .pre in
+    (c .before .before .before .before .before .before .before .stored-powers .ensures, c .before .before .before .before .before .before .stored-logarithms .ensures, c .before .before .before .before .before .stored-exponentials .ensures, fillable _ (a .sites) (a .scanned) _ _ (c .before .before .before .before .header-of .ensures) (a .room-for))
+
+same-length : tie.Need-same-length
+same-length c = search needs
+
+returns : tie.Need-returns
+returns c =
+    let start = c .before .before .before .before .before .before .before .before .before .before .before .before .before in
+    let a = start .pre in
+    c .before .before .fill-lines .ensures
+    ∙ ap (sets (now (start .args .report)) 0) (filled-report _ (a .sites) (a .scanned) _ (c .before .before .before .before .before .before .before .header-of .ensures))
+    ∙ report-fits _ (a .sites) (a .scanned) _ (a .room-for)
+
+pub fill-spec : {M : Type 1} → statement M
+fill-spec =
+    tie.close
+    (tie.spec
+    stored-powers-requires
+    stored-logarithms-requires
+    stored-exponentials-requires
+    header-of-requires
+    fill-lines-requires
+    same-length
+    returns)

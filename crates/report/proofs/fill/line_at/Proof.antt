@@ -1,0 +1,54 @@
+-- `report::fill::line_at` meets its contract.
+-- Assumes nothing.
+use denote.Ref.{now}
+use Rattle.model.specs.Predicted.{Header, headerOf}
+use Rattle.report.proofs.RecordRead.{no-line, a-line}
+use borrow.Author.Needs.{needs}
+use Rattle.report.proofs.fill.line_at.Statement.{statement}
+use Rattle.report.proofs.fill.line_at.Tie as tie
+
+abbrev header : tie.Start → Header
+header start = headerOf (start .args .header .years) (start .args .header .segments) (start .args .header .crossings)
+
+sub-read-site : tie.Need-sub-read-site
+sub-read-site c = search needs
+
+part-read-site-start : tie.Need-part-read-site-start
+part-read-site-start c = search needs
+
+part-read-site-end : tie.Need-part-read-site-end
+part-read-site-end c = search needs
+
+read-site-requires : tie.Need-read-site-requires
+read-site-requires c κs = search needs
+
+enum-told : tie.Need-enum-told
+enum-told c = search needs
+
+enum-known-answer : tie.Need-enum-known-answer
+enum-known-answer c = search needs
+
+line-with-requires : tie.Need-line-with-requires
+line-with-requires c κs =
+    let start = c .before .before .before .before .before .before in
+    (start .pre .0, start .pre .1, start .pre .2, start .pre .4, start .pre .5, start .pre .6, c .before .before .before .read-site .ensures .valid _ _ (c .before .answer .given .1))
+
+returns : tie.Need-returns
+returns c = let start = c .before .before .before .before .before in no-line (now (start .args .file)) (start .args .at) _ (c .before .before .read-site .ensures) (header start) _ (c .enum-told .given .1)
+
+returns-2 : tie.Need-returns-2
+returns-2 c = let start = c .before .before .before .before .before .before .before in a-line (now (start .args .file)) (start .args .at) _ (c .before .before .before .before .read-site .ensures) (header start) _ _ _ (c .before .before .answer .given .1) (c .line-with .ensures)
+
+pub line-at-spec : {M : Type 1} → statement M
+line-at-spec =
+    tie.close
+    (tie.spec
+    sub-read-site
+    part-read-site-start
+    part-read-site-end
+    read-site-requires
+    enum-told
+    enum-known-answer
+    line-with-requires
+    returns
+    returns-2)

@@ -1,0 +1,64 @@
+-- DEMAND 3, one claim about a project's bytes and a report: each site's line and the totals are right at every depth, in order
+-- and narrow. It names the estimates and the numbers of the report, and nothing that makes them.
+use Prim.Native.Nat.{ℕ, _+_, _*_, _≤_, _<_}
+use mathlib.Core.Path.{_≡_}
+use mathlib.Core.List.{List, [], _∷_}
+use lib.ListN.{length, getD}
+use Rattle.estimate.specs.Fraction.{Fraction, whole, millionths, _+ᶠ_}
+use Rattle.estimate.specs.Standing.{LowRight, HighRight}
+use Rattle.wide.specs.Rounding.{Narrow}
+use Rattle.site.specs.declared.values.Site.{Site}
+use Rattle.site.specs.Record.{siteOf}
+use Rattle.model.specs.Coefficients.{Coefficients, editionOne}
+use Rattle.model.specs.Parts.{number}
+use Rattle.model.specs.Predicted.{Header, predictedUnder, predictedOver}
+use Rattle.model.specs.Expected.{expectedUnder, expectedOver}
+use Rattle.line.specs.declared.Line.{Line}
+use Rattle.line.specs.Stands.{LineStands, widthParts, predictedEach, expectedEach}
+use Rattle.project.specs.File.{headerIn, sitesIn}
+use Rattle.report.specs.declared.ProjectAnswer.{ProjectAnswer}
+use Rattle.report.specs.declared.ProjectAnswer.the-variants.{Reported, Refused}
+
+-- the numbers of a report by index
+abbrev pub lineAt : List ℕ → ℕ → Line
+lineAt report i = record {
+  «predicted_low» = getD report (4 * i) 0;
+  «predicted_high» = getD report (4 * i + 1) 0;
+  «expected_low» = getD report (4 * i + 2) 0;
+  «expected_high» = getD report (4 * i + 3) 0;
+}
+
+-- a site of a list
+abbrev pub siteAt : List Site → ℕ → Site
+siteAt sites i = getD sites i (siteOf 0 [])
+
+-- "A project's estimates are sums over sites"
+unfoldable pub sumOver : (Site → ℕ → Fraction) → List Site → ℕ → Fraction
+sumOver estimate [] d = whole 0
+sumOver estimate (site ∷ sites) d = estimate site d +ᶠ sumOver estimate sites d
+
+-- "A project's observed crashes are the sum of the O that stand"
+unfoldable pub observedIn : List Site → ℕ
+observedIn [] = 0
+observedIn (site ∷ sites) = number (site .observed) + observedIn sites
+
+-- the totals of a list of sites: at most 4 a site, or 8 for sites and crashes together, and a hundred-thousandth of the high apart
+pub record TotalsStand (c : Coefficients) (header : Header) (sites : List Site) (total : Line) : Type 0 where
+  pub predicted-low-right : LowRight (millionths (total .«predicted_low»)) (sumOver (predictedOver c header) sites)
+  pub predicted-high-right : HighRight (millionths (total .«predicted_high»)) (sumOver (predictedUnder c header) sites)
+  pub expected-low-right : LowRight (millionths (total .«expected_low»)) (sumOver (expectedOver c header) sites)
+  pub expected-high-right : HighRight (millionths (total .«expected_high»)) (sumOver (expectedUnder c header) sites)
+  pub predicted-in-order : total .«predicted_low» ≤ total .«predicted_high»
+  pub expected-in-order : total .«expected_low» ≤ total .«expected_high»
+  pub predicted-narrow : Narrow widthParts (predictedEach * length sites) 1 (total .«predicted_low») (total .«predicted_high»)
+  pub expected-narrow : Narrow widthParts (expectedEach * (length sites + observedIn sites)) 1 (total .«expected_low») (total .«expected_high»)
+
+-- THE CLAIM
+pub record Demand (bytes report : List ℕ) : Type 0 where
+  pub each : (i : ℕ) → i < length (sitesIn bytes) → LineStands editionOne (headerIn bytes) (siteAt (sitesIn bytes) i) (lineAt report i)
+  pub totals : TotalsStand editionOne (headerIn bytes) (sitesIn bytes) (lineAt report (length (sitesIn bytes)))
+
+-- every report that an answer leaves meets it
+abbrev pub AnswerMeets : (bytes report : List ℕ) → ProjectAnswer → Type 0
+AnswerMeets bytes report (Reported count) = Demand bytes report
+AnswerMeets bytes report (Refused number place) = Unit

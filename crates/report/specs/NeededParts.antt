@@ -1,0 +1,141 @@
+-- EVERY PART OF DEMAND 3 IS NEEDED: a report that fails one part, at one site or in its totals, does not meet the demand. The
+-- numbers of the report are named by their index, and the widths are written out.
+use Prim.Native.Nat.{ℕ, zero, suc, _+_, _*_, _≤_, _<_}
+use mathlib.Core.Path.{_≡_, refl}
+use mathlib.Core.List.{List, [], _∷_}
+use lib.ListN.{length, getD}
+use lib.Dec.{lit≤, lit<}
+use native.Mathlib.Omega.{arith}
+use Rattle.estimate.specs.Fraction.{fraction, _//_, millionths, _<ᶠ_}
+use Rattle.estimate.specs.FractionLaws.{not-≤ᶠ-and-<ᶠ, <ᶠ-≤ᶠ-trans, ≤ᶠ-<ᶠ-trans}
+use Rattle.site.specs.declared.values.Site.{Site}
+use Rattle.site.specs.declared.values.Slot.the-variants.{Number}
+use Rattle.model.specs.Coefficients.{editionOne}
+use Rattle.model.specs.Parts.{number}
+use Rattle.model.specs.Predicted.{predictedUnder, predictedOver}
+use Rattle.model.specs.Expected.{expectedUnder, expectedOver}
+use Rattle.line.specs.NeededParts as line
+use Rattle.project.specs.File.{headerIn, sitesIn}
+use Rattle.report.specs.Demand.{Demand, siteAt, sumOver, observedIn}
+
+-- ONE SITE'S LINE, the numbers from 4 i on
+module _ (bytes report : List ℕ) (i : ℕ) (h : i < length (sitesIn bytes)) where
+  abbrev site : Site
+  site = siteAt (sitesIn bytes) i
+
+  abbrev predictedLow : ℕ
+  predictedLow = getD report (4 * i) 0
+
+  abbrev predictedHigh : ℕ
+  predictedHigh = getD report (4 * i + 1) 0
+
+  abbrev expectedLow : ℕ
+  expectedLow = getD report (4 * i + 2) 0
+
+  abbrev expectedHigh : ℕ
+  expectedHigh = getD report (4 * i + 3) 0
+
+  abbrev Fails : Type 0
+  Fails = Demand bytes report → ⊥
+
+  pub site-predicted-low-too-high : (d : ℕ) → 1 ≤ d → predictedOver editionOne (headerIn bytes) site d <ᶠ millionths predictedLow → Fails
+  site-predicted-low-too-high d k l m = line.predicted-low-too-high _ _ _ _ d k l (m .each i h)
+
+  pub site-predicted-high-too-low : (d : ℕ) → 1 ≤ d → millionths predictedHigh <ᶠ predictedUnder editionOne (headerIn bytes) site d → Fails
+  site-predicted-high-too-low d k l m = line.predicted-high-too-low _ _ _ _ d k l (m .each i h)
+
+  pub site-expected-low-too-high : (d : ℕ) → 1 ≤ d → expectedOver editionOne (headerIn bytes) site d <ᶠ millionths expectedLow → Fails
+  site-expected-low-too-high d k l m = line.expected-low-too-high _ _ _ _ d k l (m .each i h)
+
+  pub site-expected-high-too-low : (d : ℕ) → 1 ≤ d → millionths expectedHigh <ᶠ expectedUnder editionOne (headerIn bytes) site d → Fails
+  site-expected-high-too-low d k l m = line.expected-high-too-low _ _ _ _ d k l (m .each i h)
+
+  pub site-predicted-exchanged : predictedHigh < predictedLow → Fails
+  site-predicted-exchanged l m = line.predicted-exchanged _ _ _ _ l (m .each i h)
+
+  pub site-expected-exchanged : expectedHigh < expectedLow → Fails
+  site-expected-exchanged l m = line.expected-exchanged _ _ _ _ l (m .each i h)
+
+  pub site-predicted-too-wide : 100000 * (predictedLow + 4) + predictedHigh < 100000 * predictedHigh → Fails
+  site-predicted-too-wide l m = line.predicted-too-wide _ _ _ _ l (m .each i h)
+
+  pub site-expected-too-wide : 100000 * (expectedLow + 8 * (1 + number (site .observed))) + expectedHigh < 100000 * expectedHigh → Fails
+  site-expected-too-wide l m = line.expected-too-wide _ _ _ _ l (m .each i h)
+
+  module _ (observed : ℕ) (history : site .observed ≡ Number observed) where
+    pub site-expected-low-below-both : expectedLow < predictedLow → expectedLow < observed * 1000000 → Fails
+    site-expected-low-below-both l k m = line.expected-low-below-both _ _ _ _ observed history l k (m .each i h)
+
+    pub site-expected-low-above-both : predictedLow < expectedLow → observed * 1000000 < expectedLow → Fails
+    site-expected-low-above-both l k m = line.expected-low-above-both _ _ _ _ observed history l k (m .each i h)
+
+    pub site-expected-high-below-both : expectedHigh < predictedHigh → expectedHigh < observed * 1000000 → Fails
+    site-expected-high-below-both l k m = line.expected-high-below-both _ _ _ _ observed history l k (m .each i h)
+
+    pub site-expected-high-above-both : predictedHigh < expectedHigh → observed * 1000000 < expectedHigh → Fails
+    site-expected-high-above-both l k m = line.expected-high-above-both _ _ _ _ observed history l k (m .each i h)
+
+-- THE TOTALS, the four numbers after the lines of n sites
+module _ (bytes report : List ℕ) where
+  abbrev n : ℕ
+  n = length (sitesIn bytes)
+
+  abbrev low : ℕ
+  low = getD report (4 * n) 0
+
+  abbrev high : ℕ
+  high = getD report (4 * n + 1) 0
+
+  abbrev lowExpected : ℕ
+  lowExpected = getD report (4 * n + 2) 0
+
+  abbrev highExpected : ℕ
+  highExpected = getD report (4 * n + 3) 0
+
+  abbrev Wrong : Type 0
+  Wrong = Demand bytes report → ⊥
+
+  pub total-predicted-low-too-high : (d : ℕ) → 1 ≤ d → sumOver (predictedOver editionOne (headerIn bytes)) (sitesIn bytes) d <ᶠ millionths low → Wrong
+  total-predicted-low-too-high d k l m = not-≤ᶠ-and-<ᶠ (m .totals .predicted-low-right .at d k) l
+
+  pub total-predicted-high-too-low : (d : ℕ) → 1 ≤ d → millionths high <ᶠ sumOver (predictedUnder editionOne (headerIn bytes)) (sitesIn bytes) d → Wrong
+  total-predicted-high-too-low d k l m = not-≤ᶠ-and-<ᶠ (m .totals .predicted-high-right .at d k) l
+
+  pub total-expected-low-too-high : (d : ℕ) → 1 ≤ d → sumOver (expectedOver editionOne (headerIn bytes)) (sitesIn bytes) d <ᶠ millionths lowExpected → Wrong
+  total-expected-low-too-high d k l m = not-≤ᶠ-and-<ᶠ (m .totals .expected-low-right .at d k) l
+
+  pub total-expected-high-too-low : (d : ℕ) → 1 ≤ d → millionths highExpected <ᶠ sumOver (expectedUnder editionOne (headerIn bytes)) (sitesIn bytes) d → Wrong
+  total-expected-high-too-low d k l m = not-≤ᶠ-and-<ᶠ (m .totals .expected-high-right .at d k) l
+
+  pub total-predicted-exchanged : high < low → Wrong
+  total-predicted-exchanged l m = omega (arith, m .totals .predicted-in-order)
+
+  pub total-expected-exchanged : highExpected < lowExpected → Wrong
+  total-expected-exchanged l m = omega (arith, m .totals .expected-in-order)
+
+  pub total-predicted-too-wide : 100000 * (low + 4 * n) + high < 100000 * high → Wrong
+  total-predicted-too-wide l m = omega (arith, m .totals .predicted-narrow .width)
+
+  pub total-expected-too-wide : 100000 * (lowExpected + 8 * (n + observedIn (sitesIn bytes))) + highExpected < 100000 * highExpected → Wrong
+  total-expected-too-wide l m = omega (arith, m .totals .expected-narrow .width)
+
+-- A PAIR FROM ZERO TO THE TOP for the first site, whatever stands after it
+pub zero-to-the-top : (bytes rest : List ℕ) → 0 < length (sitesIn bytes) → Demand bytes (0 ∷ 18446744073709551615 ∷ rest) → ⊥
+zero-to-the-top bytes rest h = site-predicted-too-wide bytes (0 ∷ 18446744073709551615 ∷ rest) 0 h (lit< tt)
+
+-- ONE REPORT FOR TWO PROJECTS: none meets both demands where the first site's over-estimate in the one is below a millionths,
+-- its under-estimate in the other above b, and a and b further apart than the width
+order : (a b : ℕ) → millionths a <ᶠ millionths b → a < b
+unfolding millionths _//_ fraction
+order a b h = omega (arith, h .cross)
+
+pub one-report-for-two : (bytes others report : List ℕ) → 0 < length (sitesIn bytes) → 0 < length (sitesIn others) → (d a b : ℕ) → 1 ≤ d
+    → predictedOver editionOne (headerIn bytes) (siteAt (sitesIn bytes) 0) d <ᶠ millionths a
+    → millionths b <ᶠ predictedUnder editionOne (headerIn others) (siteAt (sitesIn others) 0) d
+    → 100000 * (a + 4) + b < 100000 * b → Demand bytes report → Demand others report → ⊥
+one-report-for-two bytes others report h k d a b l over under apart m o =
+    let first = m .each 0 h in
+    let second = o .each 0 k in
+    let low : getD report 0 0 < a = order (getD report 0 0) a (≤ᶠ-<ᶠ-trans (first .predicted-low-right .at d l) over) in
+    let high : b < getD report 1 0 = order b (getD report 1 0) (<ᶠ-≤ᶠ-trans under (second .predicted-high-right .at d l)) in
+    omega (arith, low, high, first .predicted-narrow .width)

@@ -1,0 +1,48 @@
+-- ONE REPORT FOR EVERY PROJECT: no report meets the demand of document 01's signal over one year at a calibration of 0.001 and
+-- over ten years at 9.999.
+use Prim.Native.Nat.{ℕ, _≤_, _<_}
+use mathlib.Core.Path.{_≡_, refl, sym}
+use mathlib.Core.List.{List, [], _∷_}
+use lib.ListN.{length}
+use lib.Dec.{lit<, lit≤}
+use Rattle.estimate.specs.Fraction.{Fraction, fraction, _//_, whole, millionths, decimal, inverse, _<ᶠ_, _+ᶠ_, _*ᶠ_}
+use Rattle.estimate.specs.Power.{powerLargest, powerUnder, powerOver, power-largest-value}
+use Rattle.estimate.specs.Exponential.{termNum, termDen, sumNum, partialSum, sumWithTail, expUnder, expOver, expNegUnder, expNegOver}
+use Rattle.site.specs.declared.values.Site.{Site}
+use Rattle.site.specs.Known.{signal, signal-read}
+use Rattle.model.specs.Coefficients.{editionOne}
+use Rattle.model.specs.Crossings.{leftTurn, rightTurn, sight}
+use Rattle.model.specs.Parts.{crossingParts}
+use Rattle.model.specs.Predicted.{headerOf, productUnder, productOver, termsOf, sumUnder, sumOver, predictedUnder, predictedOver}
+use Rattle.project.specs.File.{sitesFrom, sitesIn}
+use Rattle.report.specs.Demand.{Demand}
+use Rattle.report.specs.NeededParts.{one-report-for-two}
+
+-- "01 05 03E8 03E8 0001" and "03 0007 2710 03E8 0005", with other years and calibrations
+abbrev pub signalProject : (years high low : ℕ) → List ℕ
+signalProject years high low = 1 ∷ years ∷ high ∷ low ∷ high ∷ low ∷ 0 ∷ 1 ∷ 3 ∷ 0 ∷ 7 ∷ 39 ∷ 16 ∷ 3 ∷ 232 ∷ 0 ∷ 5 ∷ []
+
+one-site : (years high low : ℕ) → sitesIn (signalProject years high low) ≡ signal ∷ []
+unfolding sitesIn sitesFrom
+one-site years high low = rw signal-read refl
+
+-- 10,000^0.60 is 251.1 and 1,000^0.20 is 3.9 at depth 1
+major : powerLargest 1 10000 60 100 ≡ 2511
+major = power-largest-value 1 10000 60 100 _ (lit< tt) (lit≤ tt) (lit< tt)
+
+minor : powerLargest 1 1000 20 100 ≡ 39
+minor = power-largest-value 1 1000 20 100 _ (lit< tt) (lit≤ tt) (lit< tt)
+
+-- under 0.004 crashes, and over 200
+few : predictedOver editionOne (headerOf 1 1 1) signal 1 <ᶠ millionths 4000
+unfolding predictedOver sumOver termsOf productOver crossingParts editionOne powerOver decimal expOver expNegOver expUnder partialSum sumWithTail sumNum termNum termDen inverse leftTurn rightTurn sight _*ᶠ_ _+ᶠ_ whole fraction _//_ millionths signal
+few = rw (major, minor) (record { cross = lit< tt })
+
+many : millionths 200000000 <ᶠ predictedUnder editionOne (headerOf 10 9999 9999) signal 1
+unfolding predictedUnder sumUnder termsOf productUnder crossingParts editionOne powerUnder decimal expUnder expNegUnder expOver partialSum sumWithTail sumNum termNum termDen inverse leftTurn rightTurn sight _*ᶠ_ _+ᶠ_ whole fraction _//_ millionths signal
+many = rw (major, minor) (record { cross = lit< tt })
+
+pub one-report-for-all : (report : List ℕ) → Demand (signalProject 1 0 1) report → Demand (signalProject 10 39 15) report → ⊥
+one-report-for-all report =
+    one-report-for-two (signalProject 1 0 1) (signalProject 10 39 15) report (rw (one-site 1 0 1) (lit< tt)) (rw (one-site 10 39 15) (lit< tt)) 1 4000 200000000 (lit≤ tt)
+    (rw (one-site 1 0 1) few) (rw (one-site 10 39 15) many) (lit< tt)

@@ -1,0 +1,128 @@
+// The numbers of a report, filled in from the records of an accepted file.
+ghost use mathlib.Core.Path.{_≡_};
+ghost use Prim.Native.Nat.{_+_, _≤_};
+ghost use lib.ListN.{length, drop};
+ghost use lib.Seq.{sets};
+ghost use Rattle.exponential.specs.Stored.{StoredExponentials};
+ghost use Rattle.logarithm.specs.Stored.{StoredLogarithms};
+ghost use Rattle.power.specs.Stored.{StoredPowers};
+ghost use Rattle.site.specs.Record.{readSite};
+ghost use Rattle.model.specs.Predicted.{headerOf};
+ghost use Rattle.project.specs.File.{headerLength};
+ghost use Rattle.project.specs.Fields.{valuesOf};
+ghost use Rattle.report.specs.Report.{numbersOf, noLine, plus, reportNumbers, linesIn, laidOver};
+ghost use Rattle.report.specs.Fill.{fillFrom, recordLine, Within};
+ghost use Rattle.report.specs.FillSteps.{Fillable, Acceptable};
+use exponential::stored::stored_exponentials;
+use line::Line;
+use line::line_with;
+use logarithm::stored::stored_logarithms;
+use power::stored::stored_powers;
+use project::Header;
+use project::header_of;
+use site::values::SiteAnswer;
+
+// A record's line and its length in bytes, or that no record was read.
+pub enum RecordLine {
+    Next(Line, usize),
+    Unread,
+}
+
+// The line of the record that starts at a place.
+fn line_at(
+    powers: &[u64; 2560],
+    logarithms: &[u64; 256],
+    exponentials: &[u64; 15],
+    file: &[u8],
+    at: usize,
+    header: Header,
+) -> RecordLine
+    requires { ⌜ StoredPowers (now powers) × StoredLogarithms (now logarithms) × StoredExponentials (now exponentials) × (at ≤ length (now file)) × (header .years ≤ 10) × (header .segments ≤ 9999) × (header .crossings ≤ 9999) ⌝ }
+    ensures { λ r. ⌜ r ≡ recordLine (headerOf (header .years) (header .segments) (header .crossings)) (readSite (drop at (now (file .entry)))) ⌝ }
+{
+    let answer = site_reader::read_site(&file[at..]);
+    match answer {
+        SiteAnswer::Refused(_) => RecordLine::Unread,
+        SiteAnswer::Read(site, n) => {
+            let line = line_with(
+                powers,
+                logarithms,
+                exponentials,
+                header.years,
+                header.segments,
+                header.crossings,
+                site,
+            );
+            RecordLine::Next(line, n)
+        }
+    }
+}
+
+// Stores a line's four numbers from a place on.
+fn put_line(line: Line, report: &mut [u64], at: usize)
+    requires { ⌜ at + 4 ≤ length (now report) ⌝ }
+    ensures { λ r. ⌜ now (report .exit) ≡ sets (now (report .entry)) at (numbersOf line) ⌝ }
+{
+    report[at] = line.predicted_low;
+    report[at + 1] = line.predicted_high;
+    report[at + 2] = line.expected_low;
+    report[at + 3] = line.expected_high;
+}
+
+// Totals with one line more.
+fn add_line(total: Line, line: Line) -> Line
+    requires { ⌜ Within 1000000000000000000 total × Within 1000000000000000000 line ⌝ }
+    ensures { λ r. ⌜ r ≡ plus total line ⌝ }
+{
+    Line {
+        predicted_low: total.predicted_low + line.predicted_low,
+        predicted_high: total.predicted_high + line.predicted_high,
+        expected_low: total.expected_low + line.expected_low,
+        expected_high: total.expected_high + line.expected_high,
+    }
+}
+
+// The lines of the records one after another, and the totals after them.
+fn fill_lines(
+    powers: &[u64; 2560],
+    logarithms: &[u64; 256],
+    exponentials: &[u64; 15],
+    file: &[u8],
+    header: Header,
+    report: &mut [u64],
+)
+    requires { ⌜ StoredPowers (now powers) × StoredLogarithms (now logarithms) × StoredExponentials (now exponentials) × Fillable (now file) header (length (now report)) ⌝ }
+    ensures { λ r. ⌜ now (report .exit) ≡ sets (now (report .entry)) 0 (fillFrom (valuesOf header) (header .sites) headerLength noLine (now (file .entry))) ⌝ }
+{
+    let mut total = Line {
+        predicted_low: 0,
+        predicted_high: 0,
+        expected_low: 0,
+        expected_high: 0,
+    };
+    let mut at = 8;
+    let mut i = 0;
+    while i < header.sites {
+        let next = line_at(powers, logarithms, exponentials, file, at, header);
+        let RecordLine::Next(line, n) = next else {
+            return;
+        };
+        put_line(line, report, 4 * i);
+        total = add_line(total, line);
+        at += n;
+        i += 1;
+    }
+    put_line(total, report, 4 * i);
+}
+
+// The report of an accepted file, from the start of a run that has room for it; the stored numbers are made once.
+pub fn fill(file: &[u8], report: &mut [u64])
+    requires { ⌜ Acceptable (now file) (length (now report)) ⌝ }
+    ensures { λ r. ⌜ now (report .exit) ≡ laidOver (reportNumbers (linesIn (now (file .entry)))) (now (report .entry)) ⌝ }
+{
+    let powers = stored_powers();
+    let logarithms = stored_logarithms();
+    let exponentials = stored_exponentials();
+    let header = header_of(file);
+    fill_lines(&powers, &logarithms, &exponentials, file, header, report);
+}

@@ -1,0 +1,47 @@
+// The report of a project: a line for each site, and the totals. All records are read before the first number is written.
+pub mod fill;
+
+ghost use mathlib.Core.Path.{_≡_};
+ghost use Prim.Native.Nat.{_≤_};
+ghost use lib.ListN.{length};
+ghost use Rattle.project.specs.File.{mostSites};
+ghost use Rattle.project.specs.Causes.{reportLength};
+ghost use Rattle.report.specs.Report.{projectAnswer, reportAfter};
+ghost use Rattle.report.specs.Demand.{AnswerMeets};
+use crate::fill::fill;
+use project::ScanAnswer;
+use project::scan;
+
+// The count of numbers written, or document 01's number and place.
+pub enum ProjectAnswer {
+    Reported(usize),
+    Refused(u8, usize),
+}
+
+// The numbers of a report: four for each site and four totals.
+pub fn report_length(sites: usize) -> usize
+    requires { ⌜ sites ≤ mostSites ⌝ }
+    ensures { λ r. ⌜ r ≡ reportLength sites ⌝ }
+{
+    4 * (sites + 1)
+}
+
+// Reads a project and makes its report from the start of a lent run. The rest of the run, and all of it where the project is
+// refused, stays as it was.
+pub fn read_project(file: &[u8], report: &mut [u64]) -> ProjectAnswer
+    ensures { λ r. ⌜ (r ≡ projectAnswer (now (file .entry)) (length (now (report .entry)))) × (now (report .exit) ≡ reportAfter (now (file .entry)) (now (report .entry))) ⌝ }
+    ensures demand { λ r. ⌜ AnswerMeets (now (file .entry)) (now (report .exit)) r ⌝ }
+{
+    let found = scan(file);
+    match found {
+        ScanAnswer::Refused(number, place) => ProjectAnswer::Refused(number, place),
+        ScanAnswer::Accepted(sites) => {
+            let count = report_length(sites);
+            if report.len() < count {
+                return ProjectAnswer::Refused(10, 0);
+            }
+            fill(file, report);
+            ProjectAnswer::Reported(count)
+        }
+    }
+}

@@ -1,0 +1,4 @@
+pub mod Text
+pub mod Stores
+pub mod Decimal
+pub mod Lines

@@ -1,0 +1,38 @@
+//! How long the program `crash_report` takes for the longest project file, from
+//! its start to its end, beside its time for an empty project.
+
+use engine::program::{full_project, CRASH_REPORT};
+use std::fs::{self, File};
+use std::process::{Command, Stdio};
+use std::time::{Duration, Instant};
+
+const RUNS: usize = 100;
+
+fn run(path: &str) -> Duration {
+    let input = File::open(path).expect("the project");
+    let start = Instant::now();
+    let status = Command::new(CRASH_REPORT)
+        .stdin(input)
+        .stdout(Stdio::null())
+        .status()
+        .expect("crash_report runs; `rt check` makes it");
+    let time = start.elapsed();
+    assert!(status.success());
+    time
+}
+
+fn main() {
+    let file = std::env::temp_dir().join(format!("report_time.{}", std::process::id()));
+    let path = file.to_str().expect("a plain path");
+    println!("sites   bytes   best ms   median ms   of {RUNS} runs");
+    for sites in [0, 1_900] {
+        let bytes = full_project(sites);
+        fs::write(path, &bytes).expect("a project is written");
+        let mut times: Vec<Duration> = (0..RUNS).map(|_| run(path)).collect();
+        times.sort();
+        let milliseconds = |time: Duration| time.as_secs_f64() * 1e3;
+        let (best, median) = (milliseconds(times[0]), milliseconds(times[RUNS / 2]));
+        println!("{sites:5} {:7} {best:9.2} {median:11.2}", bytes.len());
+    }
+    fs::remove_file(path).expect("the project is removed");
+}

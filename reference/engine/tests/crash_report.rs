@@ -1,0 +1,164 @@
+//! The program `crash_report`, run as a user runs it: known figures, the demo
+//! corridor, the largest files, and files that the reference makes.
+
+use engine::program::{full_project, CRASH_REPORT};
+use reference::lines;
+use reference::program::{check, judge, run, DEPTHS};
+use std::fs::{self, File, OpenOptions};
+use std::io::{Read, Write};
+use std::path::{Path, PathBuf};
+use std::process::{Command, Output, Stdio};
+use std::thread::sleep;
+use std::time::Duration;
+
+/// Document 01's accepted signal.
+const SIGNAL: [u8; 17] = [
+    1, 5, 3, 0xE8, 3, 0xE8, 0, 1, 3, 0, 7, 0x27, 0x10, 3, 0xE8, 0, 5,
+];
+
+/// A header and 1,900 records of 33 bytes.
+const MOST_SITES: usize = 1_900;
+const LONGEST_FILE: usize = 62_708;
+
+/// Files of each sort that the gate compares, and the seed that makes them.
+const FILES: usize = 5_000;
+const SEED: u64 = 1;
+
+fn printed(input: &[u8]) -> String {
+    run(CRASH_REPORT, input).expect("the program runs; `rt check` makes it")
+}
+
+fn root() -> PathBuf {
+    Path::new(env!("CARGO_MANIFEST_DIR")).join("../..")
+}
+
+fn stored(name: &str) -> Vec<u8> {
+    fs::read(root().join(name)).expect("a stored file")
+}
+
+/// Runs the program on given files, apart from any pipe.
+fn run_on(input: File, output: Stdio) -> Output {
+    Command::new(CRASH_REPORT)
+        .stdin(input)
+        .stdout(output)
+        .stderr(Stdio::piped())
+        .output()
+        .expect("the program runs")
+}
+
+#[test]
+fn known_figures() {
+    assert_eq!(printed(&[]), "refused 1 at 0\n");
+    assert_eq!(printed(&[1, 5, 3, 0xE8, 3, 0xE8, 0, 0]), "0 0 0 0\n");
+    let accepted = printed(&SIGNAL);
+    assert_eq!(accepted.lines().count(), 2);
+    assert_eq!(judge(&SIGNAL, &accepted, &DEPTHS), Ok(()));
+    let mut spelled = SIGNAL.to_vec();
+    spelled[10] = 0x17;
+    spelled.extend([0, 0]);
+    assert_eq!(printed(&spelled), "refused 9 at 8\n");
+}
+
+#[test]
+fn demo_corridor() {
+    let text = String::from_utf8(stored("demo/corridor.txt")).expect("readable lines");
+    let project = stored("demo/corridor.project");
+    assert_eq!(lines::make(&text), Ok(project.clone()));
+    let report = printed(&project);
+    assert_eq!(report.as_bytes(), stored("demo/corridor.report"));
+    assert_eq!(judge(&project, &report, &DEPTHS), Ok(()));
+}
+
+#[test]
+fn stored_run_is_the_demo() {
+    let project = stored("crates/crash_report/stdin");
+    assert_eq!(project, stored("demo/corridor.project"));
+    let report = stored("crates/crash_report/stdout");
+    assert_eq!(report, stored("demo/corridor.report"));
+}
+
+#[test]
+fn longest_file_and_longer_ones() {
+    let mut file = full_project(MOST_SITES);
+    assert_eq!(file.len(), LONGEST_FILE);
+    let report = printed(&file);
+    assert_eq!(report.lines().count(), MOST_SITES + 1);
+    assert_eq!(judge(&file, &report, &[3]), Ok(()));
+    for extra in [1, 2, 4_096, 1_000_000] {
+        file.resize(LONGEST_FILE + extra, 0);
+        assert_eq!(printed(&file), "refused 2 at 62708\n");
+    }
+}
+
+#[test]
+fn input_in_pieces_is_one_file() {
+    let file = full_project(MOST_SITES);
+    let whole = printed(&file);
+    let mut child = Command::new(CRASH_REPORT)
+        .stdin(Stdio::piped())
+        .stdout(Stdio::piped())
+        .spawn()
+        .expect("the program runs");
+    let mut stdin = child.stdin.take().expect("a piped input");
+    for piece in file.chunks(9_001) {
+        stdin.write_all(piece).expect("the program reads on");
+        sleep(Duration::from_millis(2));
+    }
+    drop(stdin);
+    let output = child.wait_with_output().expect("the program ends");
+    assert_eq!(output.stdout, whole.as_bytes());
+}
+
+#[test]
+fn failed_read_prints_no_report() {
+    let folder = File::open(root()).expect("a folder, which cannot be read");
+    let output = run_on(folder, Stdio::piped());
+    assert_eq!(output.stdout, b"");
+    assert_eq!(output.stderr, b"crash_report: reading failed\n");
+}
+
+#[test]
+fn failed_write_is_told() {
+    let full = OpenOptions::new().write(true).open("/dev/full");
+    let input = File::open(root().join("demo/corridor.project")).expect("the demo");
+    let output = run_on(input, full.expect("a full device").into());
+    assert_eq!(output.stderr, b"crash_report: writing failed\n");
+}
+
+#[test]
+fn slow_reader_gets_the_whole_report() {
+    let file = full_project(MOST_SITES);
+    let whole = printed(&file);
+    let path = PathBuf::from(env!("CARGO_TARGET_TMPDIR")).join("longest.project");
+    fs::write(&path, &file).expect("a file is written");
+    let mut child = Command::new(CRASH_REPORT)
+        .stdin(File::open(&path).expect("the file"))
+        .stdout(Stdio::piped())
+        .spawn()
+        .expect("the program runs");
+    let mut stdout = child.stdout.take().expect("a piped output");
+    let mut text: Vec<u8> = Vec::new();
+    let mut piece = [0; 5_000];
+    loop {
+        let got = stdout.read(&mut piece).expect("printed bytes");
+        if got == 0 {
+            break;
+        }
+        text.extend(&piece[..got]);
+        sleep(Duration::from_millis(1));
+    }
+    assert!(child.wait().expect("the program ends").success());
+    assert_eq!(text, whole.as_bytes());
+}
+
+#[test]
+fn generated_and_damaged_files() {
+    let mut failures = Vec::new();
+    let tally = check(CRASH_REPORT, FILES, SEED, |failure| {
+        failures.push(failure.to_string())
+    });
+    assert_eq!(tally.failed, 0, "{}", failures.join("\n"));
+    assert_eq!(tally.passed, 2 * FILES);
+    let refusals = &tally.outcomes[1..10];
+    assert!(refusals.iter().all(|count| *count > 0), "{refusals:?}");
+}
