@@ -22,7 +22,7 @@ use Rattle.project.specs.Headed.{fine-header}
 use Rattle.project.specs.Scan.{scan-fine, accepted-exactly}
 use Rattle.project.specs.SitesRead.{AcceptedFile, accepted-sites}
 use Rattle.project.specs.Causes.{reportLength}
-use Rattle.report.specs.Report.{numbersOf, allNumbers, noLine, totalOf, reportNumbers, linesIn}
+use Rattle.report.specs.Report.{numbersOf, allNumbers, noLine, totalOf, reportNumbers, linesIn, laidOver}
 use Rattle.report.specs.Demand.{Demand}
 use Rattle.report.specs.DemandLaws.{AllValid, length-lines, report-each, report-totals}
 use Rattle.report.specs.Fill.{fillFrom, fill-report}
@@ -77,3 +77,7 @@ module _ (s : List ℕ) (n : ℕ) (accepted : scanFile s ≡ Accepted n) where
       let l = limits-of (headerIn s) (facts .limits) in
       rw (append-assoc (allNumbers (linesIn s)) (numbersOf (totalOf (linesIn s))) rest)
       (record { each = λ i h. report-each (headerIn s) l (sitesIn s) v rest i (omega (arith, h)); totals = report-totals (headerIn s) l (sitesIn s) v rest })
+
+  -- a run that the report is laid over meets it
+  pub laid-meets : (before after : List ℕ) → after ≡ laidOver (reportNumbers (linesIn s)) before → (after ≡ laidOver (reportNumbers (linesIn s)) before) × Demand s after
+  laid-meets before after e = (e, rw e (demand-met (drop (length (reportNumbers (linesIn s))) before)))

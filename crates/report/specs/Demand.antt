@@ -15,7 +15,9 @@ use Rattle.model.specs.Predicted.{Header, predictedUnder, predictedOver}
 use Rattle.model.specs.Expected.{expectedUnder, expectedOver}
 use Rattle.line.specs.declared.Line.{Line}
 use Rattle.line.specs.Stands.{LineStands, widthParts, predictedEach, expectedEach}
-use Rattle.project.specs.File.{headerIn, sitesIn}
+use Rattle.project.specs.File.{headerIn, countIn, sitesIn}
+use Rattle.project.specs.Causes.{reportLength, NoCause, FirstCause}
+use Rattle.report.specs.Report.{answerNumber, answerValue}
 use Rattle.report.specs.declared.ProjectAnswer.{ProjectAnswer}
 use Rattle.report.specs.declared.ProjectAnswer.the-variants.{Reported, Refused}
 
@@ -58,7 +60,13 @@ pub record Demand (bytes report : List ℕ) : Type 0 where
   pub each : (i : ℕ) → i < length (sitesIn bytes) → LineStands editionOne (headerIn bytes) (siteAt (sitesIn bytes) i) (lineAt report i)
   pub totals : TotalsStand editionOne (headerIn bytes) (sitesIn bytes) (lineAt report (length (sitesIn bytes)))
 
--- every report that an answer leaves meets it
-abbrev pub AnswerMeets : (bytes report : List ℕ) → ProjectAnswer → Type 0
-AnswerMeets bytes report (Reported count) = Demand bytes report
-AnswerMeets bytes report (Refused number place) = Unit
+-- what an answer says: a report is made where no cause is found in the file or its report, as long as document 01 has it, and
+-- it meets the demand; a refusal is the first cause in document 01's order, and the report stays as it was
+abbrev pub AnswerMeets : (bytes before report : List ℕ) → ProjectAnswer → Type 0
+AnswerMeets bytes before report (Reported count) =
+    NoCause bytes (length before)
+    × (answerNumber (Reported count) ≡ 0)
+    × (answerValue (Reported count) ≡ reportLength (countIn bytes))
+    × Demand bytes report
+AnswerMeets bytes before report (Refused number place) =
+    FirstCause bytes (length before) (answerNumber (Refused number place)) (answerValue (Refused number place)) × (report ≡ before)

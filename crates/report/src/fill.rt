@@ -11,6 +11,7 @@ ghost use Rattle.model.specs.Predicted.{headerOf};
 ghost use Rattle.project.specs.File.{headerLength};
 ghost use Rattle.project.specs.Fields.{valuesOf};
 ghost use Rattle.report.specs.Report.{numbersOf, noLine, plus, reportNumbers, linesIn, laidOver};
+ghost use Rattle.report.specs.Demand.{Demand};
 ghost use Rattle.report.specs.Fill.{fillFrom, recordLine, Within};
 ghost use Rattle.report.specs.FillSteps.{Fillable, Acceptable};
 use exponential::stored::stored_exponentials;
@@ -119,6 +120,7 @@ fn fill_lines(
 pub fn fill(file: &[u8], report: &mut [u64])
     requires { ⌜ Acceptable (now file) (length (now report)) ⌝ }
     ensures { λ r. ⌜ now (report .exit) ≡ laidOver (reportNumbers (linesIn (now (file .entry)))) (now (report .entry)) ⌝ }
+    ensures demand { λ r. ⌜ Demand (now (file .entry)) (now (report .exit)) ⌝ }
 {
     let powers = stored_powers();
     let logarithms = stored_logarithms();

@@ -5,8 +5,8 @@ ghost use mathlib.Core.Path.{_≡_};
 ghost use Prim.Native.Nat.{_≤_};
 ghost use lib.ListN.{length};
 ghost use Rattle.project.specs.File.{mostSites};
-ghost use Rattle.project.specs.Causes.{reportLength};
-ghost use Rattle.report.specs.Report.{projectAnswer, reportAfter};
+ghost use Rattle.project.specs.declared.ScanAnswer.the-variants.{Accepted};
+ghost use Rattle.report.specs.Report.{spaced, projectAnswer, reportAfter};
 ghost use Rattle.report.specs.Demand.{AnswerMeets};
 use crate::fill::fill;
 use project::ScanAnswer;
@@ -18,30 +18,36 @@ pub enum ProjectAnswer {
     Refused(u8, usize),
 }
 
-// The numbers of a report: four for each site and four totals.
-pub fn report_length(sites: usize) -> usize
+// The space test: the count of a report's numbers, four for each site and four totals, or 10 where the run is shorter.
+pub fn space(sites: usize, room: usize) -> ProjectAnswer
     requires { ⌜ sites ≤ mostSites ⌝ }
-    ensures { λ r. ⌜ r ≡ reportLength sites ⌝ }
+    ensures { λ r. ⌜ r ≡ spaced (Accepted sites) room ⌝ }
 {
-    4 * (sites + 1)
+    let count = 4 * (sites + 1);
+    if room < count {
+        return ProjectAnswer::Refused(10, 0);
+    }
+    ProjectAnswer::Reported(count)
 }
 
 // Reads a project and makes its report from the start of a lent run. The rest of the run, and all of it where the project is
 // refused, stays as it was.
 pub fn read_project(file: &[u8], report: &mut [u64]) -> ProjectAnswer
     ensures { λ r. ⌜ (r ≡ projectAnswer (now (file .entry)) (length (now (report .entry)))) × (now (report .exit) ≡ reportAfter (now (file .entry)) (now (report .entry))) ⌝ }
-    ensures demand { λ r. ⌜ AnswerMeets (now (file .entry)) (now (report .exit)) r ⌝ }
+    ensures demand { λ r. ⌜ AnswerMeets (now (file .entry)) (now (report .entry)) (now (report .exit)) r ⌝ }
 {
     let found = scan(file);
     match found {
         ScanAnswer::Refused(number, place) => ProjectAnswer::Refused(number, place),
         ScanAnswer::Accepted(sites) => {
-            let count = report_length(sites);
-            if report.len() < count {
-                return ProjectAnswer::Refused(10, 0);
+            let answer = space(sites, report.len());
+            match answer {
+                ProjectAnswer::Refused(number, place) => ProjectAnswer::Refused(number, place),
+                ProjectAnswer::Reported(count) => {
+                    fill(file, report);
+                    ProjectAnswer::Reported(count)
+                }
             }
-            fill(file, report);
-            ProjectAnswer::Reported(count)
         }
     }
 }

@@ -1,9 +1,8 @@
 -- `report::read_project` meets its contract.
 -- Assumes nothing.
 use mathlib.Core.Path.{sym, _∙_}
-use native.Mathlib.Omega.{arith}
 use Rattle.project.specs.SitesRead.{accepted-sites}
-use Rattle.report.specs.ProjectLaws.{refused-by-bytes, refused-by-room, reported}
+use Rattle.report.specs.ProjectLaws.{space-suffices, refused-by-bytes, refused-by-room, reported}
 use borrow.Author.Needs.{needs}
 use Rattle.report.proofs.read_project.Statement.{statement}
 use Rattle.report.proofs.read_project.Tie as tie
@@ -17,23 +16,29 @@ enum-known-found c = search needs
 enum-known-found-2 : tie.Need-enum-known-found-2
 enum-known-found-2 c = search needs
 
-report-length-requires : tie.Need-report-length-requires
-report-length-requires c κs = accepted-sites _ _ (sym (c .before .before .before .scan .ensures) ∙ c .before .found2 .given .1) .few
+space-requires : tie.Need-space-requires
+space-requires c κs = accepted-sites _ _ (sym (c .before .before .before .scan .ensures) ∙ c .before .found2 .given .1) .few
 
-returns : tie.Need-returns
-returns c = refused-by-room _ _ _ (sym (c .before .before .before .before .before .scan .ensures) ∙ c .before .before .before .found2 .given .1) (omega (arith, c .if1 .taken, c .before .report-length .ensures))
+enum-known-answer : tie.Need-enum-known-answer
+enum-known-answer c = search needs
+
+enum-known-answer-2 : tie.Need-enum-known-answer-2
+enum-known-answer-2 c = search needs
 
 fill-requires : tie.Need-fill-requires
-fill-requires c κs = record { sites = _; scanned = (sym (c .before .before .before .before .before .before .scan .ensures) ∙ c .before .before .before .before .found2 .given .1); room-for = omega (arith, c .before .if1 .left, c .before .before .report-length .ensures) }
+fill-requires c κs = record { sites = _; scanned = (sym (c .before .before .before .before .before .before .before .before .scan .ensures) ∙ c .before .before .before .before .before .before .found2 .given .1); room-for = space-suffices _ _ _ (sym (c .before .before .before .before .before .before .before .before .scan .ensures) ∙ c .before .before .before .before .before .before .found2 .given .1) _ (sym (c .before .before .answer2 .given .1) ∙ c .before .before .before .before .space .ensures) }
+
+returns : tie.Need-returns
+returns c = refused-by-bytes _ _ _ _ (sym (c .before .before .before .scan .ensures) ∙ c .before .found .given .1)
 
 returns-2 : tie.Need-returns-2
-returns-2 c = refused-by-bytes _ _ _ _ (sym (c .before .before .before .scan .ensures) ∙ c .before .found .given .1)
+returns-2 c = refused-by-room _ _ _ (sym (c .before .before .before .before .before .before .before .scan .ensures) ∙ c .before .before .before .before .before .found2 .given .1) _ _ (sym (c .before .answer .given .1) ∙ c .before .before .before .space .ensures)
 
 same-length : tie.Need-same-length
 same-length c = search needs
 
 returns-3 : tie.Need-returns-3
-returns-3 c = reported _ _ _ _ _ (sym (c .before .before .before .before .before .before .before .before .before .scan .ensures) ∙ c .before .before .before .before .before .before .before .found2 .given .1) (omega (arith, c .before .before .before .before .if1 .left, c .before .before .before .before .before .report-length .ensures)) (c .before .before .before .before .before .report-length .ensures) (c .before .before .fill .ensures)
+returns-3 c = reported _ _ _ (sym (c .before .before .before .before .before .before .before .before .before .before .before .scan .ensures) ∙ c .before .before .before .before .before .before .before .before .before .found2 .given .1) _ _ (sym (c .before .before .before .before .before .answer2 .given .1) ∙ c .before .before .before .before .before .before .before .space .ensures) (c .before .before .fill .ensures .0) (c .before .before .fill .ensures .1)
 
 pub read-project-spec : {M : Type 1} → statement M
 read-project-spec =
@@ -42,9 +47,11 @@ read-project-spec =
     scan-requires
     enum-known-found
     enum-known-found-2
-    report-length-requires
-    returns
+    space-requires
+    enum-known-answer
+    enum-known-answer-2
     fill-requires
+    returns
     returns-2
     same-length
     returns-3)

@@ -4,7 +4,7 @@ use denote.Ref.{now}
 use lib.Seq.{sets}
 use mathlib.Core.Path.{ap, _∙_}
 use Rattle.project.specs.SitesRead.{accepted-sites}
-use Rattle.report.specs.Accepted.{fillable, filled-report, report-fits}
+use Rattle.report.specs.Accepted.{fillable, filled-report, report-fits, laid-meets}
 use borrow.Author.Needs.{needs}
 use Rattle.report.proofs.fill.fill.Statement.{statement}
 use Rattle.report.proofs.fill.fill.Tie as tie
@@ -33,9 +33,10 @@ returns : tie.Need-returns
 returns c =
     let start = c .before .before .before .before .before .before .before .before .before .before .before .before .before in
     let a = start .pre in
-    c .before .before .fill-lines .ensures
+    laid-meets _ (a .sites) (a .scanned) (now (start .args .report)) _
+    (c .before .before .fill-lines .ensures
     ∙ ap (sets (now (start .args .report)) 0) (filled-report _ (a .sites) (a .scanned) _ (c .before .before .before .before .before .before .before .header-of .ensures))
-    ∙ report-fits _ (a .sites) (a .scanned) _ (a .room-for)
+    ∙ report-fits _ (a .sites) (a .scanned) _ (a .room-for))
 
 pub fill-spec : {M : Type 1} → statement M
 fill-spec =
