@@ -3,3 +3,4 @@ pub mod Lent
 pub mod SiteNumbers
 pub mod Malformed
 pub mod LineNumbers
+pub mod ProjectNumbers

@@ -6,6 +6,7 @@ use reference::rational::Rational;
 pub mod doubles;
 pub mod lines;
 pub mod program;
+pub mod projects;
 pub mod sites;
 
 extern "C" {

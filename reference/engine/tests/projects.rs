@@ -1,0 +1,79 @@
+//! The exported project reader against the reference: answers, reports, and
+//! what a call leaves as it was.
+
+use engine::projects::project_into;
+use reference::checker::report_faults;
+use reference::generate::{damaged_file, largest_project, project, Random};
+use reference::model::FIRST_EDITION;
+use reference::project::{parse_project, read_project, write_project};
+use reference::record::Refusal;
+
+const UNTOUCHED: u64 = 0xA5A5_A5A5;
+const FILES: usize = 1_000;
+
+/// Room that a file may be read with: just enough, one too few, none, more.
+fn rooms(file: &[u8]) -> [usize; 4] {
+    let needed = parse_project(file).map_or(8, |project| project.report_length());
+    [needed, needed - 1, 0, needed + 5]
+}
+
+/// Reads a file with some room and compares the answer and every number.
+fn assert_read(file: &[u8], room: usize) {
+    let mut report = vec![UNTOUCHED; room];
+    let answer = project_into(file, &mut report);
+    let written = match (answer, read_project(file, room)) {
+        (Ok(count), Ok(project)) => {
+            assert_eq!(count, project.report_length());
+            let faults = report_faults(&FIRST_EDITION, &project, &report[..count], &[1, 6]);
+            assert!(faults.is_empty(), "{} faults", faults.len());
+            count
+        }
+        (Err(refusal), Err(wanted)) => {
+            assert_eq!(refusal, wanted);
+            0
+        }
+        (answer, wanted) => panic!("{answer:?}, not {:?}", wanted.map(|_| ())),
+    };
+    assert!(report[written..].iter().all(|number| *number == UNTOUCHED));
+}
+
+#[test]
+fn valid_files() {
+    let mut random = Random::new(11);
+    for _ in 0..FILES {
+        let file = write_project(&project(&mut random)).expect("a valid project");
+        for room in rooms(&file) {
+            assert_read(&file, room);
+        }
+    }
+}
+
+#[test]
+fn damaged_files() {
+    let mut random = Random::new(12);
+    for _ in 0..FILES {
+        let file = damaged_file(&mut random);
+        for room in rooms(&file) {
+            assert_read(&file, room);
+        }
+    }
+}
+
+#[test]
+fn largest_file() {
+    let file = write_project(&largest_project(&mut Random::new(13))).expect("a valid project");
+    let room = rooms(&file)[0];
+    assert_read(&file, room);
+    assert_read(&file, room - 1);
+}
+
+#[test]
+fn empty_file() {
+    let mut report = [UNTOUCHED; 4];
+    let refusal = Refusal {
+        number: 1,
+        place: 0,
+    };
+    assert_eq!(project_into(&[], &mut report), Err(refusal));
+    assert_eq!(report, [UNTOUCHED; 4]);
+}
