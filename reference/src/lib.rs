@@ -10,6 +10,7 @@
 //! - the file: [`rules`], [`record`], [`project`], [`lines`]
 //! - the road model: [`model`], [`factors`], [`prediction`]
 //! - the report: [`report`], [`checker`]
+//! - the tables that FHWA-RD-99-207 prints: [`published`]
 //! - generated inputs and programs: [`generate`], [`program`]
 
 #![forbid(unsafe_code)]
@@ -25,6 +26,7 @@ pub mod natural;
 pub mod prediction;
 pub mod program;
 pub mod project;
+pub mod published;
 pub mod rational;
 pub mod record;
 pub mod report;
