@@ -1,0 +1,178 @@
+/* A site of document 01 and its exact factors as whole numbers: what the two interval libraries that the benchmark times
+ * beside the engine have in common. */
+#ifndef SITE_H
+#define SITE_H
+
+#include <stddef.h>
+#include <stdint.h>
+
+/* The 21 numbers of include/crash_unit.h. */
+struct site {
+    uint64_t kind, traffic, length, minor_traffic, observed, lane, shoulder, shoulder_type, curve_length, radius;
+    uint64_t spiral_ends, deficiency, grade, driveways, two_way_lane, passing, hazard_rating, skew, left, right, sight;
+};
+
+struct header {
+    uint64_t years, segment_calibration, crossing_calibration;
+};
+
+enum { SEGMENT = 0, ABSENT = 65536, HAZARD_RATINGS = 7 };
+
+/* Bits of precision of both libraries. */
+enum { PRECISION = 64 };
+
+/* A whole number as the product of parts of 64 bits. */
+struct product {
+    uint64_t part[12];
+    size_t count;
+};
+
+/* A fraction. */
+struct exact {
+    struct product over, under;
+};
+
+static inline void times_whole(struct product *product, uint64_t factor)
+{
+    uint64_t *last = &product->part[product->count - 1], both;
+    if (__builtin_mul_overflow(*last, factor, &both))
+        product->part[product->count++] = factor;
+    else
+        *last = both;
+}
+
+static inline void times(struct exact *exact, uint64_t over, uint64_t under)
+{
+    if (over == under)
+        return;
+    times_whole(&exact->over, over);
+    times_whole(&exact->under, under);
+}
+
+static inline struct exact calibrated(uint64_t years, uint64_t calibration)
+{
+    return (struct exact){{{years * calibration}, 1}, {{1000}, 1}};
+}
+
+/* A width's value below 400 vehicles, its rise for each vehicle from there and its value above 2,000. */
+struct width {
+    int64_t light, slope, heavy;
+};
+
+/* In millionths. */
+static const struct width LANE[4] = {
+    {1050000, 281, 1500000}, {1020000, 175, 1300000}, {1010000, 25, 1050000}, {1000000, 0, 1000000}};
+
+/* In hundred-millionths. */
+static const struct width SHOULDER[5] = {{110000000, 25000, 150000000},
+                                         {107000000, 14300, 130000000},
+                                         {102000000, 8125, 115000000},
+                                         {100000000, 0, 100000000},
+                                         {98000000, -6875, 87000000}};
+
+/* In hundredths. */
+static const uint64_t SHOULDER_TYPE[4][5] = {
+    {100, 100, 100, 100, 100}, {100, 101, 101, 102, 102}, {100, 102, 103, 104, 106}, {100, 103, 105, 108, 111}};
+
+/* In twentieths. */
+static const uint64_t PASSING[3] = {20, 15, 13};
+
+static inline uint64_t width_value(const struct width *width, uint64_t traffic)
+{
+    if (traffic < 400)
+        return (uint64_t)width->light;
+    if (traffic > 2000)
+        return (uint64_t)width->heavy;
+    return (uint64_t)(width->light + width->slope * (int64_t)(traffic - 400));
+}
+
+static inline void times_lane(struct exact *exact, const struct site *site)
+{
+    size_t row = site->lane < 9 ? 0 : site->lane > 12 ? 3 : site->lane - 9;
+    times(exact, 13000000 + 7 * width_value(&LANE[row], site->traffic), 20000000);
+}
+
+static inline void times_shoulder(struct exact *exact, const struct site *site)
+{
+    size_t column = (site->shoulder > 8 ? 8 : site->shoulder) / 2;
+    uint64_t value = width_value(&SHOULDER[column], site->traffic) * SHOULDER_TYPE[site->shoulder_type][column];
+    times(exact, 130000000000 + 7 * value, 200000000000);
+}
+
+static inline void times_curve(struct exact *exact, const struct site *site)
+{
+    if (site->curve_length == ABSENT)
+        return;
+    uint64_t base = 155 * site->curve_length * site->radius, spiral = 600 * site->spiral_ends * site->radius;
+    if (spiral < 8020000)
+        times(exact, base + 8020000 - spiral, base);
+    if (site->deficiency > 20)
+        times(exact, 1060 + 3 * (site->deficiency - 20), 1000);
+    else if (site->deficiency >= 10)
+        times(exact, 1000 + 6 * (site->deficiency - 10), 1000);
+}
+
+/* All of a segment's year that is a fraction. */
+static inline struct exact segment_exact(const struct header *header, const struct site *site)
+{
+    struct exact exact = calibrated(header->years, header->segment_calibration);
+    times(&exact, site->traffic * site->length, 1000);
+    times(&exact, 73, 200000);
+    times_lane(&exact, site);
+    times_shoulder(&exact, site);
+    times_curve(&exact, site);
+    for (uint64_t percent = 0; percent < site->grade; percent++)
+        times(&exact, 127, 125);
+    if (site->two_way_lane == 1 && site->driveways >= 5) {
+        uint64_t q = 47 * site->driveways + 24 * site->driveways * site->driveways;
+        times(&exact, 239800 + 13 * q, 20 * (11990 + q));
+    }
+    times(&exact, PASSING[site->passing], 20);
+    return exact;
+}
+
+/* The constant exponent, the powers of the two roads' traffic and the skew of a degree, in ten-thousandths; left-turn
+ * lanes in hundredths, right-turn lanes in thousandths. */
+struct crossing {
+    int64_t base;
+    uint64_t major, minor, skew, left[3], right[3];
+};
+
+static const struct crossing CROSSING[3] = {{-109000, 7900, 4900, 40, {100, 78, 78}, {1000, 950, 950}},
+                                            {-93400, 6000, 6100, 54, {100, 76, 58}, {1000, 950, 900}},
+                                            {-57300, 6000, 2000, 0, {100, 82, 67}, {1000, 975, 950}}};
+
+static inline const struct crossing *crossing_of(const struct site *site)
+{
+    return &CROSSING[site->kind - 1];
+}
+
+/* The part of a crossing's exponent that is a fraction, in ten-thousandths. */
+static inline int64_t crossing_exponent(const struct site *site)
+{
+    const struct crossing *crossing = crossing_of(site);
+    return crossing->skew == 0 ? crossing->base : crossing->base + (int64_t)(crossing->skew * site->skew);
+}
+
+/* All of a crossing's year that is a fraction. */
+static inline struct exact crossing_exact(const struct header *header, const struct site *site)
+{
+    const struct crossing *crossing = crossing_of(site);
+    struct exact exact = calibrated(header->years, header->crossing_calibration);
+    times(&exact, crossing->left[site->left], 100);
+    times(&exact, crossing->right[site->right], 1000);
+    if (site->sight != ABSENT)
+        times(&exact, 20 + site->sight, 20);
+    return exact;
+}
+
+/* The exponent of a segment's constant and hazard rating, in ten-thousandths. */
+static inline int64_t hazard_exponent(int64_t rating)
+{
+    return -4865 + 668 * (rating - 3);
+}
+
+/* Document 01's k of a kind, in hundredths. */
+static const uint64_t K[4] = {31, 54, 24, 11};
+
+#endif

@@ -1,0 +1,369 @@
+//! Times of the engine's brackets, of its line of a site and of whole projects,
+//! with the stored numbers lent, beside plain doubles and, where they are
+//! installed, two interval libraries, in one run. For brackets and lines the
+//! engine's programs `bracket_rounds` and `line_rounds` are run with few and with
+//! many rounds, and the difference is divided by what was made.
+
+mod intervals;
+
+use engine::{doubles, lines, projects};
+use intervals::{numbers_of_sites, Library, LIBRARIES};
+use reference::generate::{self, Random};
+use reference::project::{write_project, Header, Project};
+use reference::record::{write_site, Site};
+use reference::rules::{EDITION, KIND_NAMES};
+use std::hint::black_box;
+use std::io::Write;
+use std::iter;
+use std::process::{Command, Stdio};
+use std::time::{Duration, Instant};
+
+const BRACKET_ROUNDS: &str = concat!(
+    env!("CARGO_MANIFEST_DIR"),
+    "/../../target/bin/bracket_rounds"
+);
+const LINE_ROUNDS: &str = concat!(env!("CARGO_MANIFEST_DIR"), "/../../target/bin/line_rounds");
+
+/// Each figure is the least of so many measurements, of a program's run or of
+/// work in this one.
+const TRIES: usize = 5;
+const TRIES_HERE: usize = 25;
+
+/// A kind of bracket: the byte that asks for a round, the brackets in a round
+/// and the rounds by which two runs differ.
+struct Kind {
+    name: &'static str,
+    byte: u8,
+    brackets: u32,
+    rounds: usize,
+    double: fn() -> f64,
+}
+
+const KINDS: [Kind; 3] = [
+    Kind {
+        name: "power",
+        byte: b'p',
+        brackets: 100_000,
+        rounds: 20,
+        double: powers_in_doubles,
+    },
+    Kind {
+        name: "logarithm",
+        byte: b'l',
+        brackets: 20_000,
+        rounds: 200,
+        double: logarithms_in_doubles,
+    },
+    Kind {
+        name: "exponential",
+        byte: b'e',
+        brackets: 140_001,
+        rounds: 20,
+        double: exponentials_in_doubles,
+    },
+];
+
+fn powers_in_doubles() -> f64 {
+    let exponents = [0.79, 0.49, 0.60, 0.61, 0.20];
+    let bases = || (1..=20_000).map(f64::from);
+    exponents
+        .iter()
+        .map(|exponent| {
+            bases()
+                .map(|base| black_box(base).powf(*exponent))
+                .sum::<f64>()
+        })
+        .sum()
+}
+
+fn logarithms_in_doubles() -> f64 {
+    (1..=20_000).map(|a| black_box(f64::from(a)).ln()).sum()
+}
+
+fn exponentials_in_doubles() -> f64 {
+    (0..=140_000)
+        .map(|x| black_box(f64::from(x) / 10_000.0).exp())
+        .sum()
+}
+
+/// How long a program takes for an input, and what it prints.
+fn run(program: &str, input: &[u8]) -> (Duration, String) {
+    let start = Instant::now();
+    let mut child = Command::new(program)
+        .stdin(Stdio::piped())
+        .stdout(Stdio::piped())
+        .spawn()
+        .expect("the program of rounds runs; `rt check` makes it");
+    let mut stdin = child.stdin.take().expect("a piped input");
+    stdin.write_all(input).expect("rounds are asked for");
+    drop(stdin);
+    let output = child.wait_with_output().expect("it ends");
+    let time = start.elapsed();
+    assert!(output.status.success());
+    (time, String::from_utf8_lossy(&output.stdout).into_owned())
+}
+
+fn least(tries: usize, measure: impl FnMut() -> Duration) -> Duration {
+    let times = iter::repeat_with(measure).take(tries);
+    times.min().expect("some tries")
+}
+
+/// The least time of work in this program, for each of so many things.
+fn time_here(count: f64, mut work: impl FnMut()) -> f64 {
+    let time = least(TRIES_HERE, || {
+        let start = Instant::now();
+        work();
+        start.elapsed()
+    });
+    nanoseconds(time, count)
+}
+
+fn nanoseconds(time: Duration, count: f64) -> f64 {
+    time.as_secs_f64() * 1e9 / count
+}
+
+fn engine_time(kind: &Kind) -> f64 {
+    let timed = |rounds| least(TRIES, || run(BRACKET_ROUNDS, &vec![kind.byte; rounds]).0);
+    let (few, many) = (timed(1), timed(1 + kind.rounds));
+    let brackets = f64::from(kind.brackets) * kind.rounds as f64;
+    nanoseconds(many.saturating_sub(few), brackets)
+}
+
+fn double_time(kind: &Kind) -> f64 {
+    time_here(f64::from(kind.brackets), || {
+        black_box((kind.double)());
+    })
+}
+
+/// The header of the program's rounds.
+const HEADER: Header = Header {
+    edition: EDITION,
+    years: 5,
+    segment_calibration: 1_100,
+    crossing_calibration: 900,
+};
+
+/// Sites of all kinds, and the rounds over them by which two runs differ.
+const SITES: usize = 1_900;
+const ROUNDS: u16 = 300;
+
+/// The input of `line_rounds`: rounds that make lines, rounds that only read,
+/// and the records.
+fn rounds_of(making: u16, reading: u16, sites: &[Site]) -> Vec<u8> {
+    let mut input = [making.to_be_bytes(), reading.to_be_bytes()].concat();
+    for site in sites {
+        input.extend(write_site(site, usize::MAX).expect("a site that the writer takes"));
+    }
+    input
+}
+
+/// One making round's sum by the exported call, which the program must print.
+fn sum_of_lines(sites: &[Site]) -> u64 {
+    let lines = sites.iter().map(|site| lines::line(&HEADER, site));
+    let numbers = lines.flat_map(|line| line.expect("a line"));
+    numbers.fold(0, |sum, number| (sum + number) % (1 << 32))
+}
+
+/// The doubles are those of the engine's lines.
+fn assert_same_figures(sites: &[Site]) {
+    for site in sites {
+        let line = lines::line(&HEADER, site).expect("a line");
+        let doubles = doubles::line(&HEADER, site).map(|crashes| crashes * 1e6);
+        for (pair, double) in line.chunks(2).zip(doubles) {
+            let slack = 1.0 + double * 1e-9;
+            let (low, high) = (pair[0] as f64, pair[1] as f64);
+            let near = low - slack <= double && double <= high + slack;
+            assert!(near, "{double} and {pair:?}: {site:?}");
+        }
+    }
+}
+
+/// Nanoseconds for a site: reading its record, and making its line. The three
+/// runs take turns, so that a slow spell of the machine meets all of them.
+fn line_times(sites: &[Site]) -> (f64, f64) {
+    let rounds = [(1, 1), (1, 1 + ROUNDS), (1 + ROUNDS, 1)];
+    let inputs = rounds.map(|(making, reading)| rounds_of(making, reading, sites));
+    let mut times = [Duration::MAX; 3];
+    for _ in 0..TRIES {
+        for (time, input) in times.iter_mut().zip(&inputs) {
+            *time = run(LINE_ROUNDS, input).0.min(*time);
+        }
+    }
+    let [none, read, made] = times;
+    let count = sites.len() as f64 * f64::from(ROUNDS);
+    let reading = nanoseconds(read.saturating_sub(none), count);
+    let both = nanoseconds(made.saturating_sub(none), count);
+    (reading, both - reading)
+}
+
+fn in_doubles(header: &Header, sites: &[Site]) {
+    for site in sites {
+        black_box(doubles::line(header, black_box(site)));
+    }
+}
+
+/// A library's intervals are narrow and meet the brackets of the engine's lines.
+fn assert_meets(library: &Library, sites: &[Site]) {
+    let mut ends = vec![[0.0; 4]; sites.len()];
+    library.ends_into(&HEADER, &numbers_of_sites(sites), &mut ends);
+    for (site, ends) in sites.iter().zip(ends) {
+        let line = lines::line(&HEADER, site).expect("a line");
+        for (pair, interval) in line.chunks(2).zip(ends.chunks(2)) {
+            let (low, high) = (pair[0] as f64, pair[1] as f64);
+            let narrow = interval[0] <= interval[1] && interval[1] - interval[0] <= high * 1e-9;
+            let meets = interval[0] <= high && low <= interval[1];
+            let name = library.name;
+            assert!(
+                narrow && meets,
+                "{name}: {interval:?} and {pair:?}: {site:?}"
+            );
+        }
+    }
+}
+
+/// Nanoseconds for a site by a library, where it is installed: its intervals,
+/// and these with their ends read out.
+fn library_times(library: &Library, sites: &[Site]) -> Option<[f64; 2]> {
+    if !library.is_installed() {
+        return None;
+    }
+    assert_meets(library, sites);
+    let count = sites.len() as f64;
+    let numbers = numbers_of_sites(sites);
+    let mut ends = vec![[0.0; 4]; sites.len()];
+    let made = time_here(count, || library.make(&HEADER, black_box(&numbers)));
+    let read = time_here(count, || {
+        library.ends_into(&HEADER, black_box(&numbers), black_box(&mut ends));
+    });
+    Some([made, read])
+}
+
+/// Nanoseconds for a site of one group.
+struct Times {
+    making: f64,
+    reading: f64,
+    doubles: f64,
+    libraries: [Option<[f64; 2]>; LIBRARIES.len()],
+}
+
+fn times_of(sites: &[Site]) -> Times {
+    assert_same_figures(sites);
+    let (_, printed) = run(LINE_ROUNDS, &rounds_of(1, 0, sites));
+    assert_eq!(printed.trim(), sum_of_lines(sites).to_string());
+    let (reading, making) = line_times(sites);
+    Times {
+        making,
+        reading,
+        doubles: time_here(sites.len() as f64, || in_doubles(&HEADER, sites)),
+        libraries: LIBRARIES
+            .each_ref()
+            .map(|library| library_times(library, sites)),
+    }
+}
+
+fn print_row(name: &str, cells: impl Iterator<Item = String>) {
+    println!("| {name} | {} |", cells.collect::<Vec<_>>().join(" | "));
+}
+
+/// One column for all kinds and one for each kind, one row for each way.
+fn print_lines(mixed: &[Site]) {
+    let of_kind = |kind: usize| {
+        let is_of_kind = |site: &&Site| usize::from(site.kind) == kind;
+        times_of(&mixed.iter().filter(is_of_kind).copied().collect::<Vec<_>>())
+    };
+    let mut groups = vec![times_of(mixed)];
+    groups.extend((0..KIND_NAMES.len()).map(of_kind));
+    let cells = |time: fn(&Times) -> f64| {
+        let each = groups.iter().map(time);
+        each.map(|time| format!("{time:.0}"))
+    };
+    println!("| A site, ns | all kinds | {} |", KIND_NAMES.join(" | "));
+    println!("|---|---|---|---|---|---|");
+    print_row("Engine, four numbers", cells(|times| times.making));
+    print_row("Engine, reading its record", cells(|times| times.reading));
+    print_row("Two doubles", cells(|times| times.doubles));
+    for (at, library) in LIBRARIES.iter().enumerate() {
+        let Library { name, package, .. } = library;
+        if !library.is_installed() {
+            println!("| {name} | {package} is not installed | | | | |");
+            continue;
+        }
+        let cells = |which: usize| {
+            let each = groups.iter().filter_map(move |times| times.libraries[at]);
+            each.map(move |times| format!("{:.0}", times[which]))
+        };
+        print_row(name, cells(0));
+        print_row(&format!("{name}, ends read out"), cells(1));
+    }
+}
+
+/// Sites of a project in each row; the rows have the same sites.
+const SIZES: [usize; 4] = [10, 100, 1_000, 1_900];
+const SITES_OF_PROJECTS: usize = 19_000;
+
+/// The report of a project's file is the lines of its sites and their sums.
+fn assert_report(project: &Project, report: &[u64]) {
+    let each = project.sites.iter().map(|site| lines::line(&HEADER, site));
+    let lines: Vec<[u64; 4]> = each.map(|line| line.expect("a line")).collect();
+    let total = |at: usize| lines.iter().map(|line| line[at]).sum();
+    let totals: [u64; 4] = [total(0), total(1), total(2), total(3)];
+    let expected: Vec<u64> = lines.iter().copied().chain([totals]).flatten().collect();
+    assert_eq!(report, expected);
+}
+
+fn report_into(file: &[u8], report: &mut [u64]) -> usize {
+    projects::project_into(file, report).expect("a project that the reader takes")
+}
+
+fn print_projects(sites: &[Site], size: usize) {
+    let of_sites = |sites: &[Site]| Project {
+        header: HEADER,
+        sites: sites.to_vec(),
+    };
+    let projects: Vec<Project> = sites.chunks_exact(size).map(of_sites).collect();
+    assert_eq!(projects.len() * size, sites.len());
+    let file = |project| write_project(project).expect("a project that the writer takes");
+    let files: Vec<Vec<u8>> = projects.iter().map(file).collect();
+    let mut report = vec![0; 4 * (size + 1)];
+    for (project, file) in projects.iter().zip(&files) {
+        assert_eq!(report_into(file, &mut report), report.len());
+        assert_report(project, &report);
+    }
+    let count = sites.len() as f64;
+    let engine = time_here(count, || {
+        for file in &files {
+            black_box(report_into(black_box(file), &mut report));
+        }
+    });
+    let doubles = time_here(count, || {
+        for project in &projects {
+            in_doubles(&project.header, &project.sites);
+        }
+    });
+    let microseconds = engine * size as f64 / 1e3;
+    println!("| {size} | {microseconds:.1} | {engine:.0} | {doubles:.0} |");
+}
+
+fn random_sites(random: &mut Random, count: usize) -> Vec<Site> {
+    (0..count).map(|_| generate::site(random)).collect()
+}
+
+fn main() {
+    println!("| Bracket | Engine, low and high, ns | One double, ns |");
+    println!("|---|---|---|");
+    for kind in &KINDS {
+        let (engine, double) = (engine_time(kind), double_time(kind));
+        println!("| {} | {engine:.0} | {double:.0} |", kind.name);
+    }
+    println!();
+    let mut random = Random::new(41);
+    print_lines(&random_sites(&mut random, SITES));
+    println!();
+    println!("| Sites | Engine, a project, µs | Engine, a site, ns | Doubles, a site, ns |");
+    println!("|---|---|---|---|");
+    let sites = random_sites(&mut random, SITES_OF_PROJECTS);
+    assert_same_figures(&sites);
+    for size in SIZES {
+        print_projects(&sites, size);
+    }
+}
