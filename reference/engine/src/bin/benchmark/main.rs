@@ -26,8 +26,8 @@ const LINE_ROUNDS: &str = concat!(env!("CARGO_MANIFEST_DIR"), "/../../target/bin
 
 /// Each figure is the least of so many measurements, of a program's run or of
 /// work in this one.
-const TRIES: usize = 5;
-const TRIES_HERE: usize = 25;
+const TRIES: usize = 8;
+const TRIES_HERE: usize = 60;
 
 /// A kind of bracket: the byte that asks for a round, the brackets in a round
 /// and the rounds by which two runs differ.
