@@ -14,6 +14,7 @@ use Rattle.site.specs.Record.{word, restOf, stands, words, lacks, misses, value
 use Rattle.project.specs.declared.ScanAnswer.{ScanAnswer}
 use Rattle.project.specs.declared.ScanAnswer.the-variants.{Accepted, Refused}
 use Rattle.project.specs.File.{countIn, scanFile}
+use Rattle.project.specs.RecordCauses.{cause-number}
 use Rattle.project.specs.Causes.{Starts, RecordNumber, RunsPast, header-past, record-past, reportLength, NoCause, HeaderCause, header-cut, header-edition, header-limits, FirstInBytes, in-header, in-record, in-rest, Whole, FirstCause, in-bytes, in-report}
 use Rattle.project.specs.Scan.{same-place, earlier, refused-exactly, accepted-exactly}
 
@@ -82,7 +83,7 @@ module _ (s : List ℕ) (room : ℕ) where
   bytes-none : NoCause s room → {number p : ℕ} → FirstInBytes s number p → ⊥
   bytes-none none (in-header c) = header-none none c
   bytes-none none (in-record {number} {p} fine ne r) =
-      row-of-none none (subst RecordRow (r .number-is) (refusal-row (drop p s))) p ne r
+      row-of-none none (subst RecordRow (cause-number (drop p s) (r .cause)) (refusal-row (drop p s))) p ne r
   bytes-none none (in-rest {p} fine r) = none .none-after p r
 
   pub first-is-cause : NoCause s room → {number p : ℕ} → FirstCause s room number p → ⊥
@@ -93,10 +94,10 @@ module _ (s : List ℕ) (room : ℕ) where
   module _ (w : Whole s (countIn s)) where
     past-free : {p : ℕ} → RunsPast s p → ⊥
     past-free (header-past h) = let l = w .fine .long in omega arith
-    past-free (record-past {p} r) = let z = earlier s (w .ends) (r .starts) (r .counted) in let q = r .number-is in omega arith
+    past-free (record-past {p} r) = let z = earlier s (w .ends) (r .starts) (r .counted) in let q = cause-number (drop p s) (r .cause) in omega arith
 
     record-free : (number p : ℕ) → (number ≡ 0 → ⊥) → RecordNumber s number p → ⊥
-    record-free number p ne r = ne (sym (r .number-is) ∙ earlier s (w .ends) (r .starts) (r .counted))
+    record-free number p ne r = ne (sym (cause-number (drop p s) (r .cause)) ∙ earlier s (w .ends) (r .starts) (r .counted))
 
     whole-none : reportLength (countIn s) ≤ room → NoCause s room
     whole-none h =

@@ -6,22 +6,23 @@ use Prim.Native.Nat.{ℕ, zero, suc, _+_, _*_, _<_, _≤_}
 use lib.ListN.{length, drop}
 use Rattle.site.specs.declared.values.Site.{Site}
 use Rattle.site.specs.declared.values.SiteAnswer.the-variants as site
-use Rattle.site.specs.Record.{refusalOf, readSite}
+use Rattle.site.specs.Record.{readSite}
 use Rattle.model.specs.Predicted.{inLimits}
 use Rattle.project.specs.File.{headerLength, editionIn, headerIn, countIn, mostSites}
 use Rattle.project.specs.Headed.{HeaderFine}
+use Rattle.project.specs.RecordCauses.{RecordCause}
 
 -- the record with an index starts at a place: the first after the header, each other after a record that can be read
 pub data Starts (s : List ℕ) : ℕ → ℕ → Type 0 where
   first : Starts s zero headerLength
   next : {i p n : ℕ} {value : Site} → Starts s i p → readSite (drop p s) ≡ site.Read value n → Starts s (suc i) (p + n)
 
--- a record that the header counts starts at a place, and the site reader has a number for it
+-- a record that the header counts starts at a place, and the number's cause is the first in the bytes from there
 pub record RecordNumber (s : List ℕ) (number p : ℕ) : Type 0 where
   pub index : ℕ
   pub counted : index < countIn s
   pub starts : Starts s index p
-  pub number-is : refusalOf (drop p s) ≡ number
+  pub cause : RecordCause (drop p s) number
 
 -- "header, kind, map or field runs past the end": 1, at 0 for the header
 pub data RunsPast (s : List ℕ) : ℕ → Type 0 where

@@ -20,6 +20,7 @@ use Rattle.project.specs.declared.ScanAnswer.{ScanAnswer}
 use Rattle.project.specs.declared.ScanAnswer.the-variants.{Accepted, Refused}
 use Rattle.project.specs.File.{headerLength, editionIn, headerIn, countIn, mostSites, headerNumber, onward, scanRecords, scanFile}
 use Rattle.project.specs.Headed.{HeaderFine, header-fine, fine-header}
+use Rattle.project.specs.RecordCauses.{cause-number, record-cause-exactly}
 use Rattle.project.specs.Causes.{Starts, first, next, RecordNumber, BytesAfter, HeaderCause, header-cut, header-edition, header-limits, FirstInBytes, in-header, in-record, in-rest, Whole}
 
 -- a part that the site reader refuses has that number, which is not 0
@@ -116,7 +117,7 @@ module _ (s : List ℕ) (long : headerLength ≤ length s) where
       → Scanned s (onward p answer (λ next. scanRecords (countIn s) left next s))
   scanned-step left i p st h later (site.Refused number) e =
       let r = refused-part (drop p s) number e in
-      at-record (r .not-zero) (record { index = i; counted = h; starts = st; number-is = r .number-is })
+      at-record (r .not-zero) (record { index = i; counted = h; starts = st; cause = record-cause-exactly _ _ .0 (r .number-is) })
   scanned-step left i p st h later (site.Read value n) e = later n (next st e)
 
   scanned-from : (left i p : ℕ) → Starts s i p → i + left ≡ countIn s → Scanned s (scanRecords (countIn s) left p s)
@@ -213,7 +214,7 @@ module _ (s : List ℕ) where
   first-refused (in-record {number} {p} fine ne r) =
       let m : r .index + suc (countIn s - suc (r .index)) ≡ countIn s = let h = r .counted in omega arith in
       scan-fine s (fine-header s fine) ∙ reach s (countIn s) (r .index) p (suc (countIn s - suc (r .index))) (r .starts) m
-      ∙ step-refused s (countIn s) (countIn s - suc (r .index)) p number (part-refused (drop p s) number (record { number-is = r .number-is; not-zero = ne }))
+      ∙ step-refused s (countIn s) (countIn s - suc (r .index)) p number (part-refused (drop p s) number (record { number-is = cause-number (drop p s) (r .cause); not-zero = ne }))
   first-refused (in-rest {p} fine r) =
       scan-fine s (fine-header s fine) ∙ reach s (countIn s) (countIn s) p 0 (r .starts) (omega arith) ∙ step-after s (countIn s) p (r .more)
 
