@@ -18,15 +18,12 @@ use Rattle.model.specs.Parts.{Term}
 use Rattle.prediction.specs.Pieces.{segmentPieces}
 use Rattle.prediction.specs.Pair.{unit}
 use Rattle.prediction.specs.Bounds.{exp-neg-below}
+use Rattle.prediction.specs.Numbers.{by-kind}
 use Rattle.prediction.specs.Kept.{Rated, segmentMost, carriedMost}
 
 base-limits : (kind : ℕ) → kind ≤ 3 → editionOne .base-exponent kind ≤ exponentialLimit
 unfolding editionOne
-base-limits zero h = lit≤ tt
-base-limits (suc zero) h = lit≤ tt
-base-limits (suc (suc zero)) h = lit≤ tt
-base-limits (suc (suc (suc zero))) h = lit≤ tt
-base-limits (suc (suc (suc (suc kind)))) h = absurd (omega arith)
+base-limits kind h = by-kind (λ kind. editionOne .base-exponent kind ≤ exponentialLimit) (lit≤ tt) (lit≤ tt) (lit≤ tt) (lit≤ tt) kind h
 
 -- e^(-0.4865) is below 0.615
 base-below : expNegBracket (editionOne .base-exponent 0) .«high_num» * (615 // 1000) .den ≤ (615 // 1000) .num * expNegBracket (editionOne .base-exponent 0) .«high_den»

@@ -35,7 +35,7 @@ use Rattle.model.specs.Parts.{Part, Term, power, exponential, exponentialNegati
 use Rattle.prediction.specs.Pieces.{piece, hazardBracket, relatedMost, curvePieces, segmentPieces, majorMost, minorMost, crossingPieces}
 use Rattle.prediction.specs.Pair.{unit}
 use Rattle.prediction.specs.Bounds.{exp-below, exp-neg-below-one, power-below}
-use Rattle.prediction.specs.Numbers.{CurveNumbers, SegmentNumbers, CrossingNumbers}
+use Rattle.prediction.specs.Numbers.{by-kind, by-crossing, CurveNumbers, SegmentNumbers, CrossingNumbers}
 
 -- widths are counted in millionths
 abbrev pub parts : ℕ
@@ -94,27 +94,25 @@ hundredths p h = record { at-most-one = h; positive = lit< tt; few = omega arith
 
 major-kept : (kind A : ℕ) → 1 ≤ kind → kind ≤ 3 → 1 ≤ A → A ≤ 20000
     → Kept parts (piece (power A (majorExponent kind)) (powerBracket A (majorExponent kind) 100) 1 (whole (majorMost kind)))
-major-kept zero A l m from to = absurd (omega arith)
-major-kept (suc zero) A l m from to = power-kept A 79 2500 from to (hundredths 79 (lit≤ tt)) (lit≤ tt) (lit≤ tt)
-major-kept (suc (suc zero)) A l m from to = power-kept A 60 381 from to (hundredths 60 (lit≤ tt)) (lit≤ tt) (lit≤ tt)
-major-kept (suc (suc (suc zero))) A l m from to = power-kept A 60 381 from to (hundredths 60 (lit≤ tt)) (lit≤ tt) (lit≤ tt)
-major-kept (suc (suc (suc (suc kind)))) A l m from to = absurd (omega arith)
+major-kept kind A l m from to =
+    by-crossing (λ kind. Kept parts (piece (power A (majorExponent kind)) (powerBracket A (majorExponent kind) 100) 1 (whole (majorMost kind))))
+    (power-kept A 79 2500 from to (hundredths 79 (lit≤ tt)) (lit≤ tt) (lit≤ tt))
+    (power-kept A 60 381 from to (hundredths 60 (lit≤ tt)) (lit≤ tt) (lit≤ tt))
+    (power-kept A 60 381 from to (hundredths 60 (lit≤ tt)) (lit≤ tt) (lit≤ tt))
+    kind l m
 
 minor-kept : (kind B : ℕ) → 1 ≤ kind → kind ≤ 3 → 1 ≤ B → B ≤ 20000
     → Kept parts (piece (power B (minorExponent kind)) (powerBracket B (minorExponent kind) 100) 1 (whole (minorMost kind)))
-minor-kept zero B l m from to = absurd (omega arith)
-minor-kept (suc zero) B l m from to = power-kept B 49 129 from to (hundredths 49 (lit≤ tt)) (lit≤ tt) (lit≤ tt)
-minor-kept (suc (suc zero)) B l m from to = power-kept B 61 421 from to (hundredths 61 (lit≤ tt)) (lit≤ tt) (lit≤ tt)
-minor-kept (suc (suc (suc zero))) B l m from to = power-kept B 20 8 from to (hundredths 20 (lit≤ tt)) (lit≤ tt) (lit≤ tt)
-minor-kept (suc (suc (suc (suc kind)))) B l m from to = absurd (omega arith)
+minor-kept kind B l m from to =
+    by-crossing (λ kind. Kept parts (piece (power B (minorExponent kind)) (powerBracket B (minorExponent kind) 100) 1 (whole (minorMost kind))))
+    (power-kept B 49 129 from to (hundredths 49 (lit≤ tt)) (lit≤ tt) (lit≤ tt))
+    (power-kept B 61 421 from to (hundredths 61 (lit≤ tt)) (lit≤ tt) (lit≤ tt))
+    (power-kept B 20 8 from to (hundredths 20 (lit≤ tt)) (lit≤ tt) (lit≤ tt))
+    kind l m
 
 -- e^0.324 is below 1.383
 pub skew-most : (kind degrees : ℕ) → kind ≤ 3 → degrees ≤ 60 → skewExponent kind * degrees ≤ 3240
-skew-most zero degrees l h = omega arith
-skew-most (suc zero) degrees l h = omega arith
-skew-most (suc (suc zero)) degrees l h = omega arith
-skew-most (suc (suc (suc zero))) degrees l h = omega arith
-skew-most (suc (suc (suc (suc kind)))) degrees l h = absurd (omega arith)
+skew-most kind degrees l h = by-kind (λ kind. skewExponent kind * degrees ≤ 3240) (omega arith) (omega arith) (omega arith) (omega arith) kind l
 
 skew-kept : (kind degrees : ℕ) → kind ≤ 3 → degrees ≤ 60
     → Kept parts (piece (exponential (skewExponent kind * degrees)) (expBracket (skewExponent kind * degrees)) 1 (1384 // 1000))
@@ -216,24 +214,12 @@ crossingBounds kind = whole (majorMost kind) ∷ whole (minorMost kind) ∷ whol
 
 pub crossing-room : (kind : ℕ) → 1 ≤ kind → kind ≤ 3 → T (hasRoom crossingMost (crossingBounds kind))
 unfolding whole _//_ fraction
-crossing-room zero l m = absurd (omega arith)
-crossing-room (suc zero) l m = tt
-crossing-room (suc (suc zero)) l m = tt
-crossing-room (suc (suc (suc zero))) l m = tt
-crossing-room (suc (suc (suc (suc kind)))) l m = absurd (omega arith)
+crossing-room kind l m = by-crossing (λ kind. T (hasRoom crossingMost (crossingBounds kind))) tt tt tt kind l m
 
 pub crossing-small : (kind : ℕ) → 1 ≤ kind → kind ≤ 3 → grown crossingMost (crossingBounds kind) ≤ carriedMost
 unfolding whole _//_ fraction
-crossing-small zero l m = absurd (omega arith)
-crossing-small (suc zero) l m = lit≤ tt
-crossing-small (suc (suc zero)) l m = lit≤ tt
-crossing-small (suc (suc (suc zero))) l m = lit≤ tt
-crossing-small (suc (suc (suc (suc kind)))) l m = absurd (omega arith)
+crossing-small kind l m = by-crossing (λ kind. grown crossingMost (crossingBounds kind) ≤ carriedMost) (lit≤ tt) (lit≤ tt) (lit≤ tt) kind l m
 
 pub crossing-steps : (kind : ℕ) → 1 ≤ kind → kind ≤ 3 → absoluteMost 0 (crossingBounds kind) ≤ 2 * unit
 unfolding whole _//_ fraction
-crossing-steps zero l m = absurd (omega arith)
-crossing-steps (suc zero) l m = lit≤ tt
-crossing-steps (suc (suc zero)) l m = lit≤ tt
-crossing-steps (suc (suc (suc zero))) l m = lit≤ tt
-crossing-steps (suc (suc (suc (suc kind)))) l m = absurd (omega arith)
+crossing-steps kind l m = by-crossing (λ kind. absoluteMost 0 (crossingBounds kind) ≤ 2 * unit) (lit≤ tt) (lit≤ tt) (lit≤ tt) kind l m

@@ -122,6 +122,18 @@ segment-numbers site v e = let r = segment-ranges site v e in record {
   bend = bend-of site (r .road);
 }
 
+-- a kind is one of four, and a crossing's one of three
+pub by-kind : (P : ℕ → Type 0) → P 0 → P 1 → P 2 → P 3 → (kind : ℕ) → kind ≤ 3 → P kind
+by-kind P segment threeLegStop fourLegStop signal zero m = segment
+by-kind P segment threeLegStop fourLegStop signal (suc zero) m = threeLegStop
+by-kind P segment threeLegStop fourLegStop signal (suc (suc zero)) m = fourLegStop
+by-kind P segment threeLegStop fourLegStop signal (suc (suc (suc zero))) m = signal
+by-kind P segment threeLegStop fourLegStop signal (suc (suc (suc (suc kind)))) m = absurd (omega arith)
+
+pub by-crossing : (P : ℕ → Type 0) → P 1 → P 2 → P 3 → (kind : ℕ) → 1 ≤ kind → kind ≤ 3 → P kind
+by-crossing P threeLegStop fourLegStop signal kind l m =
+    by-kind (λ k. 1 ≤ k → P k) (λ h. absurd (omega arith)) (λ h. threeLegStop) (λ h. fourLegStop) (λ h. signal) kind m l
+
 -- the kinds of crossing differ in four rules
 by-rules : (site : Site) (angle left right sight : Rule) → 1 ≤ site .kind → site .kind ≤ 3 → ruleMost angle ≤ 60 → ruleMost left ≤ 2 → ruleMost right ≤ 2
     → ruleMost sight ≤ 4 → CrossingRanges angle left right sight site → CrossingNumbers site
@@ -140,11 +152,9 @@ by-rules site angle left right sight from to a l r s c = record {
 }
 
 pub crossing-numbers : (site : Site) → Valid site → 1 ≤ site .kind → CrossingNumbers site
-crossing-numbers site v from = by (site .kind) refl from (valid-kind site v)
-  where
-    by : (kind : ℕ) → site .kind ≡ kind → 1 ≤ kind → kind ≤ 3 → CrossingNumbers site
-    by zero e l m = absurd (omega arith)
-    by (suc zero) e l m = by-rules site _ _ _ _ (omega arith) (omega arith) (lit≤ tt) (lit≤ tt) (lit≤ tt) (lit≤ tt) (three-leg-ranges site v e)
-    by (suc (suc zero)) e l m = by-rules site _ _ _ _ (omega arith) (omega arith) (lit≤ tt) (lit≤ tt) (lit≤ tt) (lit≤ tt) (four-leg-ranges site v e)
-    by (suc (suc (suc zero))) e l m = by-rules site _ _ _ _ (omega arith) (omega arith) (lit≤ tt) (lit≤ tt) (lit≤ tt) (lit≤ tt) (signal-ranges site v e)
-    by (suc (suc (suc (suc kind)))) e l m = absurd (omega arith)
+crossing-numbers site v from =
+    by-crossing (λ kind. site .kind ≡ kind → CrossingNumbers site)
+    (λ e. by-rules site _ _ _ _ from (valid-kind site v) (lit≤ tt) (lit≤ tt) (lit≤ tt) (lit≤ tt) (three-leg-ranges site v e))
+    (λ e. by-rules site _ _ _ _ from (valid-kind site v) (lit≤ tt) (lit≤ tt) (lit≤ tt) (lit≤ tt) (four-leg-ranges site v e))
+    (λ e. by-rules site _ _ _ _ from (valid-kind site v) (lit≤ tt) (lit≤ tt) (lit≤ tt) (lit≤ tt) (signal-ranges site v e))
+    (site .kind) from (valid-kind site v) refl
