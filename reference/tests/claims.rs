@@ -1,5 +1,5 @@
-//! What `docs/CLAIMS.md` and `docs/AFTERNOON.md` cite is there: each file, and
-//! in it a definition of each name.
+//! What `docs/CLAIMS.md`, `docs/AFTERNOON.md` and `docs/REVIEW.md` cite is
+//! there: each file, and in it a definition of each name.
 
 use std::collections::HashSet;
 use std::fs;
@@ -269,4 +269,46 @@ fn the_afternoons_edits_are_there() {
         }
     }
     assert!(tried >= 30, "{tried} edits");
+}
+
+/// Whether a crate has a function: two have definitions and laws alone.
+fn has_code(name: &str) -> bool {
+    crate_files("src", "rt")
+        .iter()
+        .filter(|(found, _, _)| found == name)
+        .any(|(_, _, file)| {
+            let text = fs::read_to_string(file).expect("a source file");
+            text.lines().any(|line| line.contains("fn "))
+        })
+}
+
+/// The review cites an edit as `crate/name`: each is there, and none of a crate
+/// that has code is left out.
+#[test]
+fn the_review_has_every_edit_of_code() {
+    let page = text_of("docs/REVIEW.md").expect("docs/REVIEW.md");
+    let names: HashSet<_> = fs::read_dir(root().join("crates"))
+        .expect("the crates")
+        .map(|entry| entry.expect("a crate").file_name().into_string().unwrap())
+        .collect();
+    let edits: HashSet<_> = crate_files("must-fail", "edit")
+        .into_iter()
+        .map(|(name, stem, _)| format!("{name}/{stem}"))
+        .collect();
+    let cited: HashSet<_> = quoted(&page)
+        .into_iter()
+        .map(|(_, text)| text.to_owned())
+        .filter(|text| {
+            text.split_once('/')
+                .is_some_and(|(name, _)| names.contains(name))
+        })
+        .collect();
+    let wrong: Vec<_> = cited.difference(&edits).collect();
+    assert!(wrong.is_empty(), "cited, and not there: {wrong:#?}");
+    let left: Vec<_> = edits
+        .difference(&cited)
+        .filter(|edit| has_code(edit.split('/').next().unwrap()))
+        .collect();
+    assert!(left.is_empty(), "not cited: {left:#?}");
+    assert!(cited.len() >= 60, "{} edits", cited.len());
 }
