@@ -27,6 +27,10 @@ scaledDown a n d = answered d (floor a n d)
 abbrev pub scaledUp : (a n d : ℕ) → Scaled
 scaledUp a n d = answered d (ceiling a n d)
 
+-- r is the quotient that an answer is of, wherever it fits
+abbrev pub ValueOf : (answer : Scaled) (r : ℕ) → Type 0
+ValueOf answer r = (d q : ℕ) → answer ≡ answered d q → 0 < d → q < 2 ^ 64 → r ≡ q
+
 -- a quotient that fits is answered
 pub answered-value : (d q : ℕ) → 0 < d → q < 2 ^ 64 → answered d q ≡ Value q
 answered-value d q h l = simp (lt-ltb 0 d h, lt-ltb q (2 ^ 64) l)

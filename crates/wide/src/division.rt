@@ -68,6 +68,48 @@ fn divide(w: Wide, d: u64) -> u64
     q1 * BASE + q0
 }
 
+// w / d for d below 2^32, in two digits: neither needs a correction.
+fn short(w: Wide, d: u64) -> u64
+    requires { ⌜ (w .high < d) × (d < 2 ^ 32) ⌝ }
+    ensures { λ r. ⌜ r ≡ (w .high * 2 ^ 64 + w .low) / d ⌝ }
+{
+    let top = w.high * BASE + w.low / BASE;
+    let next = top % d * BASE + w.low % BASE;
+    top / d * BASE + next / d
+}
+
+// w / 2^s.
+fn shift(w: Wide, s: u32) -> Wide
+    requires { ⌜ s < 64 ⌝ }
+    ensures { λ r. ⌜ (r .high ≡ w .high / 2 ^ s) × (r .high * 2 ^ 64 + r .low ≡ (w .high * 2 ^ 64 + w .low) / 2 ^ s) ⌝ }
+{
+    Wide {
+        high: w.high >> s,
+        low: (w.high << 1 << (63 - s)) + (w.low >> s),
+    }
+}
+
+// How often d can be halved.
+fn twos(d: u64) -> u32
+    requires { ⌜ 0 < d ⌝ }
+    ensures { λ r. ⌜ (r < 64) × (d / 2 ^ r * 2 ^ r ≡ d) ⌝ }
+{
+    u64::trailing_zeros(d)
+}
+
+// w / d: in short digits where d is below 2^32 without its twos, as the powers of ten up to 10^13 are.
+fn divide_by(w: Wide, d: u64) -> u64
+    requires { ⌜ w .high < d ⌝ }
+    ensures { λ r. ⌜ r ≡ (w .high * 2 ^ 64 + w .low) / d ⌝ }
+{
+    let s = twos(d);
+    let odd = d >> s;
+    if odd >= BASE {
+        return divide(w, d);
+    }
+    short(shift(w, s), odd)
+}
+
 // The same, by one hardware division where the number has one word.
 pub(crate) fn quotient(w: Wide, d: u64) -> u64
     requires { ⌜ w .high < d ⌝ }
@@ -76,5 +118,5 @@ pub(crate) fn quotient(w: Wide, d: u64) -> u64
     if w.high == 0 {
         return w.low / d;
     }
-    divide(w, d)
+    divide_by(w, d)
 }

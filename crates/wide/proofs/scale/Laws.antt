@@ -1,11 +1,10 @@
 -- Whether a quotient fits, from the high word of the number that is divided.
 use mathlib.Core.Path.{_≡_, sym, ap, _∙_}
 use Prim.Native.Nat.{ℕ, zero, _+_, _-_, _*_, _/_, _^_, _≤_, _<_}
-use native.Mathlib.Nat.{mul-le-mul, lt-of-mul-lt-mul-right, div-mul-le-self, lt-div-mul-add}
+use native.Mathlib.Nat.{mul-le-mul, lt-of-mul-lt-mul-right, div-mul-le-self, lt-div-mul-add, add-mul-div-right, div-eq-of-lt}
 use native.Mathlib.Decide.{decLt}
 use native.Mathlib.Omega.{arith}
-use Rattle.wide.specs.Scaling.{floor, ceiling, scaledDown, scaledUp, answered, answered-value, answered-large, answered-zero}
-use Rattle.wide.specs.Rounding.{≤-floor, floor-≤, ≤-ceiling, ceiling-≤}
+use Rattle.wide.specs.Scaling.{answered, answered-value, answered-large, answered-zero}
 use Rattle.wide.specs.declared.scale.Scaled.the-variants.{Value, TooLarge}
 
 pub fits : (high low v d q : ℕ) → high * 2 ^ 64 + low ≡ v → high < d → low < 2 ^ 64 → q ≡ (high * 2 ^ 64 + low) / d → Value q ≡ answered d (v / d)
@@ -28,12 +27,9 @@ pub room : (m high low a n : ℕ) → zero < m → a ≤ m → n ≤ m → high 
 room m high low a n p ha hn e = lt-of-mul-lt-mul-right (m + 1) {m = high} {n = m} (omega (arith, mul-le-mul ha hn))
 
 -- a factor of 1 changes nothing
-pub one-down : (a n d : ℕ) → n ≡ d → 0 < d → a < 2 ^ 64 → Value a ≡ scaledDown a n d
-one-down a n d e h l =
-    let f : floor a n d ≡ a = omega (arith, ≤-floor a n d a h (omega (arith, ap (λ (x : ℕ). a * x) e)), floor-≤ a n d a h (omega (arith, ap (λ (x : ℕ). a * x) e))) in
-    sym (answered-value d (floor a n d) h (omega arith) ∙ ap Value f)
-
-pub one-up : (a n d : ℕ) → n ≡ d → 0 < d → a < 2 ^ 64 → Value a ≡ scaledUp a n d
-one-up a n d e h l =
-    let f : ceiling a n d ≡ a = omega (arith, ≤-ceiling a n d a h (omega (arith, ap (λ (x : ℕ). a * x) e)), ceiling-≤ a n d a h (omega (arith, ap (λ (x : ℕ). a * x) e))) in
-    sym (answered-value d (ceiling a n d) h (omega arith) ∙ ap Value f)
+pub one : (a n d more : ℕ) → n ≡ d → more < d → a < 2 ^ 64 → Value a ≡ answered d ((a * n + more) / d)
+one a n d more e h l =
+    let sum : a * n + more ≡ more + a * d = ap (λ (x : ℕ). a * x + more) e ∙ omega arith in
+    let none : more / d ≡ 0 = div-eq-of-lt h in
+    let q : (a * n + more) / d ≡ a = ap (λ (x : ℕ). x / d) sum ∙ add-mul-div-right more a (omega arith) ∙ omega arith in
+    sym (answered-value d ((a * n + more) / d) (omega arith) (omega arith) ∙ ap Value q)

@@ -16,11 +16,11 @@ div-result c = search needs
 returns : tie.Need-returns
 returns c = ap (λ (n : ℕ). n / c .before .before .before .args .d) (one-word _ _ (c .before .if1 .taken))
 
-divide-requires : tie.Need-divide-requires
-divide-requires c κs = search needs
+divide-by-requires : tie.Need-divide-by-requires
+divide-by-requires c κs = search needs
 
 returns-2 : tie.Need-returns-2
 returns-2 c = search needs
 
 pub quotient-spec : {M : Type 1} → statement M
-quotient-spec = tie.close (tie.spec div-result returns divide-requires returns-2)
+quotient-spec = tie.close (tie.spec div-result returns divide-by-requires returns-2)

@@ -1,19 +1,23 @@
--- `wide::scale::scale_down` meets its contract.
--- Assumes nothing.
-use native.Mathlib.Omega.{arith}
-use Rattle.wide.proofs.scale.Laws.{one-down}
+-- `wide::scale::scale_down` meets its contract. Assumes nothing.
 use borrow.Author.Needs.{needs}
+use Prim.Native.Nat.{ℕ, _*_, _/_}
+use mathlib.Core.Path.{sym, ap, _∙_}
+use native.Mathlib.Nat.{add-zero}
+use Rattle.wide.specs.Scaling.{floor, answered, answered-zero}
 use Rattle.wide.proofs.scale.scale_down.Statement.{statement}
 use Rattle.wide.proofs.scale.scale_down.Tie as tie
+use Rattle.wide.proofs.scale.scale_down.Reads as reads
+use Rattle.wide.proofs.scale.scale_down.Lts as lts
+use Rattle.wide.proofs.scale.scale.Reads as scale-reads
 
 returns : tie.Need-returns
-returns c = one-down _ _ _ (c .before .if1 .taken) (c .if2 .taken) (omega (arith, c .before .before .fits .a))
+returns c = let a = c .before .args in sym (answered-zero (a .d) (floor (a .a) (a .n) (a .d)) (c .if1 .taken))
 
-wide-down-requires : tie.Need-wide-down-requires
-wide-down-requires c κs = search needs
+scale-requires : tie.Need-scale-requires
+scale-requires c κs = search needs
 
 returns-2 : tie.Need-returns-2
-returns-2 c = search needs
+returns-2 c = let a = c .before .before .args in c .scale .ensures ∙ ap (λ (x : ℕ). answered (a .d) (x / a .d)) (add-zero (a .a * a .n))
 
 pub scale-down-spec : {M : Type 1} → statement M
-scale-down-spec = tie.close (tie.spec returns wide-down-requires returns-2)
+scale-down-spec = tie.close (tie.spec returns scale-requires returns-2)

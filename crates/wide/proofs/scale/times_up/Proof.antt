@@ -1,30 +1,21 @@
--- The quotient fits, so that the scaling has a value.
-use mathlib.Core.Path.{sym, _∙_}
+-- The quotient fits, so that the scaling has a value. Assumes nothing.
+use Rattle.wide.specs.Scaling.{ceiling}
 use borrow.Author.Needs.{needs}
-use Rattle.wide.specs.Scaling.{ceiling, value-is, fits-never-large}
 use Rattle.wide.proofs.scale.times_up.Statement.{statement}
 use Rattle.wide.proofs.scale.times_up.Tie as tie
+use Rattle.wide.proofs.scale.times_up.Reads as reads
+use Rattle.wide.proofs.scale.times_up.Lts as lts
+use Rattle.wide.proofs.scale.scale_up.Reads as scale-up-reads
+use Rattle.wide.proofs.scale.value.Reads as value-reads
 
 scale-up-requires : tie.Need-scale-up-requires
 scale-up-requires c κs = search needs
 
-enum-known-v : tie.Need-enum-known-v
-enum-known-v c = search needs
-
-enum-told : tie.Need-enum-told
-enum-told c = search needs
+value-requires : tie.Need-value-requires
+value-requires c κs = search needs
 
 returns : tie.Need-returns
-returns c =
-    let s = c .before .before .before in
-    let a = s .before .args in
-    value-is (a .d) (ceiling (a .a) (a .n) (a .d)) _ (sym (s .scale-up .ensures) ∙ c .before .v .given .1) .is
-
-returns-2 : tie.Need-returns-2
-returns-2 c =
-    let s = c .before .before in
-    let a = s .before .args in
-    absurd (fits-never-large (a .d) (ceiling (a .a) (a .n) (a .d)) (s .before .pre .0) (s .before .pre .1) (sym (s .scale-up .ensures) ∙ c .enum-told .given .1))
+returns c = let s = c .before .before in let a = s .args in c .value .ensures (a .d) (ceiling (a .a) (a .n) (a .d)) (c .before .scale-up .ensures) (s .pre .0) (s .pre .1)
 
 pub times-up-spec : {M : Type 1} → statement M
-times-up-spec = tie.close (tie.spec scale-up-requires enum-known-v enum-told returns returns-2)
+times-up-spec = tie.close (tie.spec scale-up-requires value-requires returns)

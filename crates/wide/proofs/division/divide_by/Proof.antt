@@ -1,0 +1,67 @@
+-- `wide::division::divide_by` meets its contract: number and divisor without the divisor's twos. Assumes nothing.
+use borrow.Author.Needs.{needs}
+use Prim.Native.Nat.{ℕ, zero, _+_, _*_, _/_, _^_, _≤_, _<_}
+use mathlib.Core.Path.{_≡_, ap, sym, _∙_}
+use native.Mathlib.Nat.{div-div-eq-div-mul, mul-comm, div-lt-iff-lt-mul, le-of-eq, lt-of-le-of-lt, lt-of-lt-of-le}
+use native.Mathlib.Omega.{arith}
+use lib.Pow.{pow-pos}
+use Rattle.wide.proofs.division.divide_by.Statement.{statement}
+use Rattle.wide.proofs.division.divide_by.Tie as tie
+use Rattle.wide.proofs.division.divide_by.Reads as reads
+use Rattle.wide.proofs.division.divide_by.Lts as lts
+use Rattle.wide.proofs.division.divide.Reads as divide-reads
+use Rattle.wide.proofs.division.shift.Reads as shift-reads
+use Rattle.wide.proofs.division.short.Reads as short-reads
+use Rattle.wide.proofs.division.twos.Reads as twos-reads
+
+-- the high word stays below the divisor. m is 2 ^ s
+still-below : (x high d m : ℕ) → zero < m → high < d → d / m * m ≡ d → x ≡ high / m → x < d / m
+still-below x high d m p h e q = lt-of-le-of-lt (le-of-eq q) (div-lt-iff-lt-mul {k = m} {x = high} {y = d / m} p .1 (lt-of-lt-of-le h (le-of-eq (sym e))))
+
+twos-requires : tie.Need-twos-requires
+twos-requires c κs = search needs
+
+cast-odd : tie.Need-cast-odd
+cast-odd c = search needs
+
+shr-odd : tie.Need-shr-odd
+shr-odd c = search needs
+
+divide-requires : tie.Need-divide-requires
+divide-requires c κs = search needs
+
+returns : tie.Need-returns
+returns c = search needs
+
+shift-requires : tie.Need-shift-requires
+shift-requires c κs = search needs
+
+short-requires : tie.Need-short-requires
+short-requires c κs =
+    let s = c .before .before in
+    let a = s .before in
+    let b = still-below (c .shift .result .high) (a .args .w .high) (a .args .d) (2 ^ s .twos .result) (pow-pos (s .twos .result)) (a .pre) (s .twos .ensures .1) (c .shift .ensures .0) in
+    (b, c .before .if1 .left)
+
+returns-2 : tie.Need-returns-2
+returns-2 c =
+    let t = c .before .before .before in
+    let m = 2 ^ t .twos .result in
+    let a = t .before .args in
+    c .short .ensures
+    ∙ ap (λ (x : ℕ). x / (a .d / m)) (c .before .shift .ensures .1)
+    ∙ div-div-eq-div-mul _ m (a .d / m)
+    ∙ ap (λ (x : ℕ). (a .w .high * 2 ^ 64 + a .w .low) / x) (mul-comm m (a .d / m) ∙ t .twos .ensures .1)
+
+pub divide-by-spec : {M : Type 1} → statement M
+divide-by-spec =
+    tie.close
+    (tie.spec
+    twos-requires
+    cast-odd
+    shr-odd
+    divide-requires
+    returns
+    shift-requires
+    short-requires
+    returns-2)

@@ -1,0 +1,45 @@
+-- `wide::scale::scale` meets its contract: a factor of 1, or the product and what comes to it by d. Assumes nothing.
+use borrow.Author.Needs.{needs}
+use native.Mathlib.Omega.{arith}
+use mathlib.Core.Path.{_≡_, ap, _∙_}
+use Prim.Native.Nat.{ℕ, _+_, _-_, _*_, _^_}
+use Rattle.wide.proofs.scale.Laws.{fits, large, room, one}
+use Rattle.wide.proofs.scale.scale.Statement.{statement}
+use Rattle.wide.proofs.scale.scale.Tie as tie
+use Rattle.wide.proofs.scale.scale.Reads as reads
+use Rattle.wide.proofs.scale.scale.Lts as lts
+use Rattle.wide.proofs.division.quotient.Reads as quotient-reads
+use Rattle.wide.proofs.word.plus.Reads as plus-reads
+use Rattle.wide.proofs.word.product.Reads as product-reads
+
+returns : tie.Need-returns
+returns c = one _ _ _ _ (c .if1 .taken) (c .before .pre) (omega (arith, c .before .fits .a))
+
+product-requires : tie.Need-product-requires
+product-requires c κs = search needs
+
+plus-requires : tie.Need-plus-requires
+plus-requires c κs = room (2 ^ 64 - 1) (c .product .result .high) (c .product .result .low) _ _ (omega arith) (omega (arith, c .before .before .fits .a)) (omega (arith, c .before .before .fits .n)) (c .product .ensures)
+
+-- the sum's value
+sum : (c : tie.After-plus)
+    → c .plus .result .high * 2 ^ 64 + c .plus .result .low ≡ c .before .before .before .args .a * c .before .before .before .args .n + c .before .before .before .args .more
+sum c = c .plus .ensures ∙ ap (λ (x : ℕ). x + c .before .before .before .args .more) (c .before .product .ensures)
+
+quotient-requires : tie.Need-quotient-requires
+quotient-requires c κs = search needs
+
+returns-2 : tie.Need-returns-2
+returns-2 c =
+    let w = c .before .before .before in
+    fits (w .plus .result .high) (w .plus .result .low) _ _ (c .quotient .result) (sum w) (c .before .if2 .taken) (omega (arith, c .before .before .struct-known .given)) (c .quotient .ensures)
+
+returns-3 : tie.Need-returns-3
+returns-3 c =
+    let w = c .before .before in
+    large (w .plus .result .high) (w .plus .result .low) _ _ (sum w) (c .if2 .left)
+
+pub scale-spec : {M : Type 1} → statement M
+scale-spec =
+    tie.close
+    (tie.spec returns product-requires plus-requires quotient-requires returns-2 returns-3)
