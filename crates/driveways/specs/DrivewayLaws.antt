@@ -11,13 +11,12 @@ use Rattle.estimate.specs.FractionLaws.{≤ᶠ-refl, ≤ᶠ-trans, =ᶠ-≤ᶠ,
 use Rattle.estimate.specs.Standing.{LowRight, HighRight}
 use Rattle.bracket.specs.Bracket.{Stands, RelativeWidth, AbsoluteWidth, logarithmWidth}
 use Rattle.bracket.specs.declared.Bracket.{Bracket}
-use Rattle.logarithm.specs.Stored.{scale}
 use Rattle.logarithm.specs.Logarithm.{logarithmBracket, StandingLogarithm}
 use Rattle.logarithm.specs.LogarithmLaws.{logarithm-standing}
 use Rattle.model.specs.Coefficients.{Coefficients}
 use Rattle.model.specs.Access.{drivewaySlope, drivewayAt, drivewayPart}
 use Rattle.model.specs.Parts.{driveways}
-use Rattle.driveways.specs.Driveways.{valueOf, between, lowEnd, highEnd, rising, falling, drivewayBracket, drivewaysOf, Sized}
+use Rattle.driveways.specs.Driveways.{valueOf, between, lowEnd, highEnd, rising, falling, drivewayBracket, drivewaysOf}
 
 -- THE STEP ON PLAIN NUMBERS: s is the slope at x = xn/xd, t that at y = yn/yd, and xn/xd ≤ yn/yd
 
@@ -125,18 +124,6 @@ module _ (constant count : ℕ) (positive : 0 < constant) where
     at-most-six large few =
         rw (at-num x, at-den x)
         (omega (arith, mul-le-mul-right (x .den) large, mul-le-mul-right (drivewaySlope x) few, slope-most))
-
-    num-positive : 0 < drivewayAt constant count x .num
-    num-positive = rw (at-num x) (omega (arith, mul-pos positive (x .pos)))
-
-    module _ (small : constant ≤ 1000) (m : ℕ) (to : x .den ≤ m) where
-      num-to : count ≤ 50 → drivewayAt constant count x .num ≤ 3500 * m
-      num-to few =
-          rw (at-num x)
-          (omega (arith, mul-le-mul-right (x .den) small, mul-le-mul-right (drivewaySlope x) few, slope-most))
-
-      den-to : drivewayAt constant count x .den ≤ 3500 * m
-      den-to = rw (at-den x) (omega (arith, mul-le-mul-right (x .den) small, slope-most))
 
 -- THE BRACKET
 
@@ -262,32 +249,6 @@ module _ (constant fewest count : ℕ) (few : count ≤ 50) (ln : Bracket) where
               //-den (ln .«low_num») (ln .«low_den») low-den,
             ) (w .width)
 
-    -- both denominators of ln A at most m
-    pub driveway-bracket-sized : 0 < constant → constant ≤ 1000 → (m : ℕ) → ln .«low_den» ≤ m → ln .«high_den» ≤ m → Sized (3500 * m) (drivewayBracket constant fewest count ln)
-    driveway-bracket-sized positive small m low-to high-to =
-        by-driveways constant fewest count ln (λ b. Sized (3500 * m) b)
-        (λ _. unfold whole fraction in search arith)
-        (λ _ _. ends-sized (lowEnd ln) (highEnd ln) low-end high-end)
-        (λ _ _. ends-sized (highEnd ln) (lowEnd ln) high-end low-end)
-      where
-        low-end : lowEnd ln .den ≤ m
-        low-end = rw (//-den (ln .«low_num») (ln .«low_den») low-den) low-to
-
-        high-end : highEnd ln .den ≤ m
-        high-end = rw (//-den (ln .«high_num») (ln .«high_den») high-den) high-to
-
-        ends-sized : (x y : Fraction) → x .den ≤ m → y .den ≤ m → Sized (3500 * m) (between (valueOf (drivewayAt constant count x)) (valueOf (drivewayAt constant count y)))
-        ends-sized x y p q = record {
-          low-num-from = num-positive constant count positive x;
-          low-den-from = drivewayAt constant count x .pos;
-          high-num-from = num-positive constant count positive y;
-          high-den-from = drivewayAt constant count y .pos;
-          low-num-to = num-to constant count positive x small m p few;
-          low-den-to = den-to constant count positive x small m p;
-          high-num-to = num-to constant count positive y small m q few;
-          high-den-to = den-to constant count positive y small m q;
-        }
-
 -- AT A TRAFFIC
 
 module _ (k : Coefficients) (count traffic : ℕ) (from : 1 ≤ traffic) (to : traffic ≤ 20000) where
@@ -308,9 +269,3 @@ module _ (k : Coefficients) (count traffic : ℕ) (from : 1 ≤ traffic) (to : t
   pub driveways-at-most-six : 200 ≤ k .driveway-constant → count ≤ 50
       → let b = drivewaysOf (k .driveway-constant) (k .fewest-driveways) count traffic in b .«high_num» ≤ 6 * b .«high_den»
   driveways-at-most-six large few = driveway-bracket-at-most-six (k .driveway-constant) (k .fewest-driveways) count few (logarithmBracket traffic) large
-
-  pub driveways-sized : 0 < k .driveway-constant → k .driveway-constant ≤ 1000 → count ≤ 50
-      → Sized 3500000000000000 (drivewaysOf (k .driveway-constant) (k .fewest-driveways) count traffic)
-  driveways-sized positive small few =
-      driveway-bracket-sized (k .driveway-constant) (k .fewest-driveways) count few (logarithmBracket traffic) (ln .stands .low-den) (ln .stands .high-den)
-      positive small scale (omega arith) (omega arith)

@@ -40,14 +40,3 @@ drivewayBracket constant fewest driveways ln =
 -- at a traffic
 abbrev pub drivewaysOf : (constant fewest driveways traffic : ℕ) → Bracket
 drivewaysOf constant fewest driveways traffic = drivewayBracket constant fewest driveways (logarithmBracket traffic)
-
--- no number of the bracket is 0, and none is more than the most
-pub record Sized (most : ℕ) (b : Bracket) : Type 0 where
-  pub low-num-from : 0 < b .«low_num»
-  pub low-den-from : 0 < b .«low_den»
-  pub high-num-from : 0 < b .«high_num»
-  pub high-den-from : 0 < b .«high_den»
-  pub low-num-to : b .«low_num» ≤ most
-  pub low-den-to : b .«low_den» ≤ most
-  pub high-num-to : b .«high_num» ≤ most
-  pub high-den-to : b .«high_den» ≤ most

@@ -9,3 +9,4 @@ pub mod TaylorLaws
 pub mod Exponential
 pub mod ExponentialEnds
 pub mod ExponentialLaws
+pub mod ExponentialMost

@@ -6,4 +6,5 @@ pub mod Stored
 pub mod Power
 pub mod PowerWidth
 pub mod PowerLaws
+pub mod PowerMost
 pub mod AnswerLaws

@@ -17,7 +17,7 @@ use Rattle.model.specs.FactorBounds.{left-turn-within, right-turn-within}
 use Rattle.model.specs.Parts.{Term}
 use Rattle.prediction.specs.Pieces.{segmentPieces}
 use Rattle.prediction.specs.Pair.{unit}
-use Rattle.prediction.specs.Bounds.{exp-neg-below}
+use Rattle.exponential.specs.ExponentialMost.{exp-neg-below}
 use Rattle.prediction.specs.Numbers.{by-kind}
 use Rattle.prediction.specs.Kept.{Rated, segmentMost, carriedMost}
 
@@ -28,7 +28,7 @@ base-limits kind h = by-kind (λ kind. editionOne .base-exponent kind ≤ expone
 -- e^(-0.4865) is below 0.615
 base-below : expNegBracket (editionOne .base-exponent 0) .«high_num» * (615 // 1000) .den ≤ (615 // 1000) .num * expNegBracket (editionOne .base-exponent 0) .«high_den»
 unfolding editionOne _//_ fraction partialSum sumNum termNum termDen tenThousandths
-base-below = omega (arith, exp-neg-below 4865 10003 10000 6150 (lit≤ tt) (lit< tt) (record { cross = lit≤ tt }) (lit≤ tt))
+base-below = omega (arith, exp-neg-below 4865 10003 10000 6150 (lit≤ tt) (lit< tt) (record { cross = lit≤ tt }) (lit≤ tt) (lit< tt))
 
 room : (bend : Slot) (site : Site) (term : Term) → T (hasRoom segmentMost (bounds (segmentPieces editionOne bend site term)))
 unfolding segmentPieces editionOne whole _//_ fraction _^ᶠ_

@@ -34,7 +34,8 @@ use Rattle.model.specs.FactorBounds.{lane-within, shoulder-within, curve-within
 use Rattle.model.specs.Parts.{Part, Term, power, exponential, exponentialNegative, hazard, driveways, number}
 use Rattle.prediction.specs.Pieces.{piece, hazardBracket, relatedMost, curvePieces, segmentPieces, majorMost, minorMost, crossingPieces}
 use Rattle.prediction.specs.Pair.{unit}
-use Rattle.prediction.specs.Bounds.{exp-below, exp-neg-below-one, power-below}
+use Rattle.exponential.specs.ExponentialMost.{exp-below, exp-neg-below-one}
+use Rattle.power.specs.PowerMost.{power-below}
 use Rattle.prediction.specs.Numbers.{by-kind, by-crossing, CurveNumbers, SegmentNumbers, CrossingNumbers}
 
 -- widths are counted in millionths

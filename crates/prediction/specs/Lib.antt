@@ -1,7 +1,6 @@
 -- The predicted pair of a site: its pieces, the pair they make, and what holds of it.
 pub mod Pieces
 pub mod Pair
-pub mod Bounds
 pub mod Numbers
 pub mod Kept
 pub mod EditionOne
