@@ -33,6 +33,25 @@ module _ {A : Type 0} (rule : A → Rule) (test : A → ℕ → Bool) (last : �
   unfolding anyField
   any-end h = let w : length xs ≤ i = omega arith in rw (at-end xs i w) at inv
 
+either : (test later : Bool) (told before : ℕ) → cond (test || later) told before ≡ cond later told (cond test told before)
+either true true told before = refl
+either true false told before = refl
+either false later told before = refl
+
+-- a loop that keeps a number from the field on that passes a test
+module _ {A : Type 0} (rule : A → Rule) (test : A → ℕ → Bool) (xs : List A) (i map told : ℕ) (count : length xs ≡ slotCount) (number : ℕ) {whole : ℕ} (inv : cond (anyField rule test (λ (left : ℕ). false) (drop i xs) map) told number ≡ whole) where
+  pub kept-more : (d : A) (n rest : ℕ) → i < slotCount → n ≡ cond (test (getD xs i d) map) told number
+      → rest ≡ restOf (rule (getD xs i d)) map
+      → cond (anyField rule test (λ (left : ℕ). false) (drop (i + 1) xs) rest) told n ≡ whole
+  unfolding anyField
+  kept-more d n rest h en er =
+      let w : i < length xs = omega arith in
+      rw (en, er) (sym (either (test (getD xs i d) map) (anyField rule test (λ (left : ℕ). false) (drop (i + 1) xs) (restOf (rule (getD xs i d)) map)) told number) ∙ rw (next xs i d w) at inv)
+
+  pub kept-end : slotCount ≤ i → number ≡ whole
+  unfolding anyField
+  kept-end h = let w : length xs ≤ i = omega arith in rw (at-end xs i w) at inv
+
 module _ (rules : List Rule) (i map : ℕ) (count : length rules ≡ slotCount) where
   pub words-step : (d : Rule) → i < slotCount
       → words (drop i rules) map ≡ fieldWords (getD rules i d) map + words (drop (i + 1) rules) (restOf (getD rules i d) map)

@@ -1,6 +1,7 @@
 // The reader of one site's record.
 ghost use mathlib.Core.Path.{_≡_};
 ghost use Prim.Native.Nat.{_+_, _*_, _≤_, _<_};
+ghost use mathlib.Core.Bool.{cond};
 ghost use lib.ListN.{length, drop};
 ghost use Rattle.site.specs.Rules.{lastKind, slotCount};
 ghost use Rattle.site.specs.Answers.{readAnswer};
@@ -60,13 +61,14 @@ fn lacked_bit_stands(rule: Rule, map: u16) -> bool
     }
 }
 
-fn needed_bit_absent(rule: Rule, map: u16) -> bool
-    ensures { λ r. ⌜ r ≡ neededBitAbsent rule map ⌝ }
+// 7 where a needed bit is absent, or the number so far.
+fn number_after(number: u8, rule: Rule, map: u16) -> u8
+    ensures { λ r. ⌜ r ≡ cond (neededBitAbsent rule map) 7 number ⌝ }
 {
     if rules::is_needed(rule) {
-        !does_stand(rule, map)
+        if does_stand(rule, map) { number } else { 7 }
     } else {
-        false
+        number
     }
 }
 
@@ -98,40 +100,24 @@ fn is_curved(entries: [Entry; SLOTS], map: u16) -> bool
     false
 }
 
-// Whether a bit stands that the kind lacks.
-fn map_lacks(rules: [Rule; SLOTS], map: u16) -> bool
+// 6 where a bit stands that the kind lacks, else 7 where a needed bit is absent, or 0.
+fn map_number(rules: [Rule; SLOTS], map: u16) -> u8
     requires { ⌜ length rules ≡ slotCount ⌝ }
-    ensures { λ r. ⌜ r ≡ lacks rules map ⌝ }
+    ensures { λ r. ⌜ r ≡ cond (lacks rules map) 6 (cond (misses rules map) 7 0) ⌝ }
 {
     let mut rest = map;
+    let mut number = 0;
     let mut i = 0;
     while i < SLOTS {
         let rule = rules[i];
         if lacked_bit_stands(rule, rest) {
-            return true;
+            return 6;
         }
+        number = number_after(number, rule, rest);
         rest = rest_of(rule, rest);
         i += 1;
     }
-    0 < rest
-}
-
-// Whether a needed bit is absent.
-fn map_misses(rules: [Rule; SLOTS], map: u16) -> bool
-    requires { ⌜ length rules ≡ slotCount ⌝ }
-    ensures { λ r. ⌜ r ≡ misses rules map ⌝ }
-{
-    let mut rest = map;
-    let mut i = 0;
-    while i < SLOTS {
-        let rule = rules[i];
-        if needed_bit_absent(rule, rest) {
-            return true;
-        }
-        rest = rest_of(rule, rest);
-        i += 1;
-    }
-    false
+    if 0 < rest { 6 } else { number }
 }
 
 // How many two-byte numbers a field has in the record.
@@ -270,11 +256,9 @@ fn read_fields(kind: u8, rules: [Rule; SLOTS], map: u16, s: &[u8]) -> SiteAnswer
     requires { ⌜ length rules ≡ slotCount ⌝ }
     ensures { λ r. ⌜ r ≡ readAnswer (recordNumber rules map (now (s .entry))) (siteOf kind (fieldsValues rules map (now (s .entry)))) (3 + 2 * words rules map) ⌝ }
 {
-    if map_lacks(rules, map) {
-        return SiteAnswer::Refused(6);
-    }
-    if map_misses(rules, map) {
-        return SiteAnswer::Refused(7);
+    let fault = map_number(rules, map);
+    if fault != 0 {
+        return SiteAnswer::Refused(fault);
     }
     let n = 2 * count_words(rules, map);
     if s.len() < n {

@@ -1,31 +1,45 @@
 -- `site_reader::read_fields` meets its contract. Each test is one of the definition's, in its order.
 -- Assumes nothing.
+use mathlib.Core.Path.{_≡_, refl, sym, _∙_}
+use mathlib.Core.Bool.{Bool, true, false, cond}
+use mathlib.Core.List.{List}
+use Prim.Native.Nat.{ℕ, _*_}
+use lib.ListN.{length}
+use lib.Dec.{ltb}
 use borrow.Author.Tests.{lt-ltb, le-ltb, eq-eqb, ne-eqb}
-use Rattle.site.specs.Record.{recordNumber}
+use Rattle.site.specs.declared.rules.Rule.{Rule}
+use Rattle.site.specs.Truth.{passed}
+use Rattle.site.specs.Record.{lacks, misses, words, fieldsNumber, recordNumber}
 use borrow.Author.Needs.{needs}
 use Rattle.site_reader.proofs.read_fields.Statement.{statement}
 use Rattle.site_reader.proofs.read_fields.Tie as tie
 
-map-lacks-requires : tie.Need-map-lacks-requires
-map-lacks-requires c κs = search needs
+-- the map's own number is the record's, or the map has none and the fields tell
+module _ (rules : List Rule) (map fault : ℕ) (is : fault ≡ cond (lacks rules map) 6 (cond (misses rules map) 7 0)) where
+  map-tells : (fault ≡ 0 → ⊥) → (s : List ℕ) → recordNumber rules map s ≡ fault
+  unfolding recordNumber
+  map-tells refused s = by (lacks rules map) (misses rules map) is
+    where
+      by : (lack miss : Bool) → fault ≡ cond lack 6 (cond miss 7 0)
+          → cond lack 6 (cond miss 7 (cond (ltb (length s) (2 * words rules map)) 1 (fieldsNumber rules map s))) ≡ fault
+      by true miss e = sym e
+      by false true e = sym e
+      by false false e = absurd (refused e)
+
+  fields-tell : fault ≡ 0 → (s : List ℕ)
+      → recordNumber rules map s ≡ cond (ltb (length s) (2 * words rules map)) 1 (fieldsNumber rules map s)
+  unfolding recordNumber
+  fields-tell none s =
+      let lack = passed (lacks rules map) 5 (cond (misses rules map) 7 0) (sym is ∙ none) in
+      rw (lack .0, passed (misses rules map) 6 0 (lack .1) .0)
+
+map-number-requires : tie.Need-map-number-requires
+map-number-requires c κs = search needs
 
 returns : tie.Need-returns
-unfolding recordNumber
 returns c = simp (
-  ← c .before .map-lacks .ensures,
-  c .if1 .taken,
-)
-
-map-misses-requires : tie.Need-map-misses-requires
-map-misses-requires c κs = search needs
-
-returns-2 : tie.Need-returns-2
-unfolding recordNumber
-returns-2 c = simp (
-  ← c .before .before .before .map-lacks .ensures,
-  c .before .before .if1 .left,
-  ← c .before .map-misses .ensures,
-  c .if2 .taken,
+  map-tells _ _ _ (c .before .map-number .ensures) (c .if1 .taken),
+  ne-eqb _ _ (c .if1 .taken),
 )
 
 count-words-requires : tie.Need-count-words-requires
@@ -34,31 +48,23 @@ count-words-requires c κs = search needs
 mul-n : tie.Need-mul-n
 mul-n c = search needs
 
-returns-3 : tie.Need-returns-3
-unfolding recordNumber
-returns-3 c = simp (
-  ← c .before .before .before .before .before .map-lacks .ensures,
-  c .before .before .before .before .if1 .left,
-  ← c .before .before .before .map-misses .ensures,
-  c .before .before .if2 .left,
+returns-2 : tie.Need-returns-2
+returns-2 c = simp (
+  fields-tell _ _ _ (c .before .before .before .map-number .ensures) (c .before .before .if1 .left),
   ← c .before .count-words .ensures .0,
-  lt-ltb _ _ (c .if3 .taken),
+  lt-ltb _ _ (c .if2 .taken),
 )
 
 fields-number-requires : tie.Need-fields-number-requires
 fields-number-requires c κs = search needs
 
-returns-4 : tie.Need-returns-4
-unfolding recordNumber
-returns-4 c = simp (
-  ← c .before .before .before .before .before .before .before .map-lacks .ensures,
-  c .before .before .before .before .before .before .if1 .left,
-  ← c .before .before .before .before .before .map-misses .ensures,
-  c .before .before .before .before .if2 .left,
+returns-3 : tie.Need-returns-3
+returns-3 c = simp (
+  fields-tell _ _ _ (c .before .before .before .before .before .map-number .ensures) (c .before .before .before .before .if1 .left),
   ← c .before .before .before .count-words .ensures .0,
-  le-ltb _ _ (c .before .before .if3 .left),
+  le-ltb _ _ (c .before .before .if2 .left),
   ← c .before .fields-number .ensures,
-  ne-eqb _ _ (c .if4 .taken),
+  ne-eqb _ _ (c .if3 .taken),
 )
 
 fields-values-requires : tie.Need-fields-values-requires
@@ -70,17 +76,13 @@ site-of-requires c κs = search needs
 add-t10 : tie.Need-add-t10
 add-t10 c = search needs
 
-returns-5 : tie.Need-returns-5
-unfolding recordNumber
-returns-5 c = simp (
-  ← c .before .before .before .before .before .before .before .before .before .map-lacks .ensures,
-  c .before .before .before .before .before .before .before .before .if1 .left,
-  ← c .before .before .before .before .before .before .before .map-misses .ensures,
-  c .before .before .before .before .before .before .if2 .left,
+returns-4 : tie.Need-returns-4
+returns-4 c = simp (
+  fields-tell _ _ _ (c .before .before .before .before .before .before .before .map-number .ensures) (c .before .before .before .before .before .before .if1 .left),
   ← c .before .before .before .before .before .count-words .ensures .0,
-  le-ltb _ _ (c .before .before .before .before .if3 .left),
+  le-ltb _ _ (c .before .before .before .before .if2 .left),
   ← c .before .before .before .fields-number .ensures,
-  eq-eqb _ _ (c .before .before .if4 .left),
+  eq-eqb _ _ (c .before .before .if3 .left),
   ← c .before .fields-values .ensures,
   ← c .site-of .ensures,
 )
@@ -89,16 +91,14 @@ pub read-fields-spec : {M : Type 1} → statement M
 read-fields-spec =
     tie.close
     (tie.spec
-    map-lacks-requires
+    map-number-requires
     returns
-    map-misses-requires
-    returns-2
     count-words-requires
     mul-n
-    returns-3
+    returns-2
     fields-number-requires
-    returns-4
+    returns-3
     fields-values-requires
     site-of-requires
     add-t10
-    returns-5)
+    returns-4)
