@@ -1,12 +1,9 @@
 use borrow.Author.Needs.{needs}
-use native.Mathlib.Omega.{arith}
-use mathlib.Core.List.{List, [], _∷_}
-use Prim.Native.Nat.{ℕ, _<_}
-use lib.ListN.{getD}
-use Rattle.estimate.specs.Table.{allBelow, agree-below-both}
+use Rattle.estimate.specs.Table.{allBelow}
 use Rattle.estimate.specs.Fraction.{_//_, fraction}
-use Rattle.model.specs.Coefficients.{editionOne}
+use Rattle.model.specs.Coefficients.{editionOne, leftTurnOne}
 use Rattle.model.specs.Crossings.{leftTurn}
+use Rattle.factors.specs.TurnLanes.{turn-lanes}
 use Rattle.factors.proofs.crossings.left_turn.Statement.{statement}
 use Rattle.factors.proofs.crossings.left_turn.Tie as tie
 
@@ -22,16 +19,11 @@ index-1-t16 c = search needs
 index-2-t16 : tie.Need-index-2-t16
 index-2-t16 c = search needs
 
--- the code's table
-table : List (List ℕ)
-table = (1000 ∷ 1000 ∷ 1000 ∷ []) ∷ (1000 ∷ 780 ∷ 1000 ∷ []) ∷ (1000 ∷ 760 ∷ 580 ∷ []) ∷ (1000 ∷ 820 ∷ 670 ∷ []) ∷ []
-
 returns : tie.Need-returns
-unfolding leftTurn editionOne _//_ fraction allBelow table
+unfolding leftTurn editionOne _//_ fraction allBelow
 returns c =
-    let kind : c .before .args .kind < 4 = omega arith in
-    let lanes : c .before .args .lanes < 3 = omega arith in
-    rw (agree-below-both (λ i j. getD (getD table i []) j 0) (editionOne .left-turn) 4 3 tt (c .before .args .kind) (c .before .args .lanes) kind lanes)
+    let args = c .before .args in
+    rw (turn-lanes leftTurnOne (editionOne .left-turn) tt (args .kind) (args .lanes) (c .before .pre))
 
 pub left-turn-spec : {M : Type 1} → statement M
 left-turn-spec = tie.close (tie.spec mul-t10 mul-t13 index-1-t16 index-2-t16 returns)
