@@ -20,7 +20,7 @@ use Rattle.project.specs.declared.ScanAnswer.the-variants.{Accepted, Refused}
 use Rattle.project.specs.File.{headerIn, countIn, headerLength, onward, scanRecords, taken, sitesFrom, sitesIn}
 use Rattle.report.specs.declared.fill.RecordLine.{RecordLine}
 use Rattle.report.specs.declared.fill.RecordLine.the-variants.{Next, Unread}
-use Rattle.report.specs.Report.{numbersOf, allNumbers, noLine, plus, totalOf, reportNumbers, linesIn}
+use Rattle.report.specs.Report.{numbersOf, allNumbers, noLine, addLine, totalOf, reportNumbers, linesIn}
 
 -- the numbers after a record is read
 abbrev pub filled : SiteAnswer → (Site → ℕ → List ℕ) → List ℕ
@@ -30,22 +30,22 @@ filled (reading.Read x n) k = k x n
 unfoldable pub fillFrom : (header : Header) (left at : ℕ) (total : Line) → List ℕ → List ℕ
 fillFrom header zero at total s = numbersOf total
 fillFrom header (suc left) at total s =
-    filled (readSite (drop at s)) (λ x n. numbersOf (lineOf editionOne header x) ++ fillFrom header left (at + n) (plus total (lineOf editionOne header x)) s)
+    filled (readSite (drop at s)) (λ x n. numbersOf (lineOf editionOne header x) ++ fillFrom header left (at + n) (addLine total (lineOf editionOne header x)) s)
 
 -- totals add up in any grouping
-plus-assoc : (x y z : Line) → plus (plus x y) z ≡ plus x (plus y z)
-plus-assoc x y z = rw (
+add-line-assoc : (x y z : Line) → addLine (addLine x y) z ≡ addLine x (addLine y z)
+add-line-assoc x y z = rw (
   add-assoc (x .«predicted_low») (y .«predicted_low») (z .«predicted_low»),
   add-assoc (x .«predicted_high») (y .«predicted_high») (z .«predicted_high»),
   add-assoc (x .«expected_low») (y .«expected_low») (z .«expected_low»),
   add-assoc (x .«expected_high») (y .«expected_high») (z .«expected_high»),
 ) refl
 
-plus-none : (x : Line) → plus x noLine ≡ x
-plus-none x = rw (add-zero (x .«predicted_low»), add-zero (x .«predicted_high»), add-zero (x .«expected_low»), add-zero (x .«expected_high»)) refl
+add-no-line : (x : Line) → addLine x noLine ≡ x
+add-no-line x = rw (add-zero (x .«predicted_low»), add-zero (x .«predicted_high»), add-zero (x .«expected_low»), add-zero (x .«expected_high»)) refl
 
-none-plus : (x : Line) → plus noLine x ≡ x
-none-plus x = rw (zero-add (x .«predicted_low»), zero-add (x .«predicted_high»), zero-add (x .«expected_low»), zero-add (x .«expected_high»)) refl
+add-to-no-line : (x : Line) → addLine noLine x ≡ x
+add-to-no-line x = rw (zero-add (x .«predicted_low»), zero-add (x .«predicted_high»), zero-add (x .«expected_low»), zero-add (x .«expected_high»)) refl
 
 -- a record that a scan passes is one that was read
 pub record Passed (sites left at : ℕ) (s : List ℕ) : Type 0 where
@@ -68,20 +68,20 @@ module _ (header : Header) (s : List ℕ) where
   lines sites = map (lineOf editionOne header) sites
 
   fill-is : (sites left at : ℕ) (total : Line) → scanRecords sites left at s ≡ Accepted sites
-      → fillFrom header left at total s ≡ allNumbers (lines (sitesFrom left at s)) ++ numbersOf (plus total (totalOf (lines (sitesFrom left at s))))
+      → fillFrom header left at total s ≡ allNumbers (lines (sitesFrom left at s)) ++ numbersOf (addLine total (totalOf (lines (sitesFrom left at s))))
   unfolding fillFrom sitesFrom allNumbers totalOf
-  fill-is sites zero at total e = sym (ap numbersOf (plus-none total))
+  fill-is sites zero at total e = sym (ap numbersOf (add-no-line total))
   fill-is sites (suc left) at total e =
       let p = passed sites left at s e in
       let x = lineOf editionOne header (p .site) in
-      let r = fill-is sites left (at + p .bytes) (plus total x) (p .rest) in
+      let r = fill-is sites left (at + p .bytes) (addLine total x) (p .rest) in
       let later = lines (sitesFrom left (at + p .bytes) s) in
-      rw (p .is, r) (ap (λ (z : Line). numbersOf x ++ (allNumbers later ++ numbersOf z)) (plus-assoc total x (totalOf later)))
+      rw (p .is, r) (ap (λ (z : Line). numbersOf x ++ (allNumbers later ++ numbersOf z)) (add-line-assoc total x (totalOf later)))
 
 pub fill-report : (s : List ℕ) → scanRecords (countIn s) (countIn s) headerLength s ≡ Accepted (countIn s)
     → fillFrom (headerIn s) (countIn s) headerLength noLine s ≡ reportNumbers (linesIn s)
 unfolding sitesIn
-fill-report s e = fill-is (headerIn s) s (countIn s) (countIn s) headerLength noLine e ∙ ap (λ (z : Line). allNumbers (linesIn s) ++ numbersOf z) (none-plus (totalOf (linesIn s)))
+fill-report s e = fill-is (headerIn s) s (countIn s) (countIn s) headerLength noLine e ∙ ap (λ (z : Line). allNumbers (linesIn s) ++ numbersOf z) (add-to-no-line (totalOf (linesIn s)))
 
 -- the line of a record that was read
 abbrev pub recordLine : Header → SiteAnswer → RecordLine
@@ -89,7 +89,7 @@ recordLine header (reading.Refused number) = Unread
 recordLine header (reading.Read x n) = Next (lineOf editionOne header x) n
 
 -- no number of a line is above a number
-pub record Within (most : ℕ) (line : Line) : Type 0 where
+pub record LineAtMost (most : ℕ) (line : Line) : Type 0 where
   pub predicted-low : line .«predicted_low» ≤ most
   pub predicted-high : line .«predicted_high» ≤ most
   pub expected-low : line .«expected_low» ≤ most

@@ -25,14 +25,14 @@ use Rattle.project.specs.Fields.{valuesOf}
 use Rattle.report.specs.declared.fill.RecordLine.{RecordLine}
 use Rattle.report.specs.declared.fill.RecordLine.the-variants.{Next, Unread}
 use Rattle.project.specs.Causes.{reportLength}
-use Rattle.report.specs.Report.{numbersOf, noLine, plus}
-use Rattle.report.specs.Fill.{fillFrom, Passed, passed, recordLine, Within}
+use Rattle.report.specs.Report.{numbersOf, noLine, addLine}
+use Rattle.report.specs.Fill.{fillFrom, Passed, passed, recordLine, LineAtMost}
 
 -- the most that a line holds
 abbrev pub lineMost : ℕ
 lineMost = 100000000000000
 
-pub wider : {line : Line} → Within lineMost line → Within 1000000000000000000 line
+pub wider : {line : Line} → LineAtMost lineMost line → LineAtMost 1000000000000000000 line
 wider w = record {
   predicted-low = omega (arith, w .predicted-low);
   predicted-high = omega (arith, w .predicted-high);
@@ -41,16 +41,16 @@ wider w = record {
 }
 
 -- what the loop keeps before record i, at its place, with the totals so far
-pub record Kept (header : Header) (s : List ℕ) (n : ℕ) (whole : List ℕ) (i at : ℕ) (total : Line) (report : List ℕ) : Type 0 where
+pub record Filling (header : Header) (s : List ℕ) (n : ℕ) (whole : List ℕ) (i at : ℕ) (total : Line) (report : List ℕ) : Type 0 where
   pub few : i ≤ n
   pub inside : at ≤ length s
   pub near : at ≤ headerLength + i * longest
-  pub small : Within (i * lineMost) total
+  pub small : LineAtMost (i * lineMost) total
   pub scanned : scanRecords n (n - i) at s ≡ Accepted n
   pub filled : sets report (4 * i) (fillFrom header (n - i) at total s) ≡ whole
 
-module _ (header : Header) (limits : HeaderMost header) (s : List ℕ) (n : ℕ) (whole : List ℕ) (i at : ℕ) (total : Line) (report : List ℕ)
-    (k : Kept header s n whole i at total report) (more : i < n) (most : n ≤ mostSites) where
+module _ {header : Header} (limits : HeaderMost header) {s : List ℕ} {n : ℕ} {whole : List ℕ} {i at : ℕ} {total : Line} {report : List ℕ}
+    (k : Filling header s n whole i at total report) (more : i < n) (most : n ≤ mostSites) where
   left : n - i ≡ suc (n - (i + 1))
   left = omega arith
 
@@ -58,13 +58,13 @@ module _ (header : Header) (limits : HeaderMost header) (s : List ℕ) (n : ℕ)
   this = passed n (n - (i + 1)) at s (rw left at (k .scanned))
 
   -- a record is always read
-  pub always-read : (answer : RecordLine) → answer ≡ recordLine header (readSite (drop at s)) → answer ≡ Unread → ⊥
-  always-read answer e u =
+  pub always-read : {answer : RecordLine} → answer ≡ recordLine header (readSite (drop at s)) → answer ≡ Unread → ⊥
+  always-read e u =
       let z : _≡_ {A = RecordLine} Unread (Next (lineOf editionOne header (this .site)) (this .bytes)) = sym u ∙ e ∙ ap (recordLine header) (this .is) in
       let y : _≡_ {A = ℕ} 0 1 = cc in
       omega arith
 
-  module _ (line : Line) (bytes : ℕ) (is : Next line bytes ≡ recordLine header (readSite (drop at s))) where
+  module _ {line : Line} {bytes : ℕ} (is : Next line bytes ≡ recordLine header (readSite (drop at s))) where
     same : Next line bytes ≡ Next (lineOf editionOne header (this .site)) (this .bytes)
     same = is ∙ ap (recordLine header) (this .is)
 
@@ -74,13 +74,13 @@ module _ (header : Header) (limits : HeaderMost header) (s : List ℕ) (n : ℕ)
     bytes-is : bytes ≡ this .bytes
     bytes-is = let e = same in cc
 
-    pub line-within : Within lineMost line
-    line-within =
+    pub line-at-most : LineAtMost lineMost line
+    line-at-most =
         let l = line-small header limits (this .site) (read-valid (drop at s) (this .site) (this .bytes) (this .is)) in
         rw line-is (record { predicted-low = l .predicted-low; predicted-high = l .predicted-high; expected-low = l .expected-low; expected-high = l .expected-high })
 
-    pub total-within : Within 1000000000000000000 total
-    total-within =
+    pub total-at-most : LineAtMost 1000000000000000000 total
+    total-at-most =
         let w = k .small in
         record {
           predicted-low = omega (arith, w .predicted-low, more, most);
@@ -96,10 +96,10 @@ module _ (header : Header) (limits : HeaderMost header) (s : List ℕ) (n : ℕ)
     place-near = omega (arith, bytes-is, read-length (drop at s) (this .site) (this .bytes) (this .is) .at-most, k .near)
 
     -- THE TURN
-    pub kept-on : Kept header s n whole (i + 1) (at + bytes) (plus total line) (sets report (4 * i) (numbersOf line))
+    pub filling-on : Filling header s n whole (i + 1) (at + bytes) (addLine total line) (sets report (4 * i) (numbersOf line))
     unfolding fillFrom
-    kept-on =
-        let l = line-within in
+    filling-on =
+        let l = line-at-most in
         let w = k .small in
         record {
           few = omega arith;
@@ -116,7 +116,7 @@ module _ (header : Header) (limits : HeaderMost header) (s : List ℕ) (n : ℕ)
         }
       where
         rest : List ℕ
-        rest = fillFrom header (n - (i + 1)) (at + bytes) (plus total line) s
+        rest = fillFrom header (n - (i + 1)) (at + bytes) (addLine total line) s
 
         opened : fillFrom header (n - i) at total s ≡ numbersOf line ++ rest
         opened = unfold fillFrom in rw (left, this .is, line-is, bytes-is) refl
@@ -135,9 +135,9 @@ pub record Fillable (s : List ℕ) (header : file.Header) (room : ℕ) : Type 0 
   pub room-for : reportLength (header .sites) ≤ room
 
 -- the loop's start and its end
-pub kept-start : (s : List ℕ) (header : file.Header) (room : ℕ) (report : List ℕ) → Fillable s header room
-    → Kept (valuesOf header) s (header .sites) (sets report 0 (fillFrom (valuesOf header) (header .sites) headerLength noLine s)) 0 headerLength noLine report
-kept-start s header room report f =
+pub filling-start : (s : List ℕ) (header : file.Header) (room : ℕ) (report : List ℕ) → Fillable s header room
+    → Filling (valuesOf header) s (header .sites) (sets report 0 (fillFrom (valuesOf header) (header .sites) headerLength noLine s)) 0 headerLength noLine report
+filling-start s header room report f =
     let e : header .sites - 0 ≡ header .sites = omega arith in
     record {
       few = omega arith;
@@ -148,10 +148,10 @@ kept-start s header room report f =
       filled = rw e refl;
     }
 
-pub kept-end : (header : Header) (s : List ℕ) (n : ℕ) (whole : List ℕ) (i at : ℕ) (total : Line) (report : List ℕ) → Kept header s n whole i at total report → n ≤ i
-    → sets report (4 * i) (numbersOf total) ≡ whole
+pub filling-end : {header : Header} {s : List ℕ} {n : ℕ} {whole : List ℕ} {i at : ℕ} {total : Line} {report : List ℕ}
+    → Filling header s n whole i at total report → n ≤ i → sets report (4 * i) (numbersOf total) ≡ whole
 unfolding fillFrom
-kept-end header s n whole i at total report k h = let e : n - i ≡ 0 = omega arith in rw e at (k .filled)
+filling-end {n = n} {i = i} k h = let e : n - i ≡ 0 = omega arith in rw e at (k .filled)
 
 -- stores change no length
 pub same-length : (before now after : List ℕ) (i : ℕ) (line : Line) → after ≡ sets now i (numbersOf line) → length now ≡ length before → length after ≡ length before

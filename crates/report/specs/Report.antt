@@ -28,8 +28,8 @@ allNumbers (line ∷ lines) = numbersOf line ++ allNumbers lines
 abbrev pub noLine : Line
 noLine = record { «predicted_low» = 0; «predicted_high» = 0; «expected_low» = 0; «expected_high» = 0 }
 
-abbrev pub plus : Line → Line → Line
-plus x y = record {
+abbrev pub addLine : Line → Line → Line
+addLine x y = record {
   «predicted_low» = x .«predicted_low» + y .«predicted_low»;
   «predicted_high» = x .«predicted_high» + y .«predicted_high»;
   «expected_low» = x .«expected_low» + y .«expected_low»;
@@ -38,7 +38,7 @@ plus x y = record {
 
 unfoldable pub totalOf : List Line → Line
 totalOf [] = noLine
-totalOf (line ∷ lines) = plus line (totalOf lines)
+totalOf (line ∷ lines) = addLine line (totalOf lines)
 
 -- the numbers of a report
 abbrev pub reportNumbers : List Line → List ℕ

@@ -16,7 +16,7 @@ use Rattle.model.specs.Predicted.{Header}
 use Rattle.prediction.specs.PredictedLaws.{millionths-add}
 use Rattle.line.specs.declared.Line.{Line}
 use Rattle.line.specs.Stands.{LineStands}
-use Rattle.report.specs.Report.{noLine, plus, totalOf}
+use Rattle.report.specs.Report.{noLine, addLine, totalOf}
 use Rattle.report.specs.Demand.{sumOver, observedIn, TotalsStand}
 
 -- one line for each site

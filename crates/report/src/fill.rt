@@ -10,9 +10,9 @@ ghost use Rattle.site.specs.Record.{readSite};
 ghost use Rattle.model.specs.Predicted.{headerOf};
 ghost use Rattle.project.specs.File.{headerLength};
 ghost use Rattle.project.specs.Fields.{valuesOf};
-ghost use Rattle.report.specs.Report.{numbersOf, noLine, plus, reportNumbers, linesIn, laidOver};
+ghost use Rattle.report.specs.Report.{numbersOf, noLine, addLine, reportNumbers, linesIn, laidOver};
 ghost use Rattle.report.specs.Demand.{Demand};
-ghost use Rattle.report.specs.Fill.{fillFrom, recordLine, Within};
+ghost use Rattle.report.specs.Fill.{fillFrom, recordLine, LineAtMost};
 ghost use Rattle.report.specs.FillSteps.{Fillable, Acceptable};
 use exponential::stored::stored_exponentials;
 use line::Line;
@@ -72,8 +72,8 @@ fn put_line(line: Line, report: &mut [u64], at: usize)
 
 // Totals with one line more.
 fn add_line(total: Line, line: Line) -> Line
-    requires { ⌜ Within 1000000000000000000 total × Within 1000000000000000000 line ⌝ }
-    ensures { λ r. ⌜ r ≡ plus total line ⌝ }
+    requires { ⌜ LineAtMost 1000000000000000000 total × LineAtMost 1000000000000000000 line ⌝ }
+    ensures { λ r. ⌜ r ≡ addLine total line ⌝ }
 {
     Line {
         predicted_low: total.predicted_low + line.predicted_low,
