@@ -19,19 +19,20 @@ use Rattle.model.specs.Access.{accessDensity, twoWayLane, passing}
 use Rattle.model.specs.Crossings.{leftTurn, rightTurn, sight}
 use Rattle.model.specs.Grade.{onePercent, gradeFirst, gradeSecond}
 
-pub record Within (cap x : Fraction) : Type 0 where
+-- a factor that is positive and at most a cap
+pub record Capped (cap x : Fraction) : Type 0 where
   pub at-most : x ≤ᶠ cap
   pub positive : 0 < x .num
 
 -- by the cross product of two quotients
-quotient-within : (n d m e : ℕ) → 0 < d → 0 < e → 0 < n → n * e ≤ m * d → Within (m // e) (n // d)
+quotient-within : (n d m e : ℕ) → 0 < d → 0 < e → 0 < n → n * e ≤ m * d → Capped (m // e) (n // d)
 quotient-within n d m e hd he hn l = record {
   at-most = record { cross = rw (//-num n d, //-den n d hd, //-num m e, //-den m e he) l };
   positive = rw (//-num n d) hn;
 }
 
 -- a quotient that is at most 1
-one-within : (n d : ℕ) → 0 < d → 0 < n → n ≤ d → Within (whole 1) (n // d)
+one-within : (n d : ℕ) → 0 < d → 0 < n → n ≤ d → Capped (whole 1) (n // d)
 unfolding whole fraction
 one-within n d hd hn l = record {
   at-most = record { cross = rw (//-num n d, //-den n d hd) (omega arith) };
@@ -39,11 +40,11 @@ one-within n d hd hn l = record {
 }
 
 -- 1 under a cap of at least 1
-above-one : (m e : ℕ) → 0 < e → e ≤ m → Within (m // e) (whole 1)
+above-one : (m e : ℕ) → 0 < e → e ≤ m → Capped (m // e) (whole 1)
 unfolding whole fraction
 above-one m e he l = record { at-most = record { cross = rw (//-num m e, //-den m e he) (omega arith) }; positive = lit< tt }
 
-one : Within (whole 1) (whole 1)
+one : Capped (whole 1) (whole 1)
 unfolding whole fraction
 one = record { at-most = ≤ᶠ-refl (whole 1); positive = lit< tt }
 
@@ -158,7 +159,7 @@ unfolding shoulderValue
 shoulder-value-within surface feet traffic h = at-traffic-within (shoulder-column-within surface feet h) traffic
 
 -- an r of at most 1.5 makes a factor of at most 1 + share / 2
-related-within : (share r unit : ℕ) → share ≤ 1000 → 0 < unit → 0 < r → 2 * r ≤ 3 * unit → Within ((2000 + share) // 2000) (ofRelated share r unit)
+related-within : (share r unit : ℕ) → share ≤ 1000 → 0 < unit → 0 < r → 2 * r ≤ 3 * unit → Capped ((2000 + share) // 2000) (ofRelated share r unit)
 related-within share r unit hs hu hr top =
     quotient-within _ _ _ _ (omega arith) (lit< tt) (positive (1000 - share) share (omega arith)) (most (1000 - share) share (omega arith))
   where
@@ -168,13 +169,13 @@ related-within share r unit hs hu hr top =
     most : (rest s : ℕ) → rest + s ≡ 1000 → (rest * unit + s * r) * 2000 ≤ (2000 + s) * (1000 * unit)
     most rest s e = omega (arith, mul-le-mul-left s top, ap (λ z. z * unit) e)
 
-pub lane-within : (share feet traffic : ℕ) → share ≤ 1000 → Within ((2000 + share) // 2000) (ofRelated share (laneValue feet traffic) 100000000)
+pub lane-within : (share feet traffic : ℕ) → share ≤ 1000 → Capped ((2000 + share) // 2000) (ofRelated share (laneValue feet traffic) 100000000)
 lane-within share feet traffic h =
     let v = lane-value-within feet traffic in
     related-within share (laneValue feet traffic) 100000000 h (lit< tt) (omega arith) (omega arith)
 
 pub shoulder-within : (share surface feet traffic : ℕ) → share ≤ 1000 → surface ≤ 3
-    → Within ((2000 + share) // 2000) (ofRelated share (shoulderValue feet traffic * typeValue surface feet) 10000000000)
+    → Capped ((2000 + share) // 2000) (ofRelated share (shoulderValue feet traffic * typeValue surface feet) 10000000000)
 shoulder-within share surface feet traffic h k =
     let v = shoulder-value-within surface feet traffic k in
     related-within share (shoulderValue feet traffic * typeValue surface feet) 10000000000 h (lit< tt) (v .positive) (omega (arith, v .at-most))
@@ -182,22 +183,22 @@ shoulder-within share surface feet traffic h k =
 -- ALIGNMENT
 
 -- the sharpest and shortest curve is 1 + 80.2 / 100 / 0.00155 miles, under 518.42
-pub curve-within : (length radius spirals : ℕ) → 1 ≤ length → 100 ≤ radius → Within (51842 // 100) (curve length radius spirals)
+pub curve-within : (length radius spirals : ℕ) → 1 ≤ length → 100 ≤ radius → Capped (51842 // 100) (curve length radius spirals)
 unfolding curve
 curve-within length radius spirals hl hr =
-    by-test (Within (51842 // 100)) (ltb 8020000 (600 * spirals * radius))
+    by-test (Capped (51842 // 100)) (ltb 8020000 (600 * spirals * radius))
     (λ _. above-one 51842 100 (lit< tt) (lit≤ tt))
     (λ _. bent (155 * length * radius) (600 * spirals * radius) (omega (arith, mul-le-mul hl hr)))
   where
-    bent : (straight spiral : ℕ) → 15500 ≤ straight → Within (51842 // 100) ((straight + (8020000 - spiral)) // straight)
+    bent : (straight spiral : ℕ) → 15500 ≤ straight → Capped (51842 // 100) ((straight + (8020000 - spiral)) // straight)
     bent straight spiral h = quotient-within _ _ _ _ (omega arith) (lit< tt) (omega arith) (omega arith)
 
-pub superelevation-within : (deficiency : ℕ) → deficiency ≤ 100 → Within (13 // 10) (superelevation deficiency)
+pub superelevation-within : (deficiency : ℕ) → deficiency ≤ 100 → Capped (13 // 10) (superelevation deficiency)
 unfolding superelevation
 superelevation-within deficiency h =
-    by-test (Within (13 // 10)) (ltb deficiency 10)
+    by-test (Capped (13 // 10)) (ltb deficiency 10)
     (λ _. above-one 13 10 (lit< tt) (lit≤ tt))
-    (λ _. by-test (Within (13 // 10)) (leb deficiency 20)
+    (λ _. by-test (Capped (13 // 10)) (leb deficiency 20)
     (λ e. quotient-within (940 + 6 * deficiency) 1000 13 10 (lit< tt) (lit< tt) (omega arith) (omega (arith, leb-true deficiency 20 e)))
     (λ _. quotient-within (1000 + 3 * deficiency) 1000 13 10 (lit< tt) (lit< tt) (omega arith) (omega arith)))
 
@@ -209,7 +210,7 @@ powers-within : T (allBelow powerWithin 7)
 unfolding allBelow powerWithin leᶠ _^ᶠ_ _//_ fraction
 powers-within = tt
 
-power-within : (k : ℕ) → k ≤ 6 → Within (onePercent ^ᶠ 6) (onePercent ^ᶠ k)
+power-within : (k : ℕ) → k ≤ 6 → Capped (onePercent ^ᶠ 6) (onePercent ^ᶠ k)
 unfolding powerWithin
 power-within k h =
     let t = all-below powerWithin 7 powers-within k (omega arith) in
@@ -218,22 +219,22 @@ power-within k h =
       positive = ltb→lt _ _ (both-right (leᶠ (onePercent ^ᶠ k) (onePercent ^ᶠ 6)) _ t);
     }
 
-pub grade-first-within : (percent : ℕ) → Within ((127 // 125) ^ᶠ 6) (gradeFirst percent)
+pub grade-first-within : (percent : ℕ) → Capped ((127 // 125) ^ᶠ 6) (gradeFirst percent)
 unfolding gradeFirst
 grade-first-within percent = power-within (min percent 6) (omega arith)
 
-pub grade-second-within : (percent : ℕ) → percent ≤ 12 → Within ((127 // 125) ^ᶠ 6) (gradeSecond percent)
+pub grade-second-within : (percent : ℕ) → percent ≤ 12 → Capped ((127 // 125) ^ᶠ 6) (gradeSecond percent)
 unfolding gradeSecond
 grade-second-within percent h = power-within (percent - 6) (omega arith)
 
 -- ACCESS AND CROSSINGS
 
-pub two-way-lane-within : (present driveways : ℕ) → Within (whole 1) (twoWayLane present driveways)
+pub two-way-lane-within : (present driveways : ℕ) → Capped (whole 1) (twoWayLane present driveways)
 unfolding twoWayLane
 two-way-lane-within present driveways =
-    by-test (Within (whole 1)) (eqb present 1 && leb 5 driveways) (λ _. under-one (accessDensity driveways)) (λ _. one)
+    by-test (Capped (whole 1)) (eqb present 1 && leb 5 driveways) (λ _. under-one (accessDensity driveways)) (λ _. one)
   where
-    under-one : (density : ℕ) → Within (whole 1) ((1199000 + 65 * density) // (1199000 + 100 * density))
+    under-one : (density : ℕ) → Capped (whole 1) ((1199000 + 65 * density) // (1199000 + 100 * density))
     under-one density = one-within _ _ (omega arith) (omega arith) (omega arith)
 
 -- a test passes at each entry of a list
@@ -252,31 +253,31 @@ entry test d td (x ∷ xs) t (suc i) = entry test d td xs (both-right (test x) (
 partOf : (unit part : ℕ) → Bool
 partOf unit part = both (ltb 0 part) (leb part unit)
 
-part-within : (unit part : ℕ) → T (partOf unit part) → Within (whole 1) (part // unit)
+part-within : (unit part : ℕ) → T (partOf unit part) → Capped (whole 1) (part // unit)
 unfolding partOf
 part-within unit part t =
     let least = ltb→lt _ _ (both-left (ltb 0 part) _ t) in
     let most = leb→le _ _ (both-right (ltb 0 part) _ t) in
     one-within part unit (omega arith) least most
 
-pub passing-within : (kind : ℕ) → Within (whole 1) (passing kind)
+pub passing-within : (kind : ℕ) → Capped (whole 1) (passing kind)
 unfolding passing partOf allOf
 passing-within kind = part-within 100 _ (entry (partOf 100) 100 tt (100 ∷ 75 ∷ 65 ∷ []) tt kind)
 
 -- a table of thousandths by kind and count of lanes
-turn-within : (table : List (List ℕ)) → T (allOf (allOf (partOf 1000)) table) → (kind lanes : ℕ) → Within (whole 1) (getD (getD table kind []) lanes 1000 // 1000)
+turn-within : (table : List (List ℕ)) → T (allOf (allOf (partOf 1000)) table) → (kind lanes : ℕ) → Capped (whole 1) (getD (getD table kind []) lanes 1000 // 1000)
 unfolding partOf allOf
 turn-within table t kind lanes =
     part-within 1000 _ (entry (partOf 1000) 1000 tt (getD table kind []) (entry (allOf (partOf 1000)) [] tt table t kind) lanes)
 
-pub left-turn-within : (kind lanes : ℕ) → Within (whole 1) (leftTurn editionOne kind lanes)
+pub left-turn-within : (kind lanes : ℕ) → Capped (whole 1) (leftTurn editionOne kind lanes)
 unfolding leftTurn editionOne partOf allOf
 left-turn-within kind lanes = turn-within leftTurnOne tt kind lanes
 
-pub right-turn-within : (kind lanes : ℕ) → Within (whole 1) (rightTurn editionOne kind lanes)
+pub right-turn-within : (kind lanes : ℕ) → Capped (whole 1) (rightTurn editionOne kind lanes)
 unfolding rightTurn editionOne partOf allOf
 right-turn-within kind lanes = turn-within rightTurnOne tt kind lanes
 
-pub sight-within : (quadrants : ℕ) → quadrants ≤ 4 → Within (6 // 5) (sight quadrants)
+pub sight-within : (quadrants : ℕ) → quadrants ≤ 4 → Capped (6 // 5) (sight quadrants)
 unfolding sight
 sight-within quadrants h = quotient-within (100 + 5 * quadrants) 100 6 5 (lit< tt) (lit< tt) (omega arith) (omega arith)
