@@ -8,17 +8,15 @@ use lib.ListN.{length, getD, take, drop, length-append, length-drop, take-append
 use lib.Seq.{take-all, length-take-le, drop-append-le}
 use lib.Dec.{ltb, leb, eqb}
 use borrow.Author.Tests.{ltb-false, lt-ltb, le-ltb, leb-true, leb-false, eqb-true, eqb-false}
-use Rattle.site.specs.declared.rules.Rule.{Rule}
 use Rattle.site.specs.declared.values.Site.{Site}
 use Rattle.site.specs.declared.values.SiteAnswer.{SiteAnswer}
 use Rattle.site.specs.declared.values.SiteAnswer.the-variants as site
-use Rattle.site.specs.Rules.{entriesOf, lastKind, bits}
-use Rattle.site.specs.Record.{word, restOf, words, curved, kindIn, mapIn, rulesIn, lengthIn, readSite}
-use Rattle.site.specs.Digits.{digit-most}
-use Rattle.site.specs.Tested.{bitCount, sane}
+use Rattle.site.specs.Rules.{entriesOf, lastKind}
+use Rattle.site.specs.Record.{word, curved, kindIn, mapIn, rulesIn, lengthIn, readSite}
+use Rattle.site.specs.Tested.{tested-rules}
 use Rattle.site.specs.Truth.{or-left}
 use Rattle.site.specs.BytesRead.{headRefused, bears, past-nothing}
-use Rattle.site.specs.Theorems.{longest, read-length}
+use Rattle.site.specs.Theorems.{words-most, longest, read-length}
 use Rattle.project.specs.declared.ScanAnswer.the-variants.{Refused}
 use Rattle.project.specs.File.{headerLength, countIn, mostSites, headerNumber, onward, scanRecords, scanFile}
 use Rattle.project.specs.Headed.{header-fine}
@@ -29,11 +27,6 @@ abbrev pub longestFile : ℕ
 longestFile = headerLength + mostSites * longest
 
 -- no more bytes bear on a record's answer than the longest record has
-words-most : (rules : List Rule) (map : ℕ) → words rules map ≤ bitCount rules
-unfolding words bitCount
-words-most [] map = omega arith
-words-most (rule ∷ rules) map = omega (arith, digit-most (bits rule) map, words-most rules (restOf rule map))
-
 pub bears-most : (s : List ℕ) → bears s ≤ longest
 unfolding bears
 bears-most s = by (ltb (length s) 3) (headRefused s) refl
@@ -43,7 +36,7 @@ bears-most s = by (ltb (length s) 3) (headRefused s) refl
     by false true e = omega arith
     by false false e =
         let known = ltb-false lastKind (kindIn s) (or-left _ _ e) in
-        let few = sane (kindIn s) (curved (entriesOf (kindIn s)) (mapIn s)) known .few in
+        let few = tested-rules (kindIn s) (curved (entriesOf (kindIn s)) (mapIn s)) known .few in
         let w = words-most (rulesIn s) (mapIn s) in
         omega arith
 

@@ -19,7 +19,7 @@ pub record Accepted (s : List ℕ) : Type 0 where
   pub lack : lacks (rulesIn s) (mapIn s) ≡ false
   pub miss : misses (rulesIn s) (mapIn s) ≡ false
   pub full : 2 * words (rulesIn s) (mapIn s) ≤ length (drop 3 s)
-  pub fine : fieldsNumber (rulesIn s) (mapIn s) (drop 3 s) ≡ 0
+  pub no-field-refused : fieldsNumber (rulesIn s) (mapIn s) (drop 3 s) ≡ 0
 
 pub no-refusal : (s : List ℕ) → Accepted s → refusalOf s ≡ 0
 unfolding refusalOf recordNumber
@@ -31,7 +31,7 @@ no-refusal s a =
       a .miss,
       le-ltb (length (drop 3 s)) (2 * words (rulesIn s) (mapIn s)) (a .full),
     )
-    (a .fine)
+    (a .no-field-refused)
 
 pub accept : (s : List ℕ) → Accepted s → readSite s ≡ Read (siteIn s) (lengthIn s)
 unfolding readSite
@@ -51,7 +51,7 @@ accepted s e =
       lack = g3 .0;
       miss = g4 .0;
       full = ltb-false (length (drop 3 s)) (2 * words (rulesIn s) (mapIn s)) (g5 .0);
-      fine = g5 .1;
+      no-field-refused = g5 .1;
     }
 
 -- an answer by a number has that number

@@ -17,7 +17,7 @@ use Rattle.site.specs.Rules.{entriesOf, lastKind, bits}
 use Rattle.site.specs.Writing.{slotsOf, curveHeld, rulesHeld, fits, allFit, slotBit, mapOf, slotBytes, fieldBytes, bytesOf, recordBy, recordOf, sound, Valid}
 use Rattle.site.specs.Truth.{and-left, and-right}
 use Rattle.site.specs.Digits.{Bytes}
-use Rattle.site.specs.Tested.{bitCount, top, topsLow, bits-most, allows-top, sane}
+use Rattle.site.specs.Tested.{bitCount, top, topsLow, bits-most, allows-top, tested-rules}
 use Rattle.site.specs.WriteRead.{slot-bit-most}
 
 -- a map is below 2 to its count of bits
@@ -87,7 +87,7 @@ record-bytes site v =
     let rules = rulesHeld (site .kind) (slotsOf site) in
     let hk : site .kind ≤ lastKind = leb-true (site .kind) lastKind (and-left (leb (site .kind) lastKind) (allFit rules (slotsOf site)) (v .is-sound)) in
     let fit = and-right (leb (site .kind) lastKind) (allFit rules (slotsOf site)) (v .is-sound) in
-    let s = sane (site .kind) (curveHeld (entriesOf (site .kind)) (slotsOf site)) hk in
+    let s = tested-rules (site .kind) (curveHeld (entriesOf (site .kind)) (slotsOf site)) hk in
     let small = map-small rules (slotsOf site) 0 (s .few) in
     let map = mapOf rules (slotsOf site) in
     let fields = bytesOf rules (slotsOf site) in

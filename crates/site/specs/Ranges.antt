@@ -8,11 +8,12 @@ use lib.Dec.{leb}
 use borrow.Author.Tests.{leb-true}
 use Rattle.site.specs.declared.rules.Rule.{Rule}
 use Rattle.site.specs.declared.rules.Rule.the-variants.{Foreign, Lacking, Needed, Optional, Default}
+use Rattle.site.specs.declared.rules.Entry.the-variants.{OnCurve}
 use Rattle.site.specs.declared.values.Slot.{Slot}
 use Rattle.site.specs.declared.values.Slot.the-variants.{Absent, Number}
 use Rattle.site.specs.declared.values.Site.{Site}
 use Rattle.site.specs.Rules as rules
-use Rattle.site.specs.Rules.{entriesOf, lastKind, segment, crossing, inside, settle}
+use Rattle.site.specs.Rules.{entriesOf, lastKind, segment, crossing, inside, settled, settle}
 use Rattle.site.specs.Writing.{slotsOf, curveHeld, rulesHeld, fits, allFit, sound, Valid}
 use Rattle.site.specs.Truth.{and-left, and-right}
 
@@ -54,14 +55,14 @@ fit-obeys (Default low high usual) (Number value) e = within low high value e
 
 -- every slot by its rule
 abbrev AllObey : List Rule → List Slot → Type 0
-AllObey [] slots = ℕ
-AllObey (rule ∷ rules) [] = ℕ
+AllObey [] slots = Unit
+AllObey (rule ∷ rules) [] = Unit
 AllObey (rule ∷ rules) (slot ∷ slots) = Obeys rule slot × AllObey rules slots
 
 all-obey : (rules : List Rule) (slots : List Slot) → allFit rules slots ≡ true → AllObey rules slots
 unfolding allFit
-all-obey [] slots e = 0
-all-obey (rule ∷ rules) [] e = 0
+all-obey [] slots e = tt
+all-obey (rule ∷ rules) [] e = tt
 all-obey (rule ∷ rules) (slot ∷ slots) e =
     (fit-obeys rule slot (and-left (fits rule slot) (allFit rules slots) e), all-obey rules slots (and-right (fits rule slot) (allFit rules slots) e))
 
@@ -114,9 +115,16 @@ unfolding sound
 valid-kind site v =
     leb-true (site .kind) lastKind (and-left (leb (site .kind) lastKind) (allFit (rulesHeld (site .kind) (slotsOf site)) (slotsOf site)) (v .is-sound))
 
+road-by : (site : Site) (c : Bool)
+    → Obeys (settled c (OnCurve rules.curveLength)) (site .«curve_length») → Obeys (settled c (OnCurve rules.radius)) (site .radius)
+    → Obeys (settled c (OnCurve rules.spiralEnds)) (site .«spiral_ends») → Obeys (settled c (OnCurve rules.deficiency)) (site .deficiency)
+    → StraightRoad site ⊎ CurvedRoad site
+road-by site true l r s d = inr (record { «curve_length» = l; radius = r; «spiral_ends» = s; deficiency = d })
+road-by site false l r s d = inl (record { «curve_length» = l; radius = r; «spiral_ends» = s; deficiency = d })
+
 segment-by : (site : Site) (c : Bool) → allFit (settle c segment) (slotsOf site) ≡ true → SegmentRanges site
-segment-by site true e =
-    let h = all-obey (settle true segment) (slotsOf site) e in
+segment-by site c e =
+    let h = all-obey (settle c segment) (slotsOf site) e in
     let r4 = h .1 .1 .1 .1 in
     let r7 = r4 .1 .1 .1 in
     let r11 = r7 .1 .1 .1 .1 in
@@ -127,26 +135,7 @@ segment-by site true e =
       «lane_width» = r4 .0;
       «shoulder_width» = r4 .1 .0;
       «shoulder_type» = r4 .1 .1 .0;
-      road = inr (record { «curve_length» = r7 .0; radius = r7 .1 .0; «spiral_ends» = r7 .1 .1 .0; deficiency = r7 .1 .1 .1 .0 });
-      grade = r11 .0;
-      driveways = r11 .1 .0;
-      «two_way_lane» = r11 .1 .1 .0;
-      passing = r11 .1 .1 .1 .0;
-      «hazard_rating» = r11 .1 .1 .1 .1 .0;
-    }
-segment-by site false e =
-    let h = all-obey (settle false segment) (slotsOf site) e in
-    let r4 = h .1 .1 .1 .1 in
-    let r7 = r4 .1 .1 .1 in
-    let r11 = r7 .1 .1 .1 .1 in
-    record {
-      traffic = h .0;
-      length = h .1 .0;
-      observed = h .1 .1 .1 .0;
-      «lane_width» = r4 .0;
-      «shoulder_width» = r4 .1 .0;
-      «shoulder_type» = r4 .1 .1 .0;
-      road = inl (record { «curve_length» = r7 .0; radius = r7 .1 .0; «spiral_ends» = r7 .1 .1 .0; deficiency = r7 .1 .1 .1 .0 });
+      road = road-by site c (r7 .0) (r7 .1 .0) (r7 .1 .1 .0) (r7 .1 .1 .1 .0);
       grade = r11 .0;
       driveways = r11 .1 .0;
       «two_way_lane» = r11 .1 .1 .0;

@@ -20,14 +20,14 @@ use Rattle.site.specs.Record.{word, bitOf, restOf, stands, lackedBitStan
 use Rattle.site.specs.Writing.{slotsOf, curveHeld, rulesHeld, fits, allFit, slotBit, mapOf, fieldBytes, bytesOf, recordBy, recordOf, sound, Valid}
 use Rattle.site.specs.Truth.{and-left, and-right, or-left, or-right, both-zero}
 use Rattle.site.specs.Digits.{Bytes, digit-whole, digit-most, bytes-of-word}
-use Rattle.site.specs.Tested.{right, rulesRight, entryRight, entriesRight, bits-most, sane}
+use Rattle.site.specs.Tested.{right, rulesRight, entryRight, entriesRight, bits-most, tested-rules}
 use Rattle.site.specs.Accepted.{Accepted, reading}
 
 -- a value that stands without refusal is allowed, and is no default
-value-fine : (a d : Bool) → _≡_ {A = ℕ} (cond a (cond d 9 0) 8) 0 → (a ≡ true) × (d ≡ false)
-value-fine true true e = let z : ⊥ = omega arith in absurd z
-value-fine true false e = (refl, refl)
-value-fine false d e = let z : ⊥ = omega arith in absurd z
+value-taken : (a d : Bool) → _≡_ {A = ℕ} (cond a (cond d 9 0) 8) 0 → (a ≡ true) × (d ≡ false)
+value-taken true true e = let z : ⊥ = omega arith in absurd z
+value-taken true false e = (refl, refl)
+value-taken false d e = let z : ⊥ = omega arith in absurd z
 
 -- an absent field is not written again
 absent-unwritten : (rule : Rule) → slotBit rule (absentOf rule) ≡ 0
@@ -47,7 +47,7 @@ module _ (rule : Rule) (map : ℕ) (s : List ℕ) (h : 2 * bitOf rule map ≤ le
   forth-standing : bitOf rule map ≡ 1 → fieldNumber rule map s ≡ 0 → Forth rule map s
   forth-standing e nu =
       let n : valueNumber rule (word s) ≡ 0 = rw e at nu in
-      let q = value-fine (allows rule (word s)) (holds (absentOf rule) (word s)) n in
+      let q = value-taken (allows rule (word s)) (holds (absentOf rule) (word s)) n in
       let one : bits rule ≡ 1 = omega (arith, digit-most (bits rule) map, bits-most rule) in
       let two : 2 ≤ length s = omega arith in
       record { fit = rw e (q .0); bit = rw (e, q .1) one; bytes = λ bytes. rw (e, q .1, one) (bytes-of-word s bytes two) }
@@ -128,7 +128,7 @@ same-curve kind map s hk = by (curved (entriesOf kind) map) refl
     by : (c : Bool) → curved (entriesOf kind) map ≡ c
         → curveHeld (entriesOf kind) (fieldsValues (settle c (entriesOf kind)) map s) ≡ c
     by true e = curve-read (entriesOf kind) map s e
-    by false e = straight-read (entriesOf kind) map s (sane kind false hk .entries-right) e
+    by false e = straight-read (entriesOf kind) map s (tested-rules kind false hk .entries-right) e
 
 -- the slots of a site are those that it was made of
 firsts : ℕ → ℕ → List Slot → List Slot
@@ -154,11 +154,11 @@ header (k ∷ s) bytes h = ap (λ (l : List ℕ). k ∷ l) (bytes-of-word s (λ 
 module _ (s : List ℕ) (a : Accepted s) where
   fields : Forths (rulesIn s) (mapIn s) (drop 3 s)
   fields =
-      forths (rulesIn s) (mapIn s) (drop 3 s) (sane (kindIn s) (curved (entriesOf (kindIn s)) (mapIn s)) (a .known) .rights) (a .full) (a .lack) (a .miss) (a .fine)
+      forths (rulesIn s) (mapIn s) (drop 3 s) (tested-rules (kindIn s) (curved (entriesOf (kindIn s)) (mapIn s)) (a .known) .rights) (a .full) (a .lack) (a .miss) (a .no-field-refused)
 
   slots-again : slotsOf (siteIn s) ≡ fieldsValues (rulesIn s) (mapIn s) (drop 3 s)
   slots-again =
-      slots-of-site (kindIn s) (fieldsValues (rulesIn s) (mapIn s) (drop 3 s)) (fields .count ∙ sane (kindIn s) (curved (entriesOf (kindIn s)) (mapIn s)) (a .known) .count)
+      slots-of-site (kindIn s) (fieldsValues (rulesIn s) (mapIn s) (drop 3 s)) (fields .count ∙ tested-rules (kindIn s) (curved (entriesOf (kindIn s)) (mapIn s)) (a .known) .count)
 
   rules-again : rulesHeld (kindIn s) (fieldsValues (rulesIn s) (mapIn s) (drop 3 s)) ≡ rulesIn s
   rules-again =

@@ -124,7 +124,7 @@ settle-tops false (OnCurve rule ∷ entries) e =
     settle-tops false entries (and-right (ltb (top rule) 65535) (topsLow (settle true entries)) e)
 
 -- what the test says of a kind, on a curve or not
-pub record Sane (entries : List Entry) (curved : Bool) : Type 0 where
+pub record TestedRules (entries : List Entry) (curved : Bool) : Type 0 where
   pub count : length (settle curved entries) ≡ slotCount
   pub few : bitCount (settle curved entries) ≤ 15
   pub rights : rulesRight (settle curved entries) ≡ true
@@ -132,8 +132,8 @@ pub record Sane (entries : List Entry) (curved : Bool) : Type 0 where
   pub needs-curve : hasCurve entries ≡ true → needsCurve entries ≡ true
   pub tops-low : topsLow (settle curved entries) ≡ true
 
-pub sane : (kind : ℕ) (curved : Bool) → kind ≤ lastKind → Sane (entriesOf kind) curved
-sane kind curved h =
+pub tested-rules : (kind : ℕ) (curved : Bool) → kind ≤ lastKind → TestedRules (entriesOf kind) curved
+tested-rules kind curved h =
     let entries = entriesOf kind in
     let t = table-tested kind h in
     let c = and-left (eqb (length entries) slotCount) _ t in
@@ -155,7 +155,7 @@ sane kind curved h =
     }
 
 pub entries-count : (kind : ℕ) → kind ≤ lastKind → length (entriesOf kind) ≡ slotCount
-entries-count kind h = sym (length-map (entriesOf kind) (settled true)) ∙ sane kind true h .count
+entries-count kind h = sym (length-map (entriesOf kind) (settled true)) ∙ tested-rules kind true h .count
 
 -- a rule's own laws, each by the cases of a rule
 pub bits-most : (rule : Rule) → bits rule ≤ 1

@@ -1,32 +1,49 @@
 -- What other crates cite of the site reader and the site writer. The round trips themselves are `write-read` of WriteRead and
 -- `read-write` of ReadWrite; `past-nothing`, `same-for-any` and `one-exactly` of BytesRead say which bytes bear on an answer.
 use mathlib.Core.Path.{_≡_, refl}
-use mathlib.Core.Bool.{Bool, true, false, cond}
+use mathlib.Core.Bool.{Bool, true, false, cond, _||_, not, true≢false}
 use mathlib.Core.List.{List, [], _∷_, _++_}
 use mathlib.Core.Logic.{_↔_}
-use Prim.Native.Nat.{ℕ, _+_, _<_, _≤_}
+use Prim.Native.Nat.{ℕ, zero, suc, _+_, _/_, _%_, _<_, _≤_}
 use native.Mathlib.Omega.{arith}
 use lib.ListN.{length, drop, length-drop}
-use lib.Dec.{leb}
-use borrow.Author.Tests.{leb-true, leb-false, le-leb, lt-leb}
+use lib.Dec.{leb, eqb}
+use borrow.Author.Tests.{leb-true, leb-false, le-leb, lt-leb, eqb-true}
 use Rattle.site.specs.declared.rules.Rule.{Rule}
 use Rattle.site.specs.declared.values.Site.{Site}
 use Rattle.site.specs.declared.values.SiteAnswer.the-variants.{Read}
-use Rattle.site.specs.Rules.{entriesOf, bits}
-use Rattle.site.specs.Record.{curved, restOf, words, kindIn, mapIn, rulesIn, readSite}
+use Rattle.site.specs.Rules.{entriesOf, lastKind, bits}
+use Rattle.site.specs.Record.{anyField, misses, curved, rulesRead, restOf, words, kindIn, mapIn, rulesIn, readSite}
 use Rattle.site.specs.Writing.{recordOf, sound, Valid, writeRefusal, writeInto}
 use Rattle.site.specs.Digits.{Bytes, digit-most}
-use Rattle.site.specs.Tested.{bitCount, sane}
+use Rattle.site.specs.Tested.{bitCount, tested-rules}
 use Rattle.site.specs.Accepted.{reading}
 use Rattle.site.specs.WriteRead.{write-read}
 use Rattle.site.specs.ReadWrite.{read-valid}
 use Rattle.site.specs.Bytes.{record-bytes, bytes-append, bytes-nil}
 
 -- a record has no more fields than its rules have bits
-words-most : (rules : List Rule) (map : ℕ) → words rules map ≤ bitCount rules
+pub words-most : (rules : List Rule) (map : ℕ) → words rules map ≤ bitCount rules
 unfolding words bitCount
 words-most [] map = omega arith
 words-most (rule ∷ rules) map = omega (arith, digit-most (bits rule) map, words-most rules (restOf rule map))
+
+-- a record that misses no needed bit has two fields or more: its traffic, and a segment its length or a crossing its minor traffic
+both-stand : (x y : ℕ) (later : Bool) → (not (eqb x 1) || (not (eqb y 1) || later)) ≡ false → 2 ≤ x + y
+both-stand x y later m = by (eqb x 1) (eqb y 1) refl refl m
+  where
+    by : (a b : Bool) → eqb x 1 ≡ a → eqb y 1 ≡ b → (not a || (not b || later)) ≡ false → 2 ≤ x + y
+    by true true p q e = omega (arith, eqb-true x 1 p, eqb-true y 1 q)
+    by true false p q e = absurd (true≢false e)
+    by false b p q e = absurd (true≢false e)
+
+words-least : (kind map : ℕ) → kind ≤ lastKind → misses (rulesRead kind map) map ≡ false → 2 ≤ words (rulesRead kind map) map
+unfolding entriesOf anyField words
+words-least zero map h m = omega (arith, both-stand (map % 2) (map / 2 % 2) _ m)
+words-least (suc zero) map h m = omega (arith, both-stand (map % 2) (map / 2 / 1 % 2) _ m)
+words-least (suc (suc zero)) map h m = omega (arith, both-stand (map % 2) (map / 2 / 1 % 2) _ m)
+words-least (suc (suc (suc zero))) map h m = omega (arith, both-stand (map % 2) (map / 2 / 1 % 2) _ m)
+words-least (suc (suc (suc (suc kind)))) map h m = let z : ⊥ = omega arith in absurd z
 
 -- kind, map and 15 fields
 abbrev pub longest : ℕ
@@ -34,7 +51,7 @@ longest = 33
 
 -- the length of an accepted record
 pub record RecordLength (s : List ℕ) (n : ℕ) : Type 0 where
-  pub at-least : 3 ≤ n
+  pub at-least : 7 ≤ n
   pub at-most : n ≤ longest
   pub within : n ≤ length s
 
@@ -43,9 +60,9 @@ read-length s site n e =
     let r = reading s site n e in
     let a = r .accepts in
     let w = words-most (rulesIn s) (mapIn s) in
-    let b = sane (kindIn s) (curved (entriesOf (kindIn s)) (mapIn s)) (a .known) .few in
+    let b = tested-rules (kindIn s) (curved (entriesOf (kindIn s)) (mapIn s)) (a .known) .few in
     record {
-      at-least = omega (arith, r .length-is);
+      at-least = omega (arith, r .length-is, words-least (kindIn s) (mapIn s) (a .known) (a .miss));
       at-most = omega (arith, r .length-is);
       within = omega (arith, r .length-is, a .full, a .long, length-drop 3 s);
     }

@@ -20,7 +20,7 @@ use Rattle.site.specs.Record.{bitOf, stands, lackedBitStands, neededBitA
 use Rattle.site.specs.Writing.{slotsOf, curveHeld, rulesHeld, fits, allFit, slotBit, mapOf, slotBytes, fieldBytes, bytesOf, recordBy, recordOf, sound, Valid}
 use Rattle.site.specs.Truth.{and-left, and-right, not-both}
 use Rattle.site.specs.Digits.{digit-low, digit-rest, two-bytes}
-use Rattle.site.specs.Tested.{right, entryRight, entriesRight, hasCurve, needsCurve, bits-most, allows-bit, needed-bit, sane, entries-count}
+use Rattle.site.specs.Tested.{right, entryRight, entriesRight, hasCurve, needsCurve, bits-most, allows-bit, needed-bit, tested-rules, entries-count}
 use Rattle.site.specs.Accepted.{Accepted, accept}
 
 absent-is : (slot : Slot) → absent slot ≡ true → slot ≡ Absent
@@ -215,15 +215,15 @@ curve-kept kind slots hk l f = by (curveHeld (entriesOf kind) slots) refl f
 
     by : (c : Bool) → curveHeld (entriesOf kind) slots ≡ c → allFit (settle c (entriesOf kind)) slots ≡ true
         → curved (entriesOf kind) (mapOf (settle c (entriesOf kind)) slots) ≡ c
-    by true q g = curve-written (entriesOf kind) slots same g (sane kind true hk .needs-curve (held-has (entriesOf kind) slots q))
-    by false q g = straight-written (entriesOf kind) slots (sane kind false hk .entries-right) same q
+    by true q g = curve-written (entriesOf kind) slots same g (tested-rules kind true hk .needs-curve (held-has (entriesOf kind) slots q))
+    by false q g = straight-written (entriesOf kind) slots (tested-rules kind false hk .entries-right) same q
 
 module _ (kind : ℕ) (slots : List Slot) (t : List ℕ) (hk : kind ≤ lastKind) (l : length slots ≡ slotCount) (f : allFit (rulesHeld kind slots) slots ≡ true) where
   same-rules : rulesRead kind (mapOf (rulesHeld kind slots) slots) ≡ rulesHeld kind slots
   same-rules = ap (λ (c : Bool). settle c (entriesOf kind)) (curve-kept kind slots hk l f)
 
   same-count : length slots ≡ length (rulesHeld kind slots)
-  same-count = l ∙ sym (sane kind (curveHeld (entriesOf kind) slots) hk .count)
+  same-count = l ∙ sym (tested-rules kind (curveHeld (entriesOf kind) slots) hk .count)
 
   read-back : readSite (recordBy (rulesHeld kind slots) kind slots ++ t) ≡ Read (siteOf kind slots) (length (recordBy (rulesHeld kind slots) kind slots))
   unfolding recordBy
@@ -240,7 +240,7 @@ module _ (kind : ℕ) (slots : List Slot) (t : List ℕ) (hk : kind ≤ lastKind
         lack = rw (two-bytes map, same-rules) (bs .lack);
         miss = rw (two-bytes map, same-rules) (bs .miss);
         full = rw (two-bytes map, same-rules) (omega (arith, length-append (bytesOf rules slots) t));
-        fine = rw (two-bytes map, same-rules) (bs .number);
+        no-field-refused = rw (two-bytes map, same-rules) (bs .number);
       }
       in
       accept s a ∙ rw (two-bytes map, same-rules, bs .values) (ap (Read (siteOf kind slots)) (omega arith))

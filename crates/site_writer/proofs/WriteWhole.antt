@@ -17,7 +17,7 @@ use Rattle.site.specs.declared.values.WriteAnswer.the-variants.{Written, Unwrit
 use Rattle.site.specs.Rules.{entriesOf, lastKind}
 use Rattle.site.specs.Record.{words}
 use Rattle.site.specs.Writing.{slotsOf, curveHeld, rulesHeld, allFit, mapOf, bytesOf, recordBy, recordOf, sound, writeRefusal, writeAnswer, writeInto}
-use Rattle.site.specs.Tested.{sane}
+use Rattle.site.specs.Tested.{tested-rules}
 use Rattle.site.specs.WriteRead.{length-bytes, length-record}
 use Rattle.site.specs.Promises.{WritesSite, writes-site}
 
@@ -52,7 +52,7 @@ module _ (site : Site) (before : List ℕ) where
       record-is = rw (er, es)
 
       counts : length slots ≡ length rules
-      counts = rw (er, es) (sym (sane (site .kind) (curveHeld (entriesOf (site .kind)) (slotsOf site)) hk .count))
+      counts = rw (er, es) (sym (tested-rules (site .kind) (curveHeld (entriesOf (site .kind)) (slotsOf site)) hk .count))
 
       pub fields-long : length (bytesOf rules slots) ≡ 2 * n
       fields-long = rw (en, em) (length-bytes rules slots counts)

@@ -15,7 +15,7 @@ use Rattle.site.specs.Rules.{entriesOf, lastKind, slotCount, allows}
 use Rattle.site.specs.Writing.{curveHeld, rulesHeld, fits, allFit, sound}
 use Rattle.unit.specs.SiteNumbers.{slotFrom, kindFrom, siteFrom, siteNumbers}
 use Rattle.site.specs.Truth.{and-left, and-right}
-use Rattle.site.specs.Tested.{top, topsLow, allows-top, sane}
+use Rattle.site.specs.Tested.{top, topsLow, allows-top, tested-rules}
 use Rattle.site.specs.ReadWrite.{slots-of-site}
 
 fit-at : (rules : List Rule) (slots : List Slot) (i : ℕ) (d : Slot) → allFit rules slots ≡ true → i < length rules
@@ -51,7 +51,7 @@ module _ (numbers : List ℕ) (count : length numbers ≡ siteNumbers) (i : ℕ)
       let rules = rulesHeld kind slots in
       let hk : kind ≤ lastKind = leb-true kind lastKind (and-left (leb kind lastKind) _ e) in
       let fit : allFit rules slots ≡ true = rw (slots-of-site kind slots slots-count) at (and-right (leb kind lastKind) _ e) in
-      let s = sane kind (curveHeld (entriesOf kind) slots) hk in
+      let s = tested-rules kind (curveHeld (entriesOf kind) slots) hk in
       let inside : i < length rules = rw (s .count) h in
       let among : i < length slots = rw slots-count h in
       let f : allows (getD rules i Lacking) 65535 ≡ true = rw held at (fit-at rules slots i (slotFrom 0) fit inside among) in

@@ -12,7 +12,7 @@ use Rattle.line_rounds.proofs.round.Tie as tie
 
 -- a record of the rest, from a place, ends within the whole
 within : (records : List ℕ) (at n : ℕ) → at ≤ length records → RecordLength (take (length records - at) (drop at records)) n
-    → (3 ≤ n) × (at + n ≤ length records)
+    → (7 ≤ n) × (at + n ≤ length records)
 within records at n h b = (b .at-least, omega (arith, b .within, length-take (length records - at) (drop at records), length-drop at records))
 
 abbrev Inv-loop : tie.InvT-loop

@@ -8,7 +8,7 @@ use denote.Ref.{now}
 use lib.ListN.{length-set}
 use Rattle.site.specs.Rules.{entriesOf}
 use Rattle.site.specs.Writing.{curveHeld}
-use Rattle.site.specs.Tested.{sane}
+use Rattle.site.specs.Tested.{tested-rules}
 use Rattle.site_writer.proofs.WriteWhole.{kind-refused, slot-refused, fields-long, room-refused, all-written}
 use Rattle.site_writer.proofs.write_site.Statement.{statement}
 use Rattle.site_writer.proofs.write_site.Tie as tie
@@ -32,7 +32,7 @@ map-of-requires : tie.Need-map-of-requires
 map-of-requires c κs = (
   search needs,
   search needs,
-  rw (c .before .before .rules-held .ensures) (sane (c .before .before .before .before .before .before .args .site .kind) (curveHeld (entriesOf (c .before .before .before .before .before .before .args .site .kind)) (c .before .before .before .slots-of .result)) (c .before .before .before .before .if1 .left) .few),
+  rw (c .before .before .rules-held .ensures) (tested-rules (c .before .before .before .before .before .before .args .site .kind) (curveHeld (entriesOf (c .before .before .before .before .before .before .args .site .kind)) (c .before .before .before .slots-of .result)) (c .before .before .before .before .if1 .left) .few),
 )
 
 count-words-requires : tie.Need-count-words-requires
