@@ -21,63 +21,70 @@ use Rattle.site.specs.Tested.{tested-rules}
 use Rattle.site.specs.WriteRead.{length-bytes, length-record}
 use Rattle.site.specs.Promises.{WritesSite, writes-site}
 
--- the stores of the code lay the record
-stores : (before : List ℕ) (rules : List Rule) (kind : ℕ) (slots : List Slot)
-    → sets (set (set (set before 0 kind) 1 (mapOf rules slots / 256)) 2 (mapOf rules slots % 256)) 3 (bytesOf rules slots) ≡ sets before 0 (recordBy rules kind slots)
-unfolding recordBy
-stores before rules kind slots = refl
-
-module _ (site : Site) (before : List ℕ) where
-  pub outside : sound site ≡ false → WritesSite site before before (Unwritten 8)
-  unfolding writeRefusal writeAnswer writeInto
-  outside e = writes-site site before before (Unwritten 8) (rw e) (rw e)
-
-  kind-outside : lastKind < site .kind → sound site ≡ false
+-- a kind above the last is outside its range, and of any other the slots tell
+module _ (site : Site) where
+  pub kind-outside : lastKind < site .kind → sound site ≡ false
   unfolding sound
   kind-outside h = rw (lt-leb (site .kind) lastKind h)
 
-  pub kind-refused : lastKind < site .kind → WritesSite site before before (Unwritten 8)
-  kind-refused h = outside (kind-outside h)
+  pub slots-tell : site .kind ≤ lastKind → (slots : List Slot) → slots ≡ slotsOf site → (rules : List Rule)
+      → rules ≡ rulesHeld (site .kind) slots → (b : Bool) → b ≡ allFit rules slots → sound site ≡ b
+  unfolding sound
+  slots-tell hk slots es rules er b eb = rw (eb, er, es, le-leb (site .kind) lastKind hk)
 
-  module _ (hk : site .kind ≤ lastKind) (slots : List Slot) (es : slots ≡ slotsOf site) (rules : List Rule) (er : rules ≡ rulesHeld (site .kind) slots) (b : Bool) (eb : b ≡ allFit rules slots) where
-    sound-is : sound site ≡ b
-    unfolding sound
-    sound-is = rw (eb, er, es, le-leb (site .kind) lastKind hk)
+  pub outside : (before : List ℕ) → sound site ≡ false → WritesSite site before before (Unwritten 8)
+  unfolding writeRefusal writeAnswer writeInto
+  outside before e = writes-site site before before (Unwritten 8) (rw e) (rw e)
 
-    pub slot-refused : b ≡ false → WritesSite site before before (Unwritten 8)
-    slot-refused e = outside (sound-is ∙ e)
+-- what the writer has found of a site whose record it writes
+pub record Found (site : Site) : Type 0 where
+  pub kind-known : site .kind ≤ lastKind
+  pub slots : List Slot
+  pub slots-are : slots ≡ slotsOf site
+  pub rules : List Rule
+  pub rules-are : rules ≡ rulesHeld (site .kind) slots
+  pub fits : allFit rules slots ≡ true
+  pub map : ℕ
+  pub map-is : map ≡ mapOf rules slots
+  pub n : ℕ
+  pub n-is : n ≡ words rules map
 
-    module _ (fit : b ≡ true) (map : ℕ) (em : map ≡ mapOf rules slots) (n : ℕ) (en : n ≡ words rules map) where
-      record-is : recordOf site ≡ recordBy rules (site .kind) slots
-      record-is = rw (er, es)
+module _ (site : Site) (before : List ℕ) (f : Found site) where
+  sound-is : sound site ≡ true
+  sound-is = slots-tell site (f .kind-known) (f .slots) (f .slots-are) (f .rules) (f .rules-are) true (sym (f .fits))
 
-      counts : length slots ≡ length rules
-      counts = rw (er, es) (sym (tested-rules (site .kind) (curveHeld (entriesOf (site .kind)) (slotsOf site)) hk .count))
+  record-is : recordOf site ≡ recordBy (f .rules) (site .kind) (f .slots)
+  record-is = rw (f .rules-are, f .slots-are)
 
-      pub fields-long : length (bytesOf rules slots) ≡ 2 * n
-      fields-long = rw (en, em) (length-bytes rules slots counts)
+  counts : length (f .slots) ≡ length (f .rules)
+  counts = rw (f .rules-are, f .slots-are) (sym (tested-rules (site .kind) (curveHeld (entriesOf (site .kind)) (slotsOf site)) (f .kind-known) .count))
 
-      bytes-long : length (recordOf site) ≡ 3 + 2 * n
-      bytes-long = rw (record-is, en, em) (length-record rules (site .kind) slots counts)
+  pub fields-long : length (bytesOf (f .rules) (f .slots)) ≡ 2 * f .n
+  fields-long = rw (f .n-is, f .map-is) (length-bytes (f .rules) (f .slots) counts)
 
-      pub room-refused : length before < 3 + 2 * n → WritesSite site before before (Unwritten 10)
-      unfolding writeRefusal writeAnswer writeInto
-      room-refused h =
-          let l : leb (length (recordOf site)) (length before) ≡ false = lt-leb (length (recordOf site)) (length before) (omega (arith, bytes-long)) in
-          writes-site site before before (Unwritten 10) (rw (sound-is, fit, l)) (rw (sound-is, fit, l))
+  bytes-long : length (recordOf site) ≡ 3 + 2 * f .n
+  bytes-long = rw (record-is, f .n-is, f .map-is) (length-record (f .rules) (site .kind) (f .slots) counts)
 
-      stored : 3 + 2 * n ≤ length before
-          → sets (set (set (set before 0 (site .kind)) 1 (map / 256)) 2 (map % 256)) 3 (bytesOf rules slots) ≡ recordOf site ++ drop (length (recordOf site)) before
-      stored h =
-          rw em (stores before rules (site .kind) slots)
-          ∙ ap (sets before 0) (sym record-is)
-          ∙ sets-eq (recordOf site) before 0 (omega (arith, bytes-long))
-          ∙ ap (λ (j : ℕ). recordOf site ++ drop j before) (zero-add (length (recordOf site)))
+  pub room-refused : length before < 3 + 2 * f .n → WritesSite site before before (Unwritten 10)
+  unfolding writeRefusal writeAnswer writeInto
+  room-refused h =
+      let l : leb (length (recordOf site)) (length before) ≡ false = lt-leb (length (recordOf site)) (length before) (omega (arith, bytes-long)) in
+      writes-site site before before (Unwritten 10) (rw (sound-is, l)) (rw (sound-is, l))
 
-      pub all-written : 3 + 2 * n ≤ length before → (afterwards : List ℕ)
-          → afterwards ≡ sets (set (set (set before 0 (site .kind)) 1 (map / 256)) 2 (map % 256)) 3 (bytesOf rules slots)
-          → WritesSite site before afterwards (Written (3 + 2 * n))
-      unfolding writeRefusal writeAnswer writeInto
-      all-written h afterwards ea =
-          let l : leb (length (recordOf site)) (length before) ≡ true = le-leb (length (recordOf site)) (length before) (omega (arith, bytes-long)) in
-          writes-site site before afterwards (Written (3 + 2 * n)) (rw (sound-is, fit, l) (ap Written (sym bytes-long))) (rw (sound-is, fit, l) (ea ∙ stored h))
+  -- the stores of the code
+  abbrev stored : List ℕ
+  stored = sets (set (set (set before 0 (site .kind)) 1 (f .map / 256)) 2 (f .map % 256)) 3 (bytesOf (f .rules) (f .slots))
+
+  stored-is : 3 + 2 * f .n ≤ length before → stored ≡ recordOf site ++ drop (length (recordOf site)) before
+  unfolding recordBy
+  stored-is h =
+      rw (f .map-is) (ap (sets before 0) (sym record-is))
+      ∙ sets-eq (recordOf site) before 0 (omega (arith, bytes-long))
+      ∙ ap (λ (j : ℕ). recordOf site ++ drop j before) (zero-add (length (recordOf site)))
+
+  pub all-written : 3 + 2 * f .n ≤ length before → (afterwards : List ℕ) → afterwards ≡ stored
+      → WritesSite site before afterwards (Written (3 + 2 * f .n))
+  unfolding writeRefusal writeAnswer writeInto
+  all-written h afterwards ea =
+      let l : leb (length (recordOf site)) (length before) ≡ true = le-leb (length (recordOf site)) (length before) (omega (arith, bytes-long)) in
+      writes-site site before afterwards (Written (3 + 2 * f .n)) (rw (sound-is, l) (ap Written (sym bytes-long))) (rw (sound-is, l) (ea ∙ stored-is h))

@@ -2,12 +2,14 @@
 -- Assumes nothing.
 use borrow.Author.Needs.{needs}
 use native.Mathlib.Omega.{arith}
-use mathlib.Core.Path.{_≡_}
+use mathlib.Core.Path.{_≡_, sym, _∙_}
 use Prim.Native.Nat.{_≤_, _-_}
 use lib.ListN.{drop}
+use Rattle.site.specs.declared.rules.Rule.the-variants.{Foreign}
+use Rattle.site.specs.declared.values.Slot.the-variants.{Absent}
 use Rattle.site.specs.Rules.{slotCount}
 use Rattle.site.specs.Writing.{allFit}
-use Rattle.site_writer.proofs.WriteSteps.{fit-hit, fit-miss, fit-end}
+use Rattle.site_writer.proofs.WriteSteps.{walk-next, walk-end}
 use borrow.Author.Tests.{not-true, not-false}
 use Rattle.site_writer.proofs.do_all_fit.Statement.{statement}
 use Rattle.site_writer.proofs.do_all_fit.Tie as tie
@@ -37,7 +39,12 @@ does-fit-requires : tie.Need-does-fit-requires Inv-loop μ-loop
 does-fit-requires c κs = search needs
 
 returns : tie.Need-returns Inv-loop μ-loop
-returns c = fit-hit _ _ _ _ (c .before .before .before .before .before .before .pre) (c .before .before .before .before .before .loop .inv .1) _ _ _ (c .before .before .before .before .loop-test .taken) (c .before .does-fit .ensures) (not-true (c .before .does-fit .result) (c .if1 .taken))
+unfolding allFit
+returns c =
+    let turn = c .before .before .before .before in
+    let pre = turn .before .before .pre in
+    let step = walk-next allFit _ _ _ (pre .0) (pre .1) Foreign Absent (turn .loop-test .taken) in
+    rw (sym (c .before .does-fit .ensures) ∙ not-true (c .before .does-fit .result) (c .if1 .taken)) at (sym step ∙ turn .before .loop .inv .1)
 
 add-i : tie.Need-add-i Inv-loop μ-loop
 add-i c = omega arith
@@ -46,13 +53,17 @@ loop-less : tie.Need-loop-less Inv-loop μ-loop
 loop-less c = omega arith
 
 loop-again : tie.Need-loop-again Inv-loop μ-loop
-loop-again c = (
-  omega arith,
-  fit-miss _ _ _ _ (c .before .before .before .before .before .before .pre) (c .before .before .before .before .before .loop .inv .1) _ _ _ (c .before .before .before .before .loop-test .taken) (c .before .does-fit .ensures) (not-false (c .before .does-fit .result) (c .if1 .left)),
-)
+unfolding allFit
+loop-again c =
+    let turn = c .before .before .before .before in
+    let pre = turn .before .before .pre in
+    let step = walk-next allFit _ _ _ (pre .0) (pre .1) Foreign Absent (turn .loop-test .taken) in
+    let fits = sym (c .before .does-fit .ensures) ∙ not-false (c .before .does-fit .result) (c .if1 .left) in
+    (omega arith, rw fits at (sym step ∙ turn .before .loop .inv .1))
 
 returns-2 : tie.Need-returns-2 Inv-loop μ-loop
-returns-2 c = fit-end _ _ _ _ (c .before .before .pre) (c .before .loop .inv .1) (c .loop-test .left)
+unfolding allFit
+returns-2 c = sym (walk-end allFit _ _ _ (c .before .before .pre .0) (c .before .before .pre .1) (c .loop-test .left)) ∙ c .before .loop .inv .1
 
 pub do-all-fit-spec : {M : Type 1} → statement M
 do-all-fit-spec =

@@ -2,12 +2,15 @@
 -- Assumes nothing.
 use borrow.Author.Needs.{needs}
 use native.Mathlib.Omega.{arith}
-use mathlib.Core.Path.{_≡_}
+use mathlib.Core.Path.{_≡_, sym, _∙_}
 use Prim.Native.Nat.{_≤_, _-_}
 use lib.ListN.{drop}
+use Rattle.site.specs.declared.rules.Rule.the-variants.{Foreign}
+use Rattle.site.specs.declared.rules.Entry.the-variants.{Always}
+use Rattle.site.specs.declared.values.Slot.the-variants.{Absent}
 use Rattle.site.specs.Rules.{slotCount}
 use Rattle.site.specs.Writing.{curveHeld}
-use Rattle.site_writer.proofs.WriteSteps.{held-hit, held-miss, held-end}
+use Rattle.site_writer.proofs.WriteSteps.{walk-next, walk-end}
 use Rattle.site_writer.proofs.holds_curve.Statement.{statement}
 use Rattle.site_writer.proofs.holds_curve.Tie as tie
 
@@ -36,7 +39,12 @@ is-held-requires : tie.Need-is-held-requires Inv-loop μ-loop
 is-held-requires c κs = search needs
 
 returns : tie.Need-returns Inv-loop μ-loop
-returns c = held-hit _ _ _ _ (c .before .before .before .before .before .before .pre) (c .before .before .before .before .before .loop .inv .1) _ _ _ (c .before .before .before .before .loop-test .taken) (c .before .is-held .ensures) (c .if1 .taken)
+unfolding curveHeld
+returns c =
+    let turn = c .before .before .before .before in
+    let pre = turn .before .before .pre in
+    let step = walk-next curveHeld _ _ _ (pre .0) (pre .1) (Always Foreign) Absent (turn .loop-test .taken) in
+    rw (sym (c .before .is-held .ensures) ∙ c .if1 .taken) at (sym step ∙ turn .before .loop .inv .1)
 
 add-i : tie.Need-add-i Inv-loop μ-loop
 add-i c = omega arith
@@ -45,13 +53,16 @@ loop-less : tie.Need-loop-less Inv-loop μ-loop
 loop-less c = omega arith
 
 loop-again : tie.Need-loop-again Inv-loop μ-loop
-loop-again c = (
-  omega arith,
-  held-miss _ _ _ _ (c .before .before .before .before .before .before .pre) (c .before .before .before .before .before .loop .inv .1) _ _ _ (c .before .before .before .before .loop-test .taken) (c .before .is-held .ensures) (c .if1 .left),
-)
+unfolding curveHeld
+loop-again c =
+    let turn = c .before .before .before .before in
+    let pre = turn .before .before .pre in
+    let step = walk-next curveHeld _ _ _ (pre .0) (pre .1) (Always Foreign) Absent (turn .loop-test .taken) in
+    (omega arith, rw (sym (c .before .is-held .ensures) ∙ c .if1 .left) at (sym step ∙ turn .before .loop .inv .1))
 
 returns-2 : tie.Need-returns-2 Inv-loop μ-loop
-returns-2 c = held-end _ _ _ _ (c .before .before .pre) (c .before .loop .inv .1) (c .loop-test .left)
+unfolding curveHeld
+returns-2 c = sym (walk-end curveHeld _ _ _ (c .before .before .pre .0) (c .before .before .pre .1) (c .loop-test .left)) ∙ c .before .loop .inv .1
 
 pub holds-curve-spec : {M : Type 1} → statement M
 holds-curve-spec =

@@ -1,13 +1,13 @@
 -- `site_writer::map_of` meets its contract. The loop's invariant: the map so far is that of the slots from i on, which stays below 2 to their bits.
 -- Assumes nothing.
 use native.Mathlib.Omega.{arith}
-use mathlib.Core.Path.{_≡_}
+use mathlib.Core.Path.{_≡_, sym}
 use Prim.Native.Nat.{_+_, _≤_, _-_}
 use lib.ListN.{drop}
 use Rattle.site.specs.Rules.{slotCount}
 use Rattle.site.specs.Writing.{mapOf}
 use Rattle.site.specs.Bytes.{map-small}
-use Rattle.site_writer.proofs.WriteSteps.{map-more, map-none}
+use Rattle.site_writer.proofs.WriteSteps.{walk-end, map-more}
 use Rattle.site_writer.proofs.map_of.Statement.{statement}
 use Rattle.site_writer.proofs.map_of.Tie as tie
 
@@ -18,7 +18,8 @@ abbrev μ-loop : tie.MeasureT-loop
 μ-loop rules slots map₀ i₀ map i = i
 
 loop-holds : tie.Need-loop-holds Inv-loop μ-loop
-loop-holds c = (omega arith, map-none (c .args .t1) (c .args .t2) slotCount (c .pre) (omega arith))
+unfolding mapOf
+loop-holds c = (omega arith, sym (walk-end mapOf (c .args .t1) (c .args .t2) slotCount (c .pre .0) (c .pre .1) (omega arith)))
 
 sub-i : tie.Need-sub-i Inv-loop μ-loop
 sub-i c = omega arith
@@ -36,17 +37,19 @@ array-copy-out-map-with-2 : tie.Need-array-copy-out-map-with-2 Inv-loop μ-loop
 array-copy-out-map-with-2 c = omega arith
 
 map-with-requires : tie.Need-map-with-requires Inv-loop μ-loop
-map-with-requires c κs = omega (arith, map-small (c .before .before .before .before .args .t1) (c .before .before .before .before .args .t2) (c .before .before .before .loop .i) (c .before .before .before .before .pre .2))
+map-with-requires c κs =
+    let start = c .before .before .before .before in
+    omega (arith, map-small (start .args .t1) (start .args .t2) (c .before .before .before .loop .i) (start .pre .2))
 
 loop-less : tie.Need-loop-less Inv-loop μ-loop
 loop-less c = omega arith
 
 loop-again : tie.Need-loop-again Inv-loop μ-loop
 loop-again c =
-    let e : c .before .before .before .before .loop .i - 1 + 1 ≡ c .before .before .before .before .loop .i = omega arith in (
-      omega arith,
-      map-more _ _ (c .before .before .before .before .loop .i - 1) (c .before .before .before .before .before .pre) _ _ _ _ (omega arith) (rw e (c .before .before .before .before .loop .inv .1)) (c .map-with .ensures),
-    )
+    let loop = c .before .before .before .before .loop in
+    let pre = c .before .before .before .before .before .pre in
+    let e : loop .i - 1 + 1 ≡ loop .i = omega arith in
+    (omega arith, map-more _ _ (loop .i - 1) (pre .0) (pre .1) _ _ _ _ (omega arith) (rw e (loop .inv .1)) (c .map-with .ensures))
 
 returns : tie.Need-returns Inv-loop μ-loop
 returns c =

@@ -1,13 +1,22 @@
 -- `site_writer::put_field` meets its contract. Two bytes, high byte first, or none.
 -- Assumes nothing.
 use native.Mathlib.Omega.{arith}
-use mathlib.Core.Path.{ap}
+use mathlib.Core.Path.{_≡_, ap}
+use mathlib.Core.List.{[], _∷_}
+use Prim.Native.Nat.{_/_, _%_}
 use lib.ListN.{length, length-set}
 use Rattle.site.specs.Writing.{fieldBytes}
 use Rattle.site_writer.proofs.WriteSteps.{field-is, field-none, put-none, put-two}
 use borrow.Author.Needs.{needs}
 use Rattle.site_writer.proofs.put_field.Statement.{statement}
 use Rattle.site_writer.proofs.put_field.Tie as tie
+
+-- a bit that stands, of a slot that holds a number
+bytes-are : (c : tie.After-slot) → let a = c .before .before .before .before .before .args in
+    fieldBytes (a .rule) (a .slot) ≡ c .slot .given .0 .0 / 256 ∷ c .slot .given .0 .0 % 256 ∷ []
+bytes-are c =
+    let bit = c .before .before .before in
+    field-is _ _ _ _ (c .slot .given .1) (bit .slot-bit .ensures) (c .before .before .if1 .taken)
 
 slot-bit-requires : tie.Need-slot-bit-requires
 slot-bit-requires c κs = search needs
@@ -22,7 +31,7 @@ cast-buffer : tie.Need-cast-buffer
 cast-buffer c = search needs
 
 slice-write-buffer : tie.Need-slice-write-buffer
-slice-write-buffer c = omega (arith, ap length (field-is (c .before .before .before .before .before .before .args .rule) (c .before .before .before .before .before .before .args .slot) (c .before .slot .given .0 .0) (c .before .before .before .before .slot-bit .result) (c .before .slot .given .1) (c .before .before .before .before .slot-bit .ensures) (c .before .before .before .if1 .taken)))
+slice-write-buffer c = omega (arith, ap length (bytes-are (c .before)))
 
 cast-buffer-2 : tie.Need-cast-buffer-2
 cast-buffer-2 c = search needs
@@ -31,22 +40,24 @@ add-buffer : tie.Need-add-buffer
 add-buffer c = search needs
 
 slice-write-buffer-2 : tie.Need-slice-write-buffer-2
-slice-write-buffer-2 c = simp length-set (omega (arith, ap length (field-is (c .before .before .before .before .before .before .args .rule) (c .before .before .before .before .before .before .args .slot) (c .before .slot .given .0 .0) (c .before .before .before .before .slot-bit .result) (c .before .slot .given .1) (c .before .before .before .before .slot-bit .ensures) (c .before .before .before .if1 .taken))))
+slice-write-buffer-2 c = simp length-set (omega (arith, ap length (bytes-are (c .before))))
 
 add-result : tie.Need-add-result
 add-result c = search needs
 
 returns : tie.Need-returns
-returns c = put-none _ _ (c .before .before .before .before .before .args .rule) (c .before .before .before .before .before .args .slot) (ap (fieldBytes (c .before .before .before .before .before .args .rule)) (c .enum-told .given .1))
+returns c = let a = c .before .before .before .before .before .args in put-none _ _ (a .rule) (a .slot) (ap (fieldBytes (a .rule)) (c .enum-told .given .1))
 
 same-length : tie.Need-same-length
 same-length c = search needs
 
 returns-2 : tie.Need-returns-2
-returns-2 c = put-two _ _ (c .before .before .before .before .before .before .args .rule) (c .before .before .before .before .before .before .args .slot) _ _ (field-is (c .before .before .before .before .before .before .args .rule) (c .before .before .before .before .before .before .args .slot) (c .before .slot .given .0 .0) (c .before .before .before .before .slot-bit .result) (c .before .slot .given .1) (c .before .before .before .before .slot-bit .ensures) (c .before .before .before .if1 .taken))
+returns-2 c = let a = c .before .before .before .before .before .before .args in put-two _ _ (a .rule) (a .slot) _ _ (bytes-are (c .before))
 
 returns-3 : tie.Need-returns-3
-returns-3 c = put-none _ _ (c .before .before .before .args .rule) (c .before .before .before .args .slot) (field-none (c .before .before .before .args .rule) (c .before .before .before .args .slot) _ (c .before .slot-bit .ensures) (c .if1 .left))
+returns-3 c =
+    let a = c .before .before .before .args in
+    put-none _ _ (a .rule) (a .slot) (field-none (a .rule) (a .slot) _ (c .before .slot-bit .ensures) (c .if1 .left))
 
 pub put-field-spec : {M : Type 1} → statement M
 put-field-spec =

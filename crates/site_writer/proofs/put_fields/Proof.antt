@@ -15,7 +15,9 @@ use Rattle.site_writer.proofs.put_fields.Statement.{statement}
 use Rattle.site_writer.proofs.put_fields.Tie as tie
 
 abbrev Inv-loop : tie.InvT-loop
-Inv-loop buffer₀ rules slots at₀ i₀ buffer at i = (i ≤ slotCount) × (length buffer ≡ length buffer₀) × (at + length (bytesOf (drop i rules) (drop i slots)) ≤ length buffer) × (sets buffer at (bytesOf (drop i rules) (drop i slots)) ≡ sets buffer₀ 3 (bytesOf rules slots))
+Inv-loop buffer₀ rules slots at₀ i₀ buffer at i =
+    let left = bytesOf (drop i rules) (drop i slots) in
+    (i ≤ slotCount) × (length buffer ≡ length buffer₀) × (at + length left ≤ length buffer) × (sets buffer at left ≡ sets buffer₀ 3 (bytesOf rules slots))
 
 abbrev μ-loop : tie.MeasureT-loop
 μ-loop buffer₀ rules slots at₀ i₀ buffer at i = slotCount - i
@@ -36,7 +38,10 @@ array-copy-out-put-field-2 : tie.Need-array-copy-out-put-field-2 Inv-loop μ-loo
 array-copy-out-put-field-2 c = omega arith
 
 put-field-requires : tie.Need-put-field-requires Inv-loop μ-loop
-put-field-requires c κs = omega (arith, bytes-length (c .before .before .before .before .before .before .args .t1) (c .before .before .before .before .before .before .args .t2) (c .before .before .before .before .loop .i) (c .before .before .before .before .before .before .pre .0) (c .before .before .before .before .before .before .pre .1) Foreign Absent (c .before .before .before .loop-test .taken))
+put-field-requires c κs =
+    let turn = c .before .before .before in
+    let start = turn .before .before .before in
+    omega (arith, bytes-length (start .args .t1) (start .args .t2) (turn .before .loop .i) (start .pre .0) (start .pre .1) Foreign Absent (turn .loop-test .taken))
 
 add-i : tie.Need-add-i Inv-loop μ-loop
 add-i c = omega arith
@@ -45,12 +50,19 @@ loop-less : tie.Need-loop-less Inv-loop μ-loop
 loop-less c = omega arith
 
 loop-again : tie.Need-loop-again Inv-loop μ-loop
-loop-again c = (
-  omega arith,
-  c .before .before .put-field .kept .1 .1 .0 ∙ c .before .before .before .before .before .before .before .loop .inv .1,
-  omega (arith, bytes-length (c .before .before .before .before .before .before .before .before .before .args .t1) (c .before .before .before .before .before .before .before .before .before .args .t2) (c .before .before .before .before .before .before .before .loop .i) (c .before .before .before .before .before .before .before .before .before .pre .0) (c .before .before .before .before .before .before .before .before .before .pre .1) Foreign Absent (c .before .before .before .before .before .before .loop-test .taken), c .before .before .put-field .ensures .0, c .before .before .put-field .kept .1 .1 .0),
-  put-more _ _ _ (c .before .before .before .before .before .before .before .before .before .pre .0) (c .before .before .before .before .before .before .before .before .before .pre .1) _ _ _ _ _ _ _ (c .before .before .before .before .before .before .loop-test .taken) (c .before .before .before .before .before .before .before .loop .inv .3) (c .before .before .put-field .ensures .0) (c .before .before .put-field .ensures .1),
-)
+loop-again c =
+    let put = c .before .before .put-field in
+    let turn = c .before .before .before .before .before .before in
+    let loop = turn .before .loop in
+    let start = turn .before .before .before in
+    let count = start .pre .0 in
+    let count′ = start .pre .1 in
+    let more = turn .loop-test .taken in (
+      omega arith,
+      put .kept .1 .1 .0 ∙ loop .inv .1,
+      omega (arith, bytes-length (start .args .t1) (start .args .t2) (loop .i) count count′ Foreign Absent more, put .ensures .0, put .kept .1 .1 .0),
+      put-more _ _ _ count count′ _ _ _ _ _ _ _ more (loop .inv .3) (put .ensures .0) (put .ensures .1),
+    )
 
 same-length : tie.Need-same-length Inv-loop μ-loop
 same-length c = search needs

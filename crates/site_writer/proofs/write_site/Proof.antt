@@ -2,19 +2,35 @@
 -- Assumes nothing.
 use borrow.Author.Needs.{needs}
 use native.Mathlib.Omega.{arith}
-use mathlib.Core.Path.{_∙_}
+use mathlib.Core.Path.{sym, _∙_}
 use borrow.Author.Tests.{not-true, not-false}
 use denote.Ref.{now}
 use lib.ListN.{length-set}
 use Rattle.site.specs.Rules.{entriesOf}
 use Rattle.site.specs.Writing.{curveHeld}
 use Rattle.site.specs.Tested.{tested-rules}
-use Rattle.site_writer.proofs.WriteWhole.{kind-refused, slot-refused, fields-long, room-refused, all-written}
+use Rattle.site_writer.proofs.WriteWhole.{kind-outside, slots-tell, outside, Found, fields-long, room-refused, all-written}
 use Rattle.site_writer.proofs.write_site.Statement.{statement}
 use Rattle.site_writer.proofs.write_site.Tie as tie
 
+abbrev found : (c : tie.After-count-words) → Found (c .before .before .before .before .before .before .before .before .args .site)
+found c =
+    let fit = c .before .before .before in
+    record {
+      kind-known = fit .before .before .before .if1 .left;
+      slots = fit .before .before .slots-of .result;
+      slots-are = fit .before .before .slots-of .ensures;
+      rules = fit .before .rules-held .result;
+      rules-are = fit .before .rules-held .ensures;
+      fits = sym (fit .do-all-fit .ensures) ∙ not-false (fit .do-all-fit .result) (c .before .before .if2 .left);
+      map = c .before .map-of .result;
+      map-is = c .before .map-of .ensures;
+      n = c .count-words .result;
+      n-is = c .count-words .ensures .0;
+    }
+
 returns : tie.Need-returns
-returns c = kind-refused (c .before .before .args .site) (now (c .before .before .args .buffer)) (c .if1 .taken)
+returns c = let start = c .before .before in outside (start .args .site) _ (kind-outside (start .args .site) (c .if1 .taken))
 
 slots-of-requires : tie.Need-slots-of-requires
 slots-of-requires c κs = search needs
@@ -26,14 +42,18 @@ do-all-fit-requires : tie.Need-do-all-fit-requires
 do-all-fit-requires c κs = search needs
 
 returns-2 : tie.Need-returns-2
-returns-2 c = slot-refused (c .before .before .before .before .before .before .args .site) (now (c .before .before .before .before .before .before .args .buffer)) (c .before .before .before .before .if1 .left) _ (c .before .before .before .slots-of .ensures) _ (c .before .before .rules-held .ensures) _ (c .before .do-all-fit .ensures) (not-true (c .before .do-all-fit .result) (c .if2 .taken))
+returns-2 c =
+    let fit = c .before in
+    let site = fit .before .before .before .before .before .args .site in
+    let tell = slots-tell site (fit .before .before .before .if1 .left) _ (fit .before .before .slots-of .ensures) _ (fit .before .rules-held .ensures) _ (fit .do-all-fit .ensures) in
+    outside site _ (tell ∙ not-true (fit .do-all-fit .result) (c .if2 .taken))
 
 map-of-requires : tie.Need-map-of-requires
-map-of-requires c κs = (
-  search needs,
-  search needs,
-  rw (c .before .before .rules-held .ensures) (tested-rules (c .before .before .before .before .before .before .args .site .kind) (curveHeld (entriesOf (c .before .before .before .before .before .before .args .site .kind)) (c .before .before .before .slots-of .result)) (c .before .before .before .before .if1 .left) .few),
-)
+map-of-requires c κs =
+    let rules = c .before .before in
+    let kind = rules .before .before .before .before .args .site .kind in
+    let curved = curveHeld (entriesOf kind) (rules .before .slots-of .result) in
+    (search needs, search needs, rw (rules .rules-held .ensures) (tested-rules kind curved (rules .before .before .if1 .left) .few))
 
 count-words-requires : tie.Need-count-words-requires
 count-words-requires c κs = search needs
@@ -45,7 +65,7 @@ add-n : tie.Need-add-n
 add-n c = search needs
 
 returns-3 : tie.Need-returns-3
-returns-3 c = room-refused (c .before .before .before .before .before .before .before .before .before .args .site) (now (c .before .before .before .before .before .before .before .before .before .args .buffer)) (c .before .before .before .before .before .before .before .if1 .left) _ (c .before .before .before .before .before .before .slots-of .ensures) _ (c .before .before .before .before .before .rules-held .ensures) _ (c .before .before .before .before .do-all-fit .ensures) (not-false (c .before .before .before .before .do-all-fit .result) (c .before .before .before .if2 .left)) _ (c .before .before .map-of .ensures) _ (c .before .count-words .ensures .0) (c .if3 .taken)
+returns-3 c = room-refused _ _ (found (c .before)) (c .if3 .taken)
 
 slice-write-buffer : tie.Need-slice-write-buffer
 slice-write-buffer c = search needs
@@ -63,17 +83,15 @@ slice-write-buffer-3 : tie.Need-slice-write-buffer-3
 slice-write-buffer-3 c = simp length-set (omega arith)
 
 put-fields-requires : tie.Need-put-fields-requires
-put-fields-requires c κs = (
-  search needs,
-  search needs,
-  simp length-set (omega (arith, fields-long (c .before .before .before .before .before .before .before .before .before .before .args .site) (now (c .before .before .before .before .before .before .before .before .before .before .args .buffer)) (c .before .before .before .before .before .before .before .before .if1 .left) _ (c .before .before .before .before .before .before .before .slots-of .ensures) _ (c .before .before .before .before .before .before .rules-held .ensures) _ (c .before .before .before .before .before .do-all-fit .ensures) (not-false (c .before .before .before .before .before .do-all-fit .result) (c .before .before .before .before .if2 .left)) _ (c .before .before .before .map-of .ensures) _ (c .before .before .count-words .ensures .0))),
-)
+put-fields-requires c κs =
+    let f = found (c .before .before) in
+    (search needs, search needs, simp length-set (omega (arith, fields-long _ (now (c .before .before .before .before .before .before .before .before .before .before .args .buffer)) f)))
 
 same-length : tie.Need-same-length
 same-length c = c .before .before .put-fields .kept .1 .1 .0 ∙ simp length-set
 
 returns-4 : tie.Need-returns-4
-returns-4 c = all-written (c .before .before .before .before .before .before .before .before .before .before .before .before .before .args .site) (now (c .before .before .before .before .before .before .before .before .before .before .before .before .before .args .buffer)) (c .before .before .before .before .before .before .before .before .before .before .before .if1 .left) _ (c .before .before .before .before .before .before .before .before .before .before .slots-of .ensures) _ (c .before .before .before .before .before .before .before .before .before .rules-held .ensures) _ (c .before .before .before .before .before .before .before .before .do-all-fit .ensures) (not-false (c .before .before .before .before .before .before .before .before .do-all-fit .result) (c .before .before .before .before .before .before .before .if2 .left)) _ (c .before .before .before .before .before .before .map-of .ensures) _ (c .before .before .before .before .before .count-words .ensures .0) (c .before .before .before .before .if3 .left) _ (c .before .before .put-fields .ensures)
+returns-4 c = all-written _ _ (found (c .before .before .before .before .before)) (c .before .before .before .before .if3 .left) _ (c .before .before .put-fields .ensures)
 
 pub write-site-spec : {M : Type 1} → statement M
 write-site-spec =
