@@ -1,7 +1,7 @@
 -- Driveways, two-way left-turn lane and passing lane of a segment.
 use Prim.Native.Nat.{ℕ, _+_, _-_, _*_}
 use mathlib.Core.Bool.{cond, _&&_}
-use mathlib.Core.List.{List, [], _∷_}
+use mathlib.Core.List.{[], _∷_}
 use lib.ListN.{getD}
 use lib.Dec.{ltb, leb, eqb}
 use Rattle.estimate.specs.Fraction.{Fraction, _//_, whole}

@@ -1,5 +1,5 @@
 -- The history: "Expected = N(1 + kO)/(1 + kN)", for any fraction k, and a site's estimates of it.
-use Prim.Native.Nat.{ℕ, _+_, _*_, _<_}
+use Prim.Native.Nat.{ℕ, _+_, _*_}
 use native.Mathlib.Nat.{mul-pos}
 use native.Mathlib.Omega.{arith}
 use Rattle.estimate.specs.Fraction.{Fraction, millionths}

@@ -2,10 +2,9 @@
 -- prediction and the history.
 use Prim.Native.Nat.{ℕ, _+_, _*_, _≤_, _<_}
 use mathlib.Core.Path.{_≡_, ap}
-use native.Mathlib.Nat.{mul-pos, mul-le-mul, mul-le-mul-left, mul-le-mul-right}
+use native.Mathlib.Nat.{mul-pos, mul-le-mul-left, mul-le-mul-right}
 use native.Mathlib.Omega.{arith}
-use lib.Dec.{lit<}
-use Rattle.estimate.specs.Fraction.{Fraction, fraction, _≤ᶠ_, _//_, whole, millionths}
+use Rattle.estimate.specs.Fraction.{Fraction, fraction, _≤ᶠ_, _//_, millionths}
 use Rattle.estimate.specs.FractionLaws.{≤ᶠ-trans}
 use Rattle.estimate.specs.Standing.{LowRight, HighRight}
 use Rattle.wide.specs.Scaling.{floor, ceiling}

@@ -1,10 +1,10 @@
 -- "Table of twelve, settled by proof as a whole."
-use Prim.Native.Nat.{ℕ, _+_, _*_, _^_}
+use Prim.Native.Nat.{ℕ}
 use mathlib.Core.Path.{_≡_, refl}
 use Rattle.estimate.specs.Fraction.{Fraction, fraction, _//_, _=ᶠ_, whole, millionths, _^ᶠ_}
 use Rattle.estimate.specs.Power.{ThirtyTwoToSixTenths, thirty-two-to-six-tenths}
 use Rattle.estimate.specs.Logarithm.{LnOne, ln-one}
-use Rattle.model.specs.Coefficients.{Coefficients, editionOne}
+use Rattle.model.specs.Coefficients.{editionOne}
 use Rattle.model.specs.Widths.{lane, laneValue, shoulder, shoulderValue, typeValue}
 use Rattle.model.specs.Alignment.{curve, superelevation}
 use Rattle.model.specs.Access.{twoWayLane}

@@ -1,5 +1,5 @@
 -- The parts of a site's prediction, each with its under- and its over-estimate at depth d.
-use Prim.Native.Nat.{ℕ, _+_, _-_, _*_}
+use Prim.Native.Nat.{ℕ, _-_, _*_}
 use mathlib.Core.Bool.{cond}
 use mathlib.Core.List.{List, [], _∷_}
 use lib.Dec.{leb, eqb, lit<}

@@ -1,9 +1,8 @@
 -- "Tempting: using 1.50 at A = 2,000; reading history 0 as no history; taking 5 driveways as a floor; rounding expected low to
 -- nearest": the definitions do none of these.
-use Prim.Native.Nat.{ℕ}
 use mathlib.Core.Path.{_≡_, refl}
 use lib.Dec.{lit<}
-use Rattle.estimate.specs.Fraction.{Fraction, fraction, _//_, _<ᶠ_, _=ᶠ_, whole, millionths}
+use Rattle.estimate.specs.Fraction.{fraction, _//_, _<ᶠ_, _=ᶠ_, whole, millionths}
 use Rattle.site.specs.declared.values.Slot.the-variants.{Number}
 use Rattle.model.specs.Coefficients.{editionOne}
 use Rattle.model.specs.Widths.{lane, laneValue, shoulder, shoulderValue, typeValue}

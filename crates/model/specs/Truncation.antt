@@ -1,7 +1,7 @@
 -- The driveway part's slope and the values that fall with traffic are not cut off at 0. The other subtractions of the factors
 -- stand behind a test that keeps them from it.
 use Prim.Native.Nat.{ℕ, zero, suc, _-_, _*_, _≤_}
-use mathlib.Core.Bool.{Bool, true, false}
+use mathlib.Core.Bool.{Bool, true}
 use mathlib.Core.List.{List, [], _∷_}
 use native.Mathlib.Nat.{mul-le-mul-left, le-trans}
 use native.Mathlib.Omega.{arith}

@@ -1,17 +1,16 @@
 -- Rows 1 and 5 to 9 for the bytes that a record starts, in document 01's words and order: the site reader has a number for them
 -- exactly where that cause is the first.
-use mathlib.Core.Path.{_≡_, refl, sym, ap, _∙_}
+use mathlib.Core.Path.{_≡_, refl}
 use mathlib.Core.Bool.{Bool, true, false, cond}
 use mathlib.Core.List.{List, [], _∷_}
 use mathlib.Core.Logic.{_↔_}
 use Prim.Native.Nat.{ℕ, _*_, _<_, _≤_}
-use native.Mathlib.Omega.{arith}
 use lib.ListN.{length, drop}
 use lib.Dec.{ltb, eqb}
-use borrow.Author.Tests.{ltb-true, ltb-false, lt-ltb, le-ltb, eqb-true, eq-eqb}
+use borrow.Author.Tests.{ltb-true, ltb-false, lt-ltb, le-ltb}
 use Rattle.site.specs.declared.rules.Rule.{Rule}
 use Rattle.site.specs.Rules.{lastKind, allows, absentOf, holds}
-use Rattle.site.specs.Record.{word, restOf, stands, lacks, misses, words, valueNumber, fieldNumber, after, fieldsNumber, kindIn, mapIn, rulesIn, recordNumber, refusalOf}
+use Rattle.site.specs.Record.{word, restOf, stands, lacks, misses, words, fieldNumber, after, fieldsNumber, kindIn, mapIn, rulesIn, recordNumber, refusalOf}
 
 -- "then field by field 8, 9": the first field that stands and is outside its range, or spells its default; 0 where there is none
 pub data FieldCause : List Rule → ℕ → List ℕ → ℕ → Type 0 where

@@ -2,7 +2,7 @@
 -- Assumes nothing.
 use mathlib.Core.Path.{_≡_, sym, ap, _∙_}
 use mathlib.Core.List.{List}
-use Prim.Native.Nat.{ℕ, _-_, _≤_}
+use Prim.Native.Nat.{ℕ, _-_}
 use native.Mathlib.Omega.{arith}
 use lib.ListN.{length, take, drop, length-drop}
 use lib.Seq.{take-all}
@@ -15,7 +15,6 @@ use Rattle.model.specs.Coefficients.{editionOne}
 use Rattle.model.specs.Predicted.{Header}
 use Rattle.line.specs.declared.Line.{Line}
 use Rattle.line.specs.Line.{lineOf}
-use Rattle.report.specs.declared.fill.RecordLine.{RecordLine}
 use Rattle.report.specs.declared.fill.RecordLine.the-variants.{Next, Unread}
 use Rattle.report.specs.Fill.{recordLine}
 

@@ -1,22 +1,19 @@
 -- The numbers of a report, read back by index, meet the demand.
-use Prim.Native.Nat.{ℕ, zero, suc, _+_, _*_, _≤_, _<_}
-use mathlib.Core.Path.{_≡_, refl, sym, ap, _∙_}
+use Prim.Native.Nat.{ℕ, zero, suc, _+_, _*_, _<_}
+use mathlib.Core.Path.{_≡_, refl, ap, _∙_}
 use mathlib.Core.List.{List, [], _∷_, _++_, map}
 use lib.ListN.{length, getD}
 use native.Mathlib.Omega.{arith}
-use lib.Dec.{lit≤}
 use Rattle.site.specs.declared.values.Site.{Site}
 use Rattle.site.specs.Writing.{Valid}
 use Rattle.model.specs.Coefficients.{Coefficients, editionOne}
 use Rattle.model.specs.Predicted.{Header}
-use Rattle.prediction.specs.Kept.{Rated}
-use Rattle.prediction.specs.EditionOne.{edition-one-rated}
 use Rattle.prediction.specs.PredictedLaws.{HeaderMost}
 use Rattle.line.specs.declared.Line.{Line}
 use Rattle.line.specs.Line.{lineOf}
 use Rattle.line.specs.Stands.{LineStands}
 use Rattle.line.specs.LineLaws.{edition-one-line}
-use Rattle.report.specs.Report.{numbersOf, allNumbers, noLine, totalOf, reportNumbers}
+use Rattle.report.specs.Report.{numbersOf, allNumbers, noLine, totalOf}
 use Rattle.report.specs.Demand.{lineAt, siteAt, TotalsStand}
 use Rattle.report.specs.TotalLaws.{AllStand, totals-stand}
 

@@ -1,10 +1,8 @@
 -- A report as it is filled: the lines of the records that are left, then the totals that have been added up.
-use Prim.Native.Nat.{ℕ, zero, suc, _+_, _*_, _≤_, _<_}
+use Prim.Native.Nat.{ℕ, zero, suc, _+_, _≤_}
 use mathlib.Core.Path.{_≡_, refl, sym, ap, _∙_}
-use mathlib.Core.Bool.{Bool, true, false, cond}
-use mathlib.Core.List.{List, [], _∷_, _++_, map}
-use lib.ListN.{length, getD, drop}
-use lib.Dec.{ltb}
+use mathlib.Core.List.{List, [], _++_, map}
+use lib.ListN.{drop}
 use native.Mathlib.Omega.{arith}
 use native.Mathlib.Nat.{add-assoc, add-zero, zero-add}
 use Rattle.site.specs.declared.values.Site.{Site}
@@ -15,9 +13,8 @@ use Rattle.model.specs.Coefficients.{editionOne}
 use Rattle.model.specs.Predicted.{Header}
 use Rattle.line.specs.declared.Line.{Line}
 use Rattle.line.specs.Line.{lineOf}
-use Rattle.project.specs.declared.ScanAnswer.{ScanAnswer}
 use Rattle.project.specs.declared.ScanAnswer.the-variants.{Accepted, Refused}
-use Rattle.project.specs.File.{headerIn, countIn, headerLength, onward, scanRecords, taken, sitesFrom, sitesIn}
+use Rattle.project.specs.File.{headerIn, countIn, headerLength, onward, scanRecords, sitesFrom, sitesIn}
 use Rattle.report.specs.declared.fill.RecordLine.{RecordLine}
 use Rattle.report.specs.declared.fill.RecordLine.the-variants.{Next, Unread}
 use Rattle.report.specs.Report.{numbersOf, allNumbers, noLine, addLine, totalOf, reportNumbers, linesIn}

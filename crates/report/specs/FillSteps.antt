@@ -1,13 +1,10 @@
 -- One turn of the fill: a record that a scan has passed is read again, its line is stored and added to the totals.
-use Prim.Native.Nat.{ℕ, zero, suc, _+_, _-_, _*_, _≤_, _<_}
+use Prim.Native.Nat.{ℕ, suc, _+_, _-_, _*_, _≤_, _<_}
 use mathlib.Core.Path.{_≡_, refl, sym, ap, _∙_}
-use mathlib.Core.List.{List, [], _∷_, _++_}
+use mathlib.Core.List.{List, _++_}
 use lib.ListN.{length, drop, length-drop}
 use lib.Seq.{sets, length-sets}
 use native.Mathlib.Omega.{arith}
-use Rattle.site.specs.declared.values.Site.{Site}
-use Rattle.site.specs.declared.values.SiteAnswer.{SiteAnswer}
-use Rattle.site.specs.declared.values.SiteAnswer.the-variants as reading
 use Rattle.site.specs.Record.{readSite}
 use Rattle.site.specs.Theorems.{longest, read-length}
 use Rattle.site.specs.ReadWrite.{read-valid}

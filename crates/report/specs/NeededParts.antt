@@ -1,10 +1,10 @@
 -- EVERY PART OF DEMAND 3 IS NEEDED: a report that fails one part, at one site or in its totals, does not meet the demand. The
 -- numbers of the report are named by their index, and the widths are written out.
-use Prim.Native.Nat.{ℕ, zero, suc, _+_, _*_, _≤_, _<_}
-use mathlib.Core.Path.{_≡_, refl}
-use mathlib.Core.List.{List, [], _∷_}
+use Prim.Native.Nat.{ℕ, _+_, _*_, _≤_, _<_}
+use mathlib.Core.Path.{_≡_}
+use mathlib.Core.List.{List, _∷_}
 use lib.ListN.{length, getD}
-use lib.Dec.{lit≤, lit<}
+use lib.Dec.{lit<}
 use native.Mathlib.Omega.{arith}
 use Rattle.estimate.specs.Fraction.{fraction, _//_, millionths, _<ᶠ_}
 use Rattle.estimate.specs.FractionLaws.{not-≤ᶠ-and-<ᶠ, <ᶠ-≤ᶠ-trans, ≤ᶠ-<ᶠ-trans}

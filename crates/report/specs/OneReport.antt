@@ -1,14 +1,12 @@
 -- ONE REPORT FOR EVERY PROJECT: no report meets the demand of document 01's signal over one year at a calibration of 0.001 and
 -- over ten years at 9.999.
-use Prim.Native.Nat.{ℕ, _≤_, _<_}
-use mathlib.Core.Path.{_≡_, refl, sym}
+use Prim.Native.Nat.{ℕ}
+use mathlib.Core.Path.{_≡_, refl}
 use mathlib.Core.List.{List, [], _∷_}
-use lib.ListN.{length}
 use lib.Dec.{lit<, lit≤}
-use Rattle.estimate.specs.Fraction.{Fraction, fraction, _//_, whole, millionths, decimal, inverse, _<ᶠ_, _+ᶠ_, _*ᶠ_}
+use Rattle.estimate.specs.Fraction.{fraction, _//_, whole, millionths, decimal, inverse, _<ᶠ_, _+ᶠ_, _*ᶠ_}
 use Rattle.estimate.specs.Power.{powerLargest, powerUnder, powerOver, power-largest-value}
 use Rattle.estimate.specs.Exponential.{termNum, termDen, sumNum, partialSum, sumWithTail, expUnder, expOver, expNegUnder, expNegOver}
-use Rattle.site.specs.declared.values.Site.{Site}
 use Rattle.site.specs.Known.{signal, signal-read}
 use Rattle.model.specs.Coefficients.{editionOne}
 use Rattle.model.specs.Crossings.{leftTurn, rightTurn, sight}

@@ -1,18 +1,15 @@
 -- The project reader's answer by document 01's causes: a report exactly where none is found in the bytes or the room, and
 -- otherwise the first cause, with its number and its place.
-use Prim.Native.Nat.{ℕ, _≤_, _<_}
+use Prim.Native.Nat.{ℕ}
 use mathlib.Core.Path.{_≡_, refl, sym, ap, _∙_}
-use mathlib.Core.Bool.{Bool, true, false, cond}
 use mathlib.Core.List.{List}
 use mathlib.Core.Logic.{_↔_, ⊎-elim}
-use lib.Dec.{leb}
 use native.Mathlib.Omega.{arith}
 use borrow.Author.Tests.{le-leb, lt-leb}
-use Rattle.project.specs.File.{countIn, scanFile}
+use Rattle.project.specs.File.{countIn}
 use Rattle.project.specs.Causes.{reportLength, NoCause, FirstCause, in-bytes, in-report}
 use Rattle.project.specs.Scan.{refused-exactly, accepted-exactly}
-use Rattle.project.specs.Acceptance.{no-cause-exactly, FirstFound, first-is-cause, first-or-none, first-only}
-use Rattle.report.specs.declared.ProjectAnswer.{ProjectAnswer}
+use Rattle.project.specs.Acceptance.{no-cause-exactly, FirstFound, first-or-none}
 use Rattle.report.specs.declared.ProjectAnswer.the-variants.{Reported, Refused}
 use Rattle.report.specs.Report.{answerNumber, answerValue, projectAnswer}
 

@@ -1,12 +1,11 @@
 -- The report of a project: "a lent run of 64-bit numbers: four for each site, then four totals, the exact sums; what follows them
 -- is untouched".
-use Prim.Native.Nat.{ℕ, _+_, _*_}
+use Prim.Native.Nat.{ℕ, _+_}
 use mathlib.Core.Bool.{cond}
 use mathlib.Core.List.{List, [], _∷_, _++_, map}
 use lib.ListN.{length, drop}
 use lib.Dec.{leb}
-use Rattle.site.specs.declared.values.Site.{Site}
-use Rattle.model.specs.Coefficients.{Coefficients, editionOne}
+use Rattle.model.specs.Coefficients.{editionOne}
 use Rattle.line.specs.declared.Line.{Line}
 use Rattle.line.specs.Line.{lineOf}
 use Rattle.project.specs.declared.ScanAnswer.{ScanAnswer}

@@ -1,22 +1,18 @@
 -- Lines that stand, one for each site, have totals that stand: for any list of sites.
-use Prim.Native.Nat.{ℕ, zero, suc, _+_, _*_, _≤_, _<_}
-use mathlib.Core.Path.{_≡_, refl, ap, _∙_}
-use mathlib.Core.List.{List, [], _∷_, _++_, map}
-use lib.ListN.{length, getD}
+use Prim.Native.Nat.{ℕ, _+_}
+use mathlib.Core.List.{List, [], _∷_}
 use lib.Dec.{lit≤}
 use native.Mathlib.Omega.{arith}
-use Rattle.estimate.specs.Fraction.{Fraction, fraction, _//_, whole, millionths, _=ᶠ_, _+ᶠ_}
+use Rattle.estimate.specs.Fraction.{Fraction, fraction, _//_, whole, millionths, _+ᶠ_}
 use Rattle.estimate.specs.FractionLaws.{≤ᶠ-trans, =ᶠ-≤ᶠ, =ᶠ-≥ᶠ, +ᶠ-mono}
 use Rattle.estimate.specs.Standing.{LowRight, HighRight}
-use Rattle.wide.specs.Rounding.{Narrow}
 use Rattle.site.specs.declared.values.Site.{Site}
 use Rattle.model.specs.Coefficients.{Coefficients}
-use Rattle.model.specs.Parts.{number}
 use Rattle.model.specs.Predicted.{Header}
 use Rattle.prediction.specs.PredictedLaws.{millionths-add}
 use Rattle.line.specs.declared.Line.{Line}
 use Rattle.line.specs.Stands.{LineStands}
-use Rattle.report.specs.Report.{noLine, addLine, totalOf}
+use Rattle.report.specs.Report.{totalOf}
 use Rattle.report.specs.Demand.{sumOver, observedIn, TotalsStand}
 
 -- one line for each site

@@ -1,7 +1,7 @@
 -- A REPORT OF ZEROS: the under-estimate of a valid site is above 0 at every depth, so no site of an accepted project has a
 -- predicted high of 0.
 use Prim.Native.Nat.{ℕ, zero, suc, _+_, _-_, _*_, _≤_, _<_}
-use mathlib.Core.Path.{_≡_, refl, sym, _∙_}
+use mathlib.Core.Path.{_≡_, refl}
 use mathlib.Core.Bool.{Bool, true, false, cond, _&&_}
 use mathlib.Core.List.{List, [], _∷_}
 use lib.ListN.{length, getD}
@@ -9,7 +9,7 @@ use lib.Dec.{leb, ltb, eqb, lit<, lit≤}
 use native.Mathlib.Nat.{mul-pos, one-le-pow}
 use native.Mathlib.Omega.{arith}
 use borrow.Author.Tests.{leb-true, eqb-true, eqb-false}
-use Rattle.estimate.specs.Fraction.{Fraction, fraction, _//_, whole, millionths, lesser, _<ᶠ_, _+ᶠ_, _*ᶠ_, _^ᶠ_}
+use Rattle.estimate.specs.Fraction.{Fraction, fraction, _//_, whole, millionths, _<ᶠ_, _+ᶠ_, _*ᶠ_, _^ᶠ_}
 use Rattle.estimate.specs.FractionLaws.{//-num, positive-above, lesser-by}
 use Rattle.estimate.specs.Power.{powerUnder}
 use Rattle.estimate.specs.PowerLaws.{power-under-≥-one}

@@ -8,8 +8,8 @@ use lib.ListN.{length, set, drop}
 use borrow.Author.Tests.{lt-ltb, le-ltb}
 use Rattle.bracket.specs.declared.Bracket.{Bracket}
 use Rattle.bracket.specs.declared.BracketAnswer.{BracketAnswer}
-use Rattle.bracket.specs.declared.BracketAnswer.the-variants.{Between, OutOfRange}
-use Rattle.unit.specs.Lent.{Lends, bracketNumber, bracketInto, endsOf}
+use Rattle.bracket.specs.declared.BracketAnswer.the-variants.{Between}
+use Rattle.unit.specs.Lent.{Lends, endsOf}
 
 pub four-stored : (run : List ℕ) (a b c d : ℕ) → 4 ≤ length run → set (set (set (set run 0 a) 1 b) 2 c) 3 d ≡ a ∷ b ∷ c ∷ d ∷ drop 4 run
 four-stored [] a b c d h = absurd (omega arith)

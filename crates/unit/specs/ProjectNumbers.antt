@@ -1,13 +1,11 @@
 -- A project's report left in a lent run of numbers, the number that the call answers, and the count or place beside it.
 use Prim.Native.Nat.{ℕ}
-use mathlib.Core.Path.{_≡_, refl, sym, ap, _∙_}
+use mathlib.Core.Path.{_≡_, sym, ap, _∙_}
 use mathlib.Core.List.{List}
 use lib.ListN.{length}
-use Rattle.project.specs.Causes.{FirstCause}
 use Rattle.report.specs.declared.ProjectAnswer.{ProjectAnswer}
-use Rattle.report.specs.declared.ProjectAnswer.the-variants.{Reported, Refused}
 use Rattle.report.specs.Report.{projectAnswer, answerNumber, answerValue, reportAfter}
-use Rattle.report.specs.Demand.{Demand, AnswerMeets}
+use Rattle.report.specs.Demand.{AnswerMeets}
 
 -- "Success returns 0 and 4(sites + 1)"; a refusal its number and place, and the report stays as it was
 pub record ReadsProject (file before afterwards : List ℕ) (value number : ℕ) : Type 0 where

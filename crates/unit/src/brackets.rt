@@ -1,5 +1,4 @@
 // Brackets of powers, logarithms and exponentials, left in a lent run of numbers.
-ghost use mathlib.Core.Path.{_≡_};
 ghost use Rattle.power.specs.Power.{powerAnswer};
 ghost use Rattle.logarithm.specs.Logarithm.{logarithmAnswer};
 ghost use Rattle.exponential.specs.Exponential.{exponentialAnswer, exponentialNegativeAnswer};

@@ -1,5 +1,4 @@
 // The line of a site for programs in other languages, left in a lent run of numbers.
-ghost use mathlib.Core.Path.{_≡_};
 ghost use Rattle.model.specs.Predicted.{headerOf};
 ghost use Rattle.unit.specs.LineNumbers.{LendsLine, LinesNumbers};
 use crate::sites::SITE_NUMBERS;

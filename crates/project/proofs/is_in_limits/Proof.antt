@@ -1,7 +1,7 @@
 -- `project::is_in_limits` meets its contract. Each test is one of the definition's, in its order.
 -- Assumes nothing.
 use borrow.Author.Needs.{needs}
-use borrow.Author.Tests.{not-true, not-false, le-leb, lt-leb}
+use borrow.Author.Tests.{not-true, not-false}
 use Rattle.project.proofs.is_in_limits.Statement.{statement}
 use Rattle.project.proofs.is_in_limits.Tie as tie
 
