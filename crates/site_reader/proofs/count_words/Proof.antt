@@ -42,11 +42,10 @@ loop-less : tie.Need-loop-less Inv-loop μ-loop
 loop-less c = omega arith
 
 loop-again : tie.Need-loop-again Inv-loop μ-loop
-loop-again c = (
-  omega arith,
-  omega arith,
-  words-turn _ _ _ (c .before .before .before .before .before .pre) _ _ _ _ _ (c .before .before .before .loop-test .taken) (c .before .field-words .ensures .0) (c .rest-of .ensures) (c .before .before .before .before .loop .inv .2),
-)
+loop-again c =
+    let turn = c .before .before .before in
+    let count = c .before .field-words .ensures .0 in
+    (omega arith, omega arith, words-turn _ _ _ (turn .before .before .pre) _ _ _ _ _ (turn .loop-test .taken) count (c .rest-of .ensures) (turn .before .loop .inv .2))
 
 returns : tie.Need-returns Inv-loop μ-loop
 returns c = (words-done _ _ _ (c .before .before .pre) _ _ (c .loop-test .left) (c .before .loop .inv .2), omega arith)

@@ -12,7 +12,9 @@ use Rattle.site_reader.proofs.fields_number.Statement.{statement}
 use Rattle.site_reader.proofs.fields_number.Tie as tie
 
 abbrev Inv-loop : tie.InvT-loop
-Inv-loop map s rules rest₀ at₀ i₀ rest at i = (i ≤ slotCount) × (at + 2 * words (drop i rules) rest ≤ length s) × (fieldsNumber (drop i rules) rest (drop at s) ≡ fieldsNumber rules map s)
+Inv-loop map s rules rest₀ at₀ i₀ rest at i =
+    let left = drop i rules in
+    (i ≤ slotCount) × (at + 2 * words left rest ≤ length s) × (fieldsNumber left rest (drop at s) ≡ fieldsNumber rules map s)
 
 abbrev μ-loop : tie.MeasureT-loop
 μ-loop map s rules rest₀ at₀ i₀ rest at i = slotCount - i
@@ -27,10 +29,15 @@ array-copy-out-rule : tie.Need-array-copy-out-rule Inv-loop μ-loop
 array-copy-out-rule c = omega arith
 
 field-number-requires : tie.Need-field-number-requires Inv-loop μ-loop
-field-number-requires c κs = room-next _ _ _ (c .before .before .before .before .pre .0) _ _ _ (c .before .loop-test .taken) (c .before .before .loop .inv .1)
+field-number-requires c κs =
+    let turn = c .before in
+    room-next _ _ _ (turn .before .before .before .pre .0) _ _ _ (turn .loop-test .taken) (turn .before .loop .inv .1)
 
 returns : tie.Need-returns Inv-loop μ-loop
-returns c = number-hit _ _ _ (c .before .before .before .before .before .before .pre .0) _ (c .before .before .before .before .loop .at) _ (c .before .before .before .before .loop .inv .2) _ _ (c .before .before .before .loop-test .taken) (c .before .field-number .ensures) (c .if1 .taken)
+returns c =
+    let turn = c .before .before .before in
+    let loop = turn .before .loop in
+    number-hit _ _ _ (turn .before .before .before .pre .0) _ (loop .at) _ (loop .inv .2) _ _ (turn .loop-test .taken) (c .before .field-number .ensures) (c .if1 .taken)
 
 field-words-requires : tie.Need-field-words-requires Inv-loop μ-loop
 field-words-requires c κs = search needs
@@ -51,11 +58,18 @@ loop-less : tie.Need-loop-less Inv-loop μ-loop
 loop-less c = omega arith
 
 loop-again : tie.Need-loop-again Inv-loop μ-loop
-loop-again c = (
-  omega arith,
-  room-after _ _ _ (c .before .before .before .before .before .before .before .before .pre .0) _ _ _ _ _ (c .before .before .before .before .before .loop-test .taken) (c .before .field-words .ensures .0) (c .rest-of .ensures) (c .before .before .before .before .before .before .loop .inv .1),
-  number-miss _ _ _ (c .before .before .before .before .before .before .before .before .pre .0) _ (c .before .before .before .before .before .before .loop .at) _ (c .before .before .before .before .before .before .loop .inv .2) _ _ _ _ (c .before .before .before .before .before .loop-test .taken) (c .before .before .before .field-number .ensures) (c .before .before .if1 .left) (c .before .field-words .ensures .0) (c .rest-of .ensures),
-)
+loop-again c =
+    let number = c .before .before .before .field-number .ensures in
+    let count = c .before .field-words .ensures .0 in
+    let rest = c .rest-of .ensures in
+    let turn = c .before .before .before .before .before in
+    let loop = turn .before .loop in
+    let rules = turn .before .before .before .pre .0 in
+    let more = turn .loop-test .taken in (
+      omega arith,
+      room-after _ _ _ rules _ _ _ _ _ more count rest (loop .inv .1),
+      number-miss _ _ _ rules _ (loop .at) _ (loop .inv .2) _ _ _ _ more number (c .before .before .if1 .left) count rest,
+    )
 
 returns-2 : tie.Need-returns-2 Inv-loop μ-loop
 returns-2 c = number-end _ _ _ (c .before .before .before .pre .0) _ (c .before .loop .at) _ (c .before .loop .inv .2) (c .loop-test .left)

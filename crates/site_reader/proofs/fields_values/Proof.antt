@@ -13,7 +13,9 @@ use Rattle.site_reader.proofs.fields_values.Statement.{statement}
 use Rattle.site_reader.proofs.fields_values.Tie as tie
 
 abbrev Inv-loop : tie.InvT-loop
-Inv-loop map s rules slots₀ rest₀ at₀ i₀ slots rest at i = (i ≤ slotCount) × (at + 2 * words (drop i rules) rest ≤ length s) × (length slots ≡ slotCount) × (sets slots i (fieldsValues (drop i rules) rest (drop at s)) ≡ fieldsValues rules map s)
+Inv-loop map s rules slots₀ rest₀ at₀ i₀ slots rest at i =
+    let left = drop i rules in
+    (i ≤ slotCount) × (at + 2 * words left rest ≤ length s) × (length slots ≡ slotCount) × (sets slots i (fieldsValues left rest (drop at s)) ≡ fieldsValues rules map s)
 
 abbrev μ-loop : tie.MeasureT-loop
 μ-loop map s rules slots₀ rest₀ at₀ i₀ slots rest at i = slotCount - i
@@ -28,7 +30,9 @@ array-copy-out-rule : tie.Need-array-copy-out-rule Inv-loop μ-loop
 array-copy-out-rule c = omega arith
 
 field-value-requires : tie.Need-field-value-requires Inv-loop μ-loop
-field-value-requires c κs = room-next _ _ _ (c .before .before .before .before .pre .0) _ _ _ (c .before .loop-test .taken) (c .before .before .loop .inv .1)
+field-value-requires c κs =
+    let turn = c .before in
+    room-next _ _ _ (turn .before .before .before .pre .0) _ _ _ (turn .loop-test .taken) (turn .before .loop .inv .1)
 
 mul-slots : tie.Need-mul-slots Inv-loop μ-loop
 mul-slots c = omega arith
@@ -55,12 +59,18 @@ loop-less : tie.Need-loop-less Inv-loop μ-loop
 loop-less c = omega arith
 
 loop-again : tie.Need-loop-again Inv-loop μ-loop
-loop-again c = (
-  omega arith,
-  room-after _ _ _ (c .before .before .before .before .before .before .before .pre .0) _ _ _ _ _ (c .before .before .before .before .loop-test .taken) (c .before .field-words .ensures .0) (c .rest-of .ensures) (c .before .before .before .before .before .loop .inv .1),
-  simp length-set (c .before .before .before .before .before .loop .inv .2),
-  values-more _ _ _ (c .before .before .before .before .before .before .before .pre .0) _ (c .before .before .before .before .before .loop .at) _ _ (c .before .before .before .before .before .loop .inv .3) _ _ _ _ (c .before .before .before .before .loop-test .taken) (c .before .before .field-value .ensures) (c .before .field-words .ensures .0) (c .rest-of .ensures),
-)
+loop-again c =
+    let count = c .before .field-words .ensures .0 in
+    let rest = c .rest-of .ensures in
+    let turn = c .before .before .before .before in
+    let loop = turn .before .loop in
+    let rules = turn .before .before .before .pre .0 in
+    let more = turn .loop-test .taken in (
+      omega arith,
+      room-after _ _ _ rules _ _ _ _ _ more count rest (loop .inv .1),
+      simp length-set (loop .inv .2),
+      values-more _ _ _ rules _ (loop .at) _ _ (loop .inv .3) _ _ _ _ more (c .before .before .field-value .ensures) count rest,
+    )
 
 returns : tie.Need-returns Inv-loop μ-loop
 returns c = values-end _ _ _ (c .before .before .before .pre .0) _ (c .before .loop .at) _ _ (c .before .loop .inv .3) (c .loop-test .left)

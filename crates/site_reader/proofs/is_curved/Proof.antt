@@ -31,7 +31,9 @@ curve-bit-stands-requires : tie.Need-curve-bit-stands-requires Inv-loop μ-loop
 curve-bit-stands-requires c κs = search needs
 
 returns : tie.Need-returns Inv-loop μ-loop
-returns c = any-hit _ _ _ _ _ _ _ (c .before .before .before .before .before .pre) (c .before .before .before .before .loop .inv .1) _ _ (c .before .before .before .loop-test .taken) (c .before .curve-bit-stands .ensures) (c .if1 .taken)
+returns c =
+    let turn = c .before .before .before in
+    any-hit _ _ _ _ _ _ _ (turn .before .before .pre) (turn .before .loop .inv .1) _ _ (turn .loop-test .taken) (c .before .curve-bit-stands .ensures) (c .if1 .taken)
 
 rule-of-requires : tie.Need-rule-of-requires Inv-loop μ-loop
 rule-of-requires c κs = search needs
@@ -46,10 +48,12 @@ loop-less : tie.Need-loop-less Inv-loop μ-loop
 loop-less c = omega arith
 
 loop-again : tie.Need-loop-again Inv-loop μ-loop
-loop-again c = (
-  omega arith,
-  any-miss _ _ _ _ _ _ _ (c .before .before .before .before .before .before .before .pre) (c .before .before .before .before .before .before .loop .inv .1) _ _ _ (c .before .before .before .before .before .loop-test .taken) (c .before .before .before .curve-bit-stands .ensures) (c .before .before .if1 .left) (c .rest-of .ensures ∙ ap (λ (x : Rule). restOf x (c .before .before .before .before .before .before .loop .rest)) (c .before .rule-of .ensures)),
-)
+loop-again c =
+    let stands = c .before .before .before .curve-bit-stands .ensures in
+    let turn = c .before .before .before .before .before in
+    let loop = turn .before .loop in
+    let rest = c .rest-of .ensures ∙ ap (λ (x : Rule). restOf x (loop .rest)) (c .before .rule-of .ensures) in
+    (omega arith, any-miss _ _ _ _ _ _ _ (turn .before .before .pre) (loop .inv .1) _ _ _ (turn .loop-test .taken) stands (c .before .before .if1 .left) rest)
 
 returns-2 : tie.Need-returns-2 Inv-loop μ-loop
 returns-2 c = any-end _ _ _ _ _ _ _ (c .before .before .pre) (c .before .loop .inv .1) (c .loop-test .left)
