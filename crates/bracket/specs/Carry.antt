@@ -21,6 +21,16 @@ carried low high [] = Carried low high
 carried low high (f ∷ fs) =
     onward (scaledDown low (f .«low_num») (f .«low_den»)) (scaledUp high (f .«high_num») (f .«high_den»)) (λ x y. carried x y fs)
 
+-- from what earlier factors answered: what did not fit stays so
+abbrev pub carriedOn : CarryAnswer → List Bracket → CarryAnswer
+carriedOn (Carried low high) fs = carried low high fs
+carriedOn TooLarge fs = TooLarge
+
+-- a list's factors taken one at a time, as code goes through them
+abbrev pub oneByOne : CarryAnswer → List Bracket → CarryAnswer
+oneByOne a [] = a
+oneByOne a (f ∷ fs) = oneByOne (carriedOn a (f ∷ [])) fs
+
 -- each factor's low is at most the fraction beside it
 abbrev pub LowsBelow : List Bracket → List Fraction → Type 0
 LowsBelow [] [] = Unit

@@ -1,6 +1,6 @@
 -- What carrying gives, for any list of factors: the product is kept at each side, and so are the order and the width.
 use mathlib.Core.Path.{_≡_, refl, sym, ap, _∙_}
-use mathlib.Core.List.{List, [], _∷_}
+use mathlib.Core.List.{List, [], _∷_, _++_}
 use Prim.Native.Nat.{ℕ, _+_, _*_, _≤_, _<_}
 use native.Mathlib.Omega.{arith}
 use Rattle.estimate.specs.Fraction.{Fraction}
@@ -9,10 +9,38 @@ use Rattle.wide.specs.Rounding.{Narrow, scaled-lower, scaled-upper, scaled-orde
 use Rattle.wide.specs.declared.scale.Scaled.{Scaled}
 use Rattle.wide.specs.declared.scale.Scaled.the-variants as scaled
 use Rattle.bracket.specs.Bracket.{RelativeWidth}
-use Rattle.bracket.specs.Carry.{onward, carried, LowsBelow, HighsAbove, productNum, productDen, Widths, absolutePart, relativePart}
+use Rattle.bracket.specs.Carry.{onward, carried, carriedOn, oneByOne, LowsBelow, HighsAbove, productNum, productDen, Widths, absolutePart, relativePart}
 use Rattle.bracket.specs.declared.Bracket.{Bracket}
 use Rattle.bracket.specs.declared.carry.CarryAnswer.{CarryAnswer}
 use Rattle.bracket.specs.declared.carry.CarryAnswer.the-variants.{Carried, TooLarge}
+
+-- ONE FACTOR AFTER ANOTHER, and then the others, is all of them
+onward-on : (s t : Scaled) (fs : List Bracket) → carriedOn (onward s t (λ x y. Carried x y)) fs ≡ onward s t (λ x y. carried x y fs)
+onward-on (scaled.Value x) (scaled.Value y) fs = refl
+onward-on (scaled.Value x) scaled.TooLarge fs = refl
+onward-on scaled.TooLarge t fs = refl
+
+carried-first : (a : CarryAnswer) (f : Bracket) (fs : List Bracket) → carriedOn (carriedOn a (f ∷ [])) fs ≡ carriedOn a (f ∷ fs)
+carried-first (Carried low high) f fs = onward-on (scaledDown low (f .«low_num») (f .«low_den»)) (scaledUp high (f .«high_num») (f .«high_den»)) fs
+carried-first TooLarge f fs = refl
+
+carried-none : (a : CarryAnswer) → carriedOn a [] ≡ a
+carried-none (Carried low high) = refl
+carried-none TooLarge = refl
+
+pub one-by-one : (fs : List Bracket) (a : CarryAnswer) → oneByOne a fs ≡ carriedOn a fs
+one-by-one [] a = sym (carried-none a)
+one-by-one (f ∷ fs) a = one-by-one fs (carriedOn a (f ∷ [])) ∙ carried-first a f fs
+
+-- a step of it: what the ends so far are, what the factor is, and what came through
+pub further : {a b c : CarryAnswer} {f g : Bracket} → a ≡ b → f ≡ g → c ≡ carriedOn a (f ∷ []) → c ≡ carriedOn b (g ∷ [])
+further {b = b} {f = f} i h e = e ∙ ap (λ (a : CarryAnswer). carriedOn a (f ∷ [])) i ∙ ap (λ (f : Bracket). carriedOn b (f ∷ [])) h
+
+-- a list of factors and then another is both
+pub carried-append : (fs gs : List Bracket) (a : CarryAnswer) → carriedOn (carriedOn a fs) gs ≡ carriedOn a (fs ++ gs)
+carried-append [] gs a = ap (λ (b : CarryAnswer). carriedOn b gs) (carried-none a)
+carried-append (f ∷ fs) gs a =
+    ap (λ (b : CarryAnswer). carriedOn b gs) (sym (carried-first a f fs)) ∙ carried-append fs gs (carriedOn a (f ∷ [])) ∙ carried-first a f (fs ++ gs)
 
 -- a step that has an answer
 record Step (s t : Scaled) (k : ℕ → ℕ → CarryAnswer) (l h : ℕ) : Type 0 where

@@ -3,15 +3,15 @@ use Prim.Native.Nat.{ℕ, zero, suc, _+_, _*_, _≤_, _<_}
 use mathlib.Core.Path.{_≡_, refl, ap, _∙_}
 use mathlib.Core.Bool.{true, false, cond, not}
 use mathlib.Core.List.{List, [], _∷_, _++_}
-use lib.ListN.{take}
-use lib.Seq.{sets}
 use native.Mathlib.Nat.{mul-le-mul, add-zero}
 use native.Mathlib.Omega.{arith}
 use lib.Dec.{lit<}
 use borrow.Author.Tests.{eq-eqb, ne-eqb}
 use Rattle.estimate.specs.Fraction.{Fraction}
 use Rattle.bracket.specs.declared.Bracket.{Bracket}
-use Rattle.bracket.specs.Carry.{carried}
+use Rattle.bracket.specs.declared.carry.CarryAnswer.the-variants.{Carried}
+use Rattle.bracket.specs.Carry.{carried, carriedOn}
+use Rattle.bracket.specs.CarryLaws.{carried-append}
 use Rattle.bracket.specs.Pieces.{brackets, exactly}
 use Rattle.exponential.specs.Exponential.{expBracket, expNegBracket}
 use Rattle.power.specs.Exponents.{exponentAt}
@@ -143,18 +143,14 @@ curveBrackets v = exactly (curve (v .«curve_length») (v .radius) (v .«spiral_
 unfoldable pub segmentBrackets : Segment → List Bracket
 segmentBrackets v = straightBrackets v ++ cond (v .curved) (curveBrackets v) []
 
--- what a row of twelve has past a segment's factors
-abbrev pub filler : List Bracket
-filler = let base = expNegBracket (editionOne .base-exponent 0) in base ∷ base ∷ base ∷ []
-
--- the row of a straight road, and the row with a curve's two
-pub straight-row : (v : Segment) → v .curved ≡ false → take 9 (straightBrackets v ++ filler) ≡ segmentBrackets v
+-- a straight road's factors are all, and a curve's two come after them
+pub straight-carried : (v : Segment) (start : ℕ) → v .curved ≡ false → carried start start (straightBrackets v) ≡ carried start start (segmentBrackets v)
 unfolding segmentBrackets straightBrackets
-straight-row v e = rw e
+straight-carried v start e = rw e
 
-pub curved-row : (v : Segment) → v .curved ≡ true → take 11 (sets (straightBrackets v ++ filler) 9 (curveBrackets v)) ≡ segmentBrackets v
+pub curve-carried : (v : Segment) (start : ℕ) → v .curved ≡ true → carriedOn (carried start start (straightBrackets v)) (curveBrackets v) ≡ carried start start (segmentBrackets v)
 unfolding segmentBrackets straightBrackets curveBrackets
-curved-row v e = rw e
+curve-carried v start e = rw e (carried-append (straightBrackets v) (curveBrackets v) (Carried start start))
 
 pub segment-brackets : (years : ℕ) (site : Site) → segmentBrackets (segmentOf site) ≡ brackets (segmentPieces editionOne (site .«curve_length») site (termOf years site))
 unfolding segmentBrackets straightBrackets curveBrackets segmentPieces

@@ -1,7 +1,6 @@
 // A crossing's numbers, its factors' brackets, and its start carried through them.
 ghost use mathlib.Core.Path.{_≡_};
 ghost use Prim.Native.Nat.{_*_, _≤_};
-ghost use lib.ListN.{take};
 ghost use Rattle.exponential.specs.Exponential.{expBracket};
 ghost use Rattle.exponential.specs.Stored.{StoredExponentials};
 ghost use Rattle.power.specs.Power.{powerBracket};
@@ -17,7 +16,7 @@ use crate::values::exact;
 use crate::values::numbers_of;
 use bracket::Bracket;
 use bracket::carry::CarryAnswer;
-use bracket::carry::carry;
+use bracket::carry::through;
 use exponential::exponential_with;
 use factors::crossings::left_turn;
 use factors::crossings::right_turn;
@@ -145,34 +144,6 @@ fn skew_factor(exponentials: &[u64; 15], v: Crossing) -> Bracket
     exponential_with(exponentials, skew_exponent(v.kind) * v.skew)
 }
 
-// The seven factors, in a row of twelve.
-fn crossing_factors(powers: &[u64; 2560], exponentials: &[u64; 15], v: Crossing) -> [Bracket; 12]
-    requires { ⌜ StoredPowers (now powers) × StoredExponentials (now exponentials) × CrossingSizes v ⌝ }
-    ensures { λ r. ⌜ take 7 r ≡ crossingBrackets v ⌝ }
-{
-    let major = major_factor(powers, v);
-    let minor = minor_factor(powers, v);
-    let left = left_factor(v);
-    let right = right_factor(v);
-    let seen = sight_factor(v);
-    let angle = skew_factor(exponentials, v);
-    let base = base_factor(exponentials, v.kind);
-    [
-        major,
-        minor,
-        left,
-        right,
-        seen,
-        angle,
-        base,
-        base,
-        base,
-        base,
-        base,
-        base,
-    ]
-}
-
 // The start through the factors.
 pub fn carry_crossing(
     powers: &[u64; 2560],
@@ -185,6 +156,12 @@ pub fn carry_crossing(
     ensures { λ r. ⌜ r ≡ carried (crossingUnits years calibration) (crossingUnits years calibration) (crossingBrackets v) ⌝ }
 {
     let start = years * calibration * 200_000_000;
-    let factors = crossing_factors(powers, exponentials, v);
-    carry(start, start, factors, 7)
+    let ends = CarryAnswer::Carried(start, start);
+    let major = through(ends, major_factor(powers, v));
+    let minor = through(major, minor_factor(powers, v));
+    let left = through(minor, left_factor(v));
+    let right = through(left, right_factor(v));
+    let seen = through(right, sight_factor(v));
+    let skewed = through(seen, skew_factor(exponentials, v));
+    through(skewed, base_factor(exponentials, v.kind))
 }

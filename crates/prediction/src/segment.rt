@@ -1,11 +1,9 @@
 // A segment's numbers, its factors' brackets, and its start carried through them.
 ghost use mathlib.Core.Path.{_≡_};
-ghost use mathlib.Core.List.{_++_};
 ghost use Prim.Native.Nat.{_≤_};
-ghost use lib.Seq.{sets};
 ghost use Rattle.exponential.specs.Stored.{StoredExponentials};
 ghost use Rattle.logarithm.specs.Stored.{StoredLogarithms};
-ghost use Rattle.bracket.specs.Carry.{carried};
+ghost use Rattle.bracket.specs.Carry.{carried, carriedOn};
 ghost use Rattle.bracket.specs.Pieces.{exactly};
 ghost use Rattle.driveways.specs.Driveways.{drivewaysOf};
 ghost use Rattle.model.specs.Coefficients.{editionOne};
@@ -14,13 +12,13 @@ ghost use Rattle.model.specs.Alignment as alignment;
 ghost use Rattle.model.specs.Grade.{gradeFirst, gradeSecond};
 ghost use Rattle.model.specs.Widths as widths;
 ghost use Rattle.prediction.specs.Pieces.{hazardBracket};
-ghost use Rattle.prediction.specs.Values.{segmentOf, SegmentSizes, CurveSizes, segmentUnits, straightBrackets, curveBrackets, segmentBrackets, filler};
+ghost use Rattle.prediction.specs.Values.{segmentOf, SegmentSizes, CurveSizes, segmentUnits, straightBrackets, curveBrackets, segmentBrackets};
 use crate::values::base_factor;
 use crate::values::exact;
 use crate::values::numbers_of;
 use bracket::Bracket;
 use bracket::carry::CarryAnswer;
-use bracket::carry::carry;
+use bracket::carry::through;
 use driveways::driveways_with;
 use exponential::exponential_negative_with;
 use exponential::exponential_with;
@@ -205,53 +203,43 @@ fn superelevation_factor(v: Segment) -> Bracket
     exact(superelevation(v.deficiency))
 }
 
-// The nine factors of every road, in a row of twelve.
-fn straight_factors(logarithms: &[u64; 256], exponentials: &[u64; 15], v: Segment) -> [Bracket; 12]
-    requires { ⌜ StoredLogarithms (now logarithms) × StoredExponentials (now exponentials) × SegmentSizes v ⌝ }
-    ensures { λ r. ⌜ r ≡ straightBrackets v ++ filler ⌝ }
-{
-    let base = base_factor(exponentials, 0);
-    let width = lane_factor(v);
-    let edge = shoulder_factor(v);
-    let first = first_grade_factor(v);
-    let second = second_grade_factor(v);
-    let turning = two_way_factor(v);
-    let overtaking = passing_factor(v);
-    let roadside = hazard_with(exponentials, v.hazard_rating);
-    let entering = driveway_factor(logarithms, v);
-    [
-        base,
-        width,
-        edge,
-        first,
-        second,
-        turning,
-        overtaking,
-        roadside,
-        entering,
-        base,
-        base,
-        base,
-    ]
-}
-
-// The curve's two factors, after the nine.
-fn with_curve(factors: [Bracket; 12], v: Segment) -> [Bracket; 12]
-    requires { ⌜ CurveSizes v ⌝ }
-    ensures { λ r. ⌜ r ≡ sets factors 9 (curveBrackets v) ⌝ }
-{
-    let mut row = factors;
-    row[9] = curve_factor(v);
-    row[10] = superelevation_factor(v);
-    row
-}
-
 // Y × calibration × A × L × 0.000365, in units.
 fn segment_start(years: u64, calibration: u64, v: Segment) -> u64
     requires { ⌜ (years ≤ 10) × (calibration ≤ 9999) × SegmentSizes v ⌝ }
     ensures { λ r. ⌜ r ≡ segmentUnits years calibration v ⌝ }
 {
     years * calibration * v.traffic * v.length * 73
+}
+
+// The start through the nine factors of every road.
+fn carry_straight(
+    logarithms: &[u64; 256],
+    exponentials: &[u64; 15],
+    start: u64,
+    v: Segment,
+) -> CarryAnswer
+    requires { ⌜ StoredLogarithms (now logarithms) × StoredExponentials (now exponentials) × SegmentSizes v ⌝ }
+    ensures { λ r. ⌜ r ≡ carried start start (straightBrackets v) ⌝ }
+{
+    let ends = CarryAnswer::Carried(start, start);
+    let base = through(ends, base_factor(exponentials, 0));
+    let lane = through(base, lane_factor(v));
+    let shoulder = through(lane, shoulder_factor(v));
+    let first_grade = through(shoulder, first_grade_factor(v));
+    let grade = through(first_grade, second_grade_factor(v));
+    let two_way = through(grade, two_way_factor(v));
+    let passing = through(two_way, passing_factor(v));
+    let roadside = through(passing, hazard_with(exponentials, v.hazard_rating));
+    through(roadside, driveway_factor(logarithms, v))
+}
+
+// A straight road's answer through the curve's two factors.
+fn carry_curve(straight: CarryAnswer, v: Segment) -> CarryAnswer
+    requires { ⌜ CurveSizes v ⌝ }
+    ensures { λ r. ⌜ r ≡ carriedOn straight (curveBrackets v) ⌝ }
+{
+    let bent = through(straight, curve_factor(v));
+    through(bent, superelevation_factor(v))
 }
 
 // The start through the factors of every road and then the curve's.
@@ -266,9 +254,9 @@ pub fn carry_segment(
     ensures { λ r. ⌜ r ≡ carried (segmentUnits years calibration v) (segmentUnits years calibration v) (segmentBrackets v) ⌝ }
 {
     let start = segment_start(years, calibration, v);
-    let factors = straight_factors(logarithms, exponentials, v);
+    let straight = carry_straight(logarithms, exponentials, start, v);
     if v.curved {
-        return carry(start, start, with_curve(factors, v), 11);
+        return carry_curve(straight, v);
     }
-    carry(start, start, factors, 9)
+    straight
 }

@@ -1,2 +1,0 @@
--- What the proof of `carry` uses.
-mod Laws
