@@ -1,4 +1,5 @@
-// The numbers of edition 1, each once: constants, and tables by kind (0 segment, 1 3ST, 2 4ST, 3 4SG).
+// The numbers of edition 1, each once: constants, and a table by kind (0 segment, 1 3ST, 2 4ST, 3 4SG). The base factors are
+// stored in `prediction`.
 ghost use mathlib.Core.Path.{_≡_};
 ghost use Prim.Native.Nat.{_≤_};
 ghost use Rattle.model.specs.Coefficients.{editionOne};
@@ -15,9 +16,6 @@ pub struct Coefficients {
     pub fewest_driveways: u64,
 }
 
-// x of the base factor e^(-x), in ten-thousandths.
-const BASE_EXPONENTS: [u64; 4] = [4865, 109000, 93400, 57300];
-
 // Overdispersion k, in hundredths.
 const OVERDISPERSIONS: [u64; 4] = [31, 54, 24, 11];
 
@@ -30,14 +28,6 @@ pub fn edition_one() -> Coefficients
         driveway_constant: 200,
         fewest_driveways: 0,
     }
-}
-
-// x of a kind's base factor e^(-x), in ten-thousandths: the argument of the exponential.
-pub fn base_exponent(kind: u8) -> u64
-    requires { ⌜ kind ≤ 3 ⌝ }
-    ensures { λ r. ⌜ r ≡ editionOne .base-exponent kind ⌝ }
-{
-    BASE_EXPONENTS[kind as usize]
 }
 
 // A kind's overdispersion, by which its history is weighed; no length bears on it in edition 1.

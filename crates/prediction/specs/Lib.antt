@@ -4,5 +4,6 @@ pub mod Pair
 pub mod Numbers
 pub mod Kept
 pub mod EditionOne
+pub mod Stored
 pub mod Values
 pub mod PredictedLaws

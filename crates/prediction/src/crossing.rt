@@ -11,7 +11,7 @@ ghost use Rattle.model.specs.Coefficients.{editionOne};
 ghost use Rattle.model.specs.Crossings.{leftTurn, rightTurn, majorExponent, minorExponent, skewExponent};
 ghost use Rattle.model.specs.Crossings as crossings;
 ghost use Rattle.prediction.specs.Values.{crossingOf, CrossingSizes, majorPlace, minorPlace, crossingUnits, crossingBrackets};
-use crate::values::base_factor;
+use crate::stored::base_factor;
 use crate::values::exact;
 use crate::values::numbers_of;
 use bracket::Bracket;
@@ -163,5 +163,5 @@ pub fn carry_crossing(
     let right = through(left, right_factor(v));
     let seen = through(right, sight_factor(v));
     let skewed = through(seen, skew_factor(exponentials, v));
-    through(skewed, base_factor(exponentials, v.kind))
+    through(skewed, base_factor(v.kind))
 }

@@ -2,6 +2,7 @@
 // rounded outward. The stored numbers of powers, logarithms and exponentials are lent.
 pub mod crossing;
 pub mod segment;
+pub mod stored;
 pub mod values;
 
 ghost use mathlib.Core.Path.{_≡_};
@@ -41,7 +42,7 @@ pub fn predicted_with(
 {
     if site.kind == 0 {
         let road = segment_of(site);
-        return round_outward(carry_segment(logarithms, exponentials, years, segments, road));
+        return round_outward(carry_segment(logarithms, years, segments, road));
     }
     let crossing = crossing_of(site);
     round_outward(carry_crossing(powers, exponentials, years, crossings, crossing))

@@ -1,7 +1,6 @@
 // A segment's numbers, its factors' brackets, and its start carried through them.
 ghost use mathlib.Core.Path.{_≡_};
 ghost use Prim.Native.Nat.{_≤_};
-ghost use Rattle.exponential.specs.Stored.{StoredExponentials};
 ghost use Rattle.logarithm.specs.Stored.{StoredLogarithms};
 ghost use Rattle.bracket.specs.Carry.{carried, carriedOn};
 ghost use Rattle.bracket.specs.Pieces.{exactly};
@@ -11,17 +10,15 @@ ghost use Rattle.model.specs.Access as access;
 ghost use Rattle.model.specs.Alignment as alignment;
 ghost use Rattle.model.specs.Grade.{gradeFirst, gradeSecond};
 ghost use Rattle.model.specs.Widths as widths;
-ghost use Rattle.prediction.specs.Pieces.{hazardBracket};
 ghost use Rattle.prediction.specs.Values.{segmentOf, SegmentSizes, CurveSizes, segmentUnits, straightBrackets, curveBrackets, segmentBrackets};
-use crate::values::base_factor;
+use crate::stored::base_factor;
+use crate::stored::hazard_factor;
 use crate::values::exact;
 use crate::values::numbers_of;
 use bracket::Bracket;
 use bracket::carry::CarryAnswer;
 use bracket::carry::through;
 use driveways::driveways_with;
-use exponential::exponential_negative_with;
-use exponential::exponential_with;
 use factors::access::passing;
 use factors::access::two_way_lane;
 use factors::alignment::curve;
@@ -81,17 +78,6 @@ const TWO_WAY_LANE: usize = 13;
 const PASSING: usize = 14;
 
 const HAZARD_RATING: usize = 15;
-
-// e^(0.0668 (rating - 3)): below 3 the exponent is negative.
-pub fn hazard_with(exponentials: &[u64; 15], rating: u64) -> Bracket
-    requires { ⌜ StoredExponentials (now exponentials) × (rating ≤ 7) ⌝ }
-    ensures { λ r. ⌜ r ≡ hazardBracket rating ⌝ }
-{
-    if 3 <= rating {
-        return exponential_with(exponentials, 668 * (rating - 3));
-    }
-    exponential_negative_with(exponentials, 668 * (3 - rating))
-}
 
 // The numbers of a site that is a segment; a straight road has no curve length.
 pub fn segment_of(site: Site) -> Segment
@@ -212,24 +198,19 @@ fn segment_start(years: u64, calibration: u64, v: Segment) -> u64
 }
 
 // The start through the nine factors of every road.
-fn carry_straight(
-    logarithms: &[u64; 256],
-    exponentials: &[u64; 15],
-    start: u64,
-    v: Segment,
-) -> CarryAnswer
-    requires { ⌜ StoredLogarithms (now logarithms) × StoredExponentials (now exponentials) × SegmentSizes v ⌝ }
+fn carry_straight(logarithms: &[u64; 256], start: u64, v: Segment) -> CarryAnswer
+    requires { ⌜ StoredLogarithms (now logarithms) × SegmentSizes v ⌝ }
     ensures { λ r. ⌜ r ≡ carried start start (straightBrackets v) ⌝ }
 {
     let ends = CarryAnswer::Carried(start, start);
-    let base = through(ends, base_factor(exponentials, 0));
+    let base = through(ends, base_factor(0));
     let lane = through(base, lane_factor(v));
     let shoulder = through(lane, shoulder_factor(v));
     let first_grade = through(shoulder, first_grade_factor(v));
     let grade = through(first_grade, second_grade_factor(v));
     let two_way = through(grade, two_way_factor(v));
     let passing = through(two_way, passing_factor(v));
-    let roadside = through(passing, hazard_with(exponentials, v.hazard_rating));
+    let roadside = through(passing, hazard_factor(v.hazard_rating));
     through(roadside, driveway_factor(logarithms, v))
 }
 
@@ -245,16 +226,15 @@ fn carry_curve(straight: CarryAnswer, v: Segment) -> CarryAnswer
 // The start through the factors of every road and then the curve's.
 pub fn carry_segment(
     logarithms: &[u64; 256],
-    exponentials: &[u64; 15],
     years: u64,
     calibration: u64,
     v: Segment,
 ) -> CarryAnswer
-    requires { ⌜ StoredLogarithms (now logarithms) × StoredExponentials (now exponentials) × (years ≤ 10) × (calibration ≤ 9999) × SegmentSizes v ⌝ }
+    requires { ⌜ StoredLogarithms (now logarithms) × (years ≤ 10) × (calibration ≤ 9999) × SegmentSizes v ⌝ }
     ensures { λ r. ⌜ r ≡ carried (segmentUnits years calibration v) (segmentUnits years calibration v) (segmentBrackets v) ⌝ }
 {
     let start = segment_start(years, calibration, v);
-    let straight = carry_straight(logarithms, exponentials, start, v);
+    let straight = carry_straight(logarithms, start, v);
     if v.curved {
         return carry_curve(straight, v);
     }

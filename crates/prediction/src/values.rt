@@ -1,20 +1,14 @@
 // A site's numbers, an exact factor as a bracket, and a carried bracket in whole millionths.
 ghost use mathlib.Core.Path.{_≡_};
 ghost use mathlib.Core.List.{map};
-ghost use Prim.Native.Nat.{_≤_};
 ghost use Rattle.wide.specs.Scaling.{floor, ceiling};
-ghost use Rattle.exponential.specs.Exponential.{expNegBracket};
-ghost use Rattle.exponential.specs.Stored.{StoredExponentials};
 ghost use Rattle.site.specs.Writing.{slotsOf};
-ghost use Rattle.model.specs.Coefficients.{editionOne};
 ghost use Rattle.model.specs.Parts as parts;
 ghost use Rattle.prediction.specs.Pair.{unit, outward, exactBracket};
 use crate::Pair;
 use bracket::Bracket;
 use bracket::carry::CarryAnswer;
-use exponential::exponential_negative_with;
 use factors::Ratio;
-use factors::coefficients::base_exponent;
 use site::rules::SLOTS;
 use site::values::Site;
 use site::values::Slot;
@@ -57,14 +51,6 @@ pub fn exact(ratio: Ratio) -> Bracket
         high_num: ratio.num,
         high_den: ratio.den,
     }
-}
-
-// The base factor of a kind, e^(-0.4865) for a segment.
-pub fn base_factor(exponentials: &[u64; 15], kind: u8) -> Bracket
-    requires { ⌜ StoredExponentials (now exponentials) × (kind ≤ 3) ⌝ }
-    ensures { λ r. ⌜ r ≡ expNegBracket (editionOne .base-exponent kind) ⌝ }
-{
-    exponential_negative_with(exponentials, base_exponent(kind))
 }
 
 // Units in millionths, rounded down.

@@ -14,7 +14,7 @@ carry-segment-requires : tie.Need-carry-segment-requires
 carry-segment-requires c κs =
     let s = c .before .before .before in
     let p = s .pre in
-    (p .1, p .2, p .3, p .4, rw (c .segment-of .ensures) (segment-sizes _ (segment-numbers _ (p .6) (c .before .if1 .taken))))
+    (p .1, p .3, p .4, rw (c .segment-of .ensures) (segment-sizes _ (segment-numbers _ (p .6) (c .before .if1 .taken))))
 
 round-outward-requires : tie.Need-round-outward-requires
 round-outward-requires c κs = search needs

@@ -53,7 +53,7 @@ through-requires-6 : tie.Need-through-requires-6
 through-requires-6 c κs = search needs
 
 base-factor-requires : tie.Need-base-factor-requires
-base-factor-requires c κs = let s = c .before .before .before .before .before .before .before .before .before .before .before .before in (s .pre .1, s .pre .4 .kind-most)
+base-factor-requires c κs = c .before .before .before .before .before .before .before .before .before .before .before .before .pre .4 .kind-most
 
 through-requires-7 : tie.Need-through-requires-7
 through-requires-7 c κs = search needs

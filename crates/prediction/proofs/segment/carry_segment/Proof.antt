@@ -12,7 +12,7 @@ carry-straight-requires : tie.Need-carry-straight-requires
 carry-straight-requires c κs = search needs
 
 carry-curve-requires : tie.Need-carry-curve-requires
-carry-curve-requires c κs = c .before .before .before .pre .4 .bend (c .if1 .taken)
+carry-curve-requires c κs = c .before .before .before .pre .3 .bend (c .if1 .taken)
 
 returns : tie.Need-returns
 returns c =

@@ -45,19 +45,19 @@ through-requires-6 : tie.Need-through-requires-6
 through-requires-6 c κs = search needs
 
 passing-factor-requires : tie.Need-passing-factor-requires
-passing-factor-requires c κs = c .before .before .before .before .before .before .before .before .before .before .before .before .pre .2
+passing-factor-requires c κs = c .before .before .before .before .before .before .before .before .before .before .before .before .pre .1
 
 through-requires-7 : tie.Need-through-requires-7
 through-requires-7 c κs = search needs
 
-hazard-with-requires : tie.Need-hazard-with-requires
-hazard-with-requires c κs = let s = c .before .before .before .before .before .before .before .before .before .before .before .before .before .before in (s .pre .1, s .pre .2 .rating-most)
+hazard-factor-requires : tie.Need-hazard-factor-requires
+hazard-factor-requires c κs = c .before .before .before .before .before .before .before .before .before .before .before .before .before .before .pre .1 .rating-most
 
 through-requires-8 : tie.Need-through-requires-8
 through-requires-8 c κs = search needs
 
 driveway-factor-requires : tie.Need-driveway-factor-requires
-driveway-factor-requires c κs = let s = c .before .before .before .before .before .before .before .before .before .before .before .before .before .before .before .before in (s .pre .0, s .pre .2)
+driveway-factor-requires c κs = c .before .before .before .before .before .before .before .before .before .before .before .before .before .before .before .before .pre
 
 through-requires-9 : tie.Need-through-requires-9
 through-requires-9 c κs = search needs
@@ -83,7 +83,7 @@ returns c =
     let to-second = further to-first (second .second-grade-factor .ensures) (two-way .before .through5 .ensures) in
     let to-two-way = further to-second (two-way .two-way-factor .ensures) (passing .before .through6 .ensures) in
     let to-passing = further to-two-way (passing .passing-factor .ensures) (hazard .before .through7 .ensures) in
-    let to-hazard = further to-passing (hazard .hazard-with .ensures) (driveways .before .through8 .ensures) in
+    let to-hazard = further to-passing (hazard .hazard-factor .ensures) (driveways .before .through8 .ensures) in
     further to-hazard (driveways .driveway-factor .ensures) (c .through9 .ensures) ∙ one-by-one (straightBrackets (a .v)) (Carried start start)
 
 pub carry-straight-spec : {M : Type 1} → statement M
@@ -104,7 +104,7 @@ carry-straight-spec =
     through-requires-6
     passing-factor-requires
     through-requires-7
-    hazard-with-requires
+    hazard-factor-requires
     through-requires-8
     driveway-factor-requires
     through-requires-9
