@@ -5,6 +5,7 @@ pub mod Headed
 pub mod RecordCauses
 pub mod Causes
 pub mod Scan
+pub mod Promise
 pub mod Acceptance
 pub mod SitesRead
 pub mod Prefix

@@ -5,7 +5,8 @@ ghost use Prim.Native.Nat.{_≤_};
 ghost use lib.ListN.{length};
 ghost use lib.Dec.{leb};
 ghost use Rattle.model.specs.Predicted.{inLimits};
-ghost use Rattle.project.specs.File.{headerLength, mostSites, headerNumber, scanRecords, scanFile};
+ghost use Rattle.project.specs.File.{headerLength, mostSites, headerNumber, scanRecords};
+ghost use Rattle.project.specs.Promise.{ScansFile};
 ghost use Rattle.project.specs.Fields.{ReadsHeader, valuesOf};
 use site::values::SiteAnswer;
 
@@ -103,7 +104,7 @@ fn scan_records(file: &[u8], sites: usize) -> ScanAnswer
 
 // The first cause to refuse a file that its bytes show, and its place, or the count of its sites.
 pub fn scan(file: &[u8]) -> ScanAnswer
-    ensures { λ r. ⌜ r ≡ scanFile (now (file .entry)) ⌝ }
+    ensures { λ r. ⌜ ScansFile (now (file .entry)) r ⌝ }
 {
     let number = header_number(file);
     if number != 0 {

@@ -4,6 +4,7 @@ use borrow.Author.Needs.{needs}
 use borrow.Author.Tests.{eq-eqb, ne-eqb}
 use mathlib.Core.Path.{sym, _∙_}
 use Rattle.project.specs.File.{scanFile}
+use Rattle.project.specs.Promise.{scans-file}
 use Rattle.project.specs.Headed.{header-fine}
 use Rattle.project.proofs.scan.Statement.{statement}
 use Rattle.project.proofs.scan.Tie as tie
@@ -13,7 +14,7 @@ header-number-requires c κs = search needs
 
 returns : tie.Need-returns
 unfolding scanFile
-returns c = simp (← c .before .header-number .ensures, ne-eqb _ _ (c .if1 .taken))
+returns c = scans-file _ _ (simp (← c .before .header-number .ensures, ne-eqb _ _ (c .if1 .taken)))
 
 header-of-requires : tie.Need-header-of-requires
 header-of-requires c κs = header-fine _ (sym (c .before .header-number .ensures) ∙ c .if1 .left) .long
@@ -23,12 +24,12 @@ scan-records-requires c κs = header-fine _ (sym (c .before .before .header-numb
 
 returns-2 : tie.Need-returns-2
 unfolding scanFile
-returns-2 c = simp (
+returns-2 c = scans-file _ _ (simp (
   ← c .before .before .before .header-number .ensures,
   eq-eqb _ _ (c .before .before .if1 .left),
   ← c .before .header-of .ensures .sites-is,
   c .scan-records .ensures,
-)
+))
 
 pub scan-spec : {M : Type 1} → statement M
 scan-spec =

@@ -17,7 +17,7 @@ enum-known-found-2 : tie.Need-enum-known-found-2
 enum-known-found-2 c = search needs
 
 space-requires : tie.Need-space-requires
-space-requires c κs = accepted-sites _ _ (sym (c .before .before .before .scan .ensures) ∙ c .before .found2 .given .1) .few
+space-requires c κs = accepted-sites _ _ (sym (c .before .before .before .scan .ensures .answer-is) ∙ c .before .found2 .given .1) .few
 
 enum-known-answer : tie.Need-enum-known-answer
 enum-known-answer c = search needs
@@ -26,19 +26,19 @@ enum-known-answer-2 : tie.Need-enum-known-answer-2
 enum-known-answer-2 c = search needs
 
 fill-requires : tie.Need-fill-requires
-fill-requires c κs = record { sites = _; scanned = (sym (c .before .before .before .before .before .before .before .before .scan .ensures) ∙ c .before .before .before .before .before .before .found2 .given .1); room-for = space-suffices _ _ _ (sym (c .before .before .before .before .before .before .before .before .scan .ensures) ∙ c .before .before .before .before .before .before .found2 .given .1) _ (sym (c .before .before .answer2 .given .1) ∙ c .before .before .before .before .space .ensures) }
+fill-requires c κs = record { sites = _; scanned = (sym (c .before .before .before .before .before .before .before .before .scan .ensures .answer-is) ∙ c .before .before .before .before .before .before .found2 .given .1); room-for = space-suffices _ _ _ (sym (c .before .before .before .before .before .before .before .before .scan .ensures .answer-is) ∙ c .before .before .before .before .before .before .found2 .given .1) _ (sym (c .before .before .answer2 .given .1) ∙ c .before .before .before .before .space .ensures) }
 
 returns : tie.Need-returns
-returns c = refused-by-bytes _ _ _ _ (sym (c .before .before .before .scan .ensures) ∙ c .before .found .given .1)
+returns c = refused-by-bytes _ _ _ _ (sym (c .before .before .before .scan .ensures .answer-is) ∙ c .before .found .given .1)
 
 returns-2 : tie.Need-returns-2
-returns-2 c = refused-by-room _ _ _ (sym (c .before .before .before .before .before .before .before .scan .ensures) ∙ c .before .before .before .before .before .found2 .given .1) _ _ (sym (c .before .answer .given .1) ∙ c .before .before .before .space .ensures)
+returns-2 c = refused-by-room _ _ _ (sym (c .before .before .before .before .before .before .before .scan .ensures .answer-is) ∙ c .before .before .before .before .before .found2 .given .1) _ _ (sym (c .before .answer .given .1) ∙ c .before .before .before .space .ensures)
 
 same-length : tie.Need-same-length
 same-length c = search needs
 
 returns-3 : tie.Need-returns-3
-returns-3 c = reported _ _ _ (sym (c .before .before .before .before .before .before .before .before .before .before .before .scan .ensures) ∙ c .before .before .before .before .before .before .before .before .before .found2 .given .1) _ _ (sym (c .before .before .before .before .before .answer2 .given .1) ∙ c .before .before .before .before .before .before .before .space .ensures) (c .before .before .fill .ensures .0) (c .before .before .fill .ensures .1)
+returns-3 c = reported _ _ _ (sym (c .before .before .before .before .before .before .before .before .before .before .before .scan .ensures .answer-is) ∙ c .before .before .before .before .before .before .before .before .before .found2 .given .1) _ _ (sym (c .before .before .before .before .before .answer2 .given .1) ∙ c .before .before .before .before .before .before .before .space .ensures) (c .before .before .fill .ensures .0) (c .before .before .fill .ensures .1)
 
 pub read-project-spec : {M : Type 1} → statement M
 read-project-spec =
