@@ -17,7 +17,7 @@ use factors::coefficients::overdispersion;
 use logarithm::stored::stored_logarithms;
 use power::stored::stored_powers;
 use prediction::predicted_with;
-use prediction::values::numbers_of;
+use prediction::values::number;
 use site::values::Site;
 
 // What a report has for one site.
@@ -34,9 +34,6 @@ pub enum LineAnswer {
     OutsideRange,
 }
 
-// The place of the length among a site's numbers.
-const LENGTH: usize = 1;
-
 // The line of a valid site, with the stored numbers lent.
 pub fn line_with(
     powers: &[u64; 2560],
@@ -52,8 +49,8 @@ pub fn line_with(
 {
     let kind = site.kind;
     let observed = site.observed;
-    let numbers = numbers_of(site);
-    let k = overdispersion(kind, numbers[LENGTH]);
+    let length = site.length;
+    let k = overdispersion(kind, number(length));
     let predicted = predicted_with(
         powers,
         logarithms,

@@ -13,7 +13,7 @@ ghost use Rattle.model.specs.Crossings as crossings;
 ghost use Rattle.prediction.specs.Values.{crossingOf, CrossingSizes, majorPlace, minorPlace, crossingUnits, crossingBrackets};
 use crate::stored::base_factor;
 use crate::values::exact;
-use crate::values::numbers_of;
+use crate::values::number;
 use bracket::Bracket;
 use bracket::carry::CarryAnswer;
 use bracket::carry::through;
@@ -35,19 +35,6 @@ pub struct Crossing {
     pub limited_sight: u64,
 }
 
-// The places of a crossing's numbers among a site's slots.
-const TRAFFIC: usize = 0;
-
-const MINOR_TRAFFIC: usize = 2;
-
-const SKEW: usize = 16;
-
-const LEFT_LANES: usize = 17;
-
-const RIGHT_LANES: usize = 18;
-
-const LIMITED_SIGHT: usize = 19;
-
 // By kind, the places of the exponents of major and minor traffic (0.79, 0.49, 0.60, 0.61, 0.20); a segment has none.
 const MAJOR_PLACES: [u64; 4] = [5, 0, 2, 2];
 
@@ -60,15 +47,20 @@ const SKEW_EXPONENTS: [u64; 4] = [0, 40, 54, 0];
 pub fn crossing_of(site: Site) -> Crossing
     ensures { λ r. ⌜ r ≡ crossingOf site ⌝ }
 {
-    let n = numbers_of(site);
+    let traffic = site.traffic;
+    let minor = site.minor_traffic;
+    let skew = site.skew;
+    let left_lanes = site.left_lanes;
+    let right_lanes = site.right_lanes;
+    let limited_sight = site.limited_sight;
     Crossing {
         kind: site.kind,
-        traffic: n[TRAFFIC],
-        minor: n[MINOR_TRAFFIC],
-        skew: n[SKEW],
-        left_lanes: n[LEFT_LANES],
-        right_lanes: n[RIGHT_LANES],
-        limited_sight: n[LIMITED_SIGHT],
+        traffic: number(traffic),
+        minor: number(minor),
+        skew: number(skew),
+        left_lanes: number(left_lanes),
+        right_lanes: number(right_lanes),
+        limited_sight: number(limited_sight),
     }
 }
 

@@ -14,7 +14,7 @@ ghost use Rattle.prediction.specs.Values.{segmentOf, SegmentSizes, Curve
 use crate::stored::base_factor;
 use crate::stored::hazard_factor;
 use crate::values::exact;
-use crate::values::numbers_of;
+use crate::values::number;
 use bracket::Bracket;
 use bracket::carry::CarryAnswer;
 use bracket::carry::through;
@@ -50,58 +50,40 @@ pub struct Segment {
     pub curved: bool,
 }
 
-// The places of a segment's numbers among a site's slots.
-const TRAFFIC: usize = 0;
-
-const LENGTH: usize = 1;
-
-const LANE_WIDTH: usize = 4;
-
-const SHOULDER_WIDTH: usize = 5;
-
-const SHOULDER_TYPE: usize = 6;
-
-const CURVE_LENGTH: usize = 7;
-
-const RADIUS: usize = 8;
-
-const SPIRAL_ENDS: usize = 9;
-
-const DEFICIENCY: usize = 10;
-
-const GRADE: usize = 11;
-
-const DRIVEWAYS: usize = 12;
-
-const TWO_WAY_LANE: usize = 13;
-
-const PASSING: usize = 14;
-
-const HAZARD_RATING: usize = 15;
-
 // The numbers of a site that is a segment; a straight road has no curve length.
 pub fn segment_of(site: Site) -> Segment
     ensures { λ r. ⌜ r ≡ segmentOf site ⌝ }
 {
-    let n = numbers_of(site);
-    let bend = site.curve_length;
-    let straight = is_absent(bend);
+    let traffic = site.traffic;
+    let length = site.length;
+    let lane_width = site.lane_width;
+    let shoulder_width = site.shoulder_width;
+    let shoulder_type = site.shoulder_type;
+    let curve_length = site.curve_length;
+    let radius = site.radius;
+    let spiral_ends = site.spiral_ends;
+    let deficiency = site.deficiency;
+    let grade = site.grade;
+    let driveways = site.driveways;
+    let two_way_lane = site.two_way_lane;
+    let passing = site.passing;
+    let hazard_rating = site.hazard_rating;
     Segment {
-        traffic: n[TRAFFIC],
-        length: n[LENGTH],
-        lane_width: n[LANE_WIDTH],
-        shoulder_width: n[SHOULDER_WIDTH],
-        shoulder_type: n[SHOULDER_TYPE],
-        curve_length: n[CURVE_LENGTH],
-        radius: n[RADIUS],
-        spiral_ends: n[SPIRAL_ENDS],
-        deficiency: n[DEFICIENCY],
-        grade: n[GRADE],
-        driveways: n[DRIVEWAYS],
-        two_way_lane: n[TWO_WAY_LANE],
-        passing: n[PASSING],
-        hazard_rating: n[HAZARD_RATING],
-        curved: !straight,
+        traffic: number(traffic),
+        length: number(length),
+        lane_width: number(lane_width),
+        shoulder_width: number(shoulder_width),
+        shoulder_type: number(shoulder_type),
+        curve_length: number(curve_length),
+        radius: number(radius),
+        spiral_ends: number(spiral_ends),
+        deficiency: number(deficiency),
+        grade: number(grade),
+        driveways: number(driveways),
+        two_way_lane: number(two_way_lane),
+        passing: number(passing),
+        hazard_rating: number(hazard_rating),
+        curved: !is_absent(curve_length),
     }
 }
 

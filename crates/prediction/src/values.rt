@@ -1,44 +1,25 @@
-// A site's numbers, an exact factor as a bracket, and a carried bracket in whole millionths.
+// The number in a slot, an exact factor as a bracket, and a carried bracket in whole millionths.
 ghost use mathlib.Core.Path.{_≡_};
-ghost use mathlib.Core.List.{map};
 ghost use Rattle.wide.specs.Scaling.{floor, ceiling};
-ghost use Rattle.site.specs.Writing.{slotsOf};
 ghost use Rattle.model.specs.Parts as parts;
 ghost use Rattle.prediction.specs.Pair.{unit, outward, exactBracket};
 use crate::Pair;
 use bracket::Bracket;
 use bracket::carry::CarryAnswer;
 use factors::Ratio;
-use site::rules::SLOTS;
-use site::values::Site;
 use site::values::Slot;
-use site_writer::slots_of;
 
 // Units to a millionth.
 const UNIT: u64 = 200_000;
 
 // The number in a slot.
-fn number(slot: Slot) -> u64
+pub fn number(slot: Slot) -> u64
     ensures { λ r. ⌜ r ≡ parts.number slot ⌝ }
 {
     match slot {
         Slot::Absent => 0,
         Slot::Number(n) => n as u64,
     }
-}
-
-// The numbers of a site, in the order of its slots.
-pub fn numbers_of(site: Site) -> [u64; SLOTS]
-    ensures { λ r. ⌜ r ≡ map parts.number (slotsOf site) ⌝ }
-{
-    let slots = slots_of(site);
-    let mut numbers = [0; SLOTS];
-    let mut i = 0;
-    while i < SLOTS {
-        numbers[i] = number(slots[i]);
-        i += 1;
-    }
-    numbers
 }
 
 // An exact factor: both ends are the same.

@@ -1,9 +1,6 @@
 -- `line::line_with` meets its contract.
 -- Assumes nothing.
-use Prim.Native.Nat.{ℕ}
 use mathlib.Core.Path.{ap, _∙_}
-use mathlib.Core.List.{List}
-use lib.ListN.{getD}
 use Rattle.site.specs.Ranges.{valid-kind}
 use Rattle.model.specs.Coefficients.{editionOne}
 use Rattle.model.specs.Predicted.{headerOf}
@@ -19,11 +16,8 @@ use Rattle.line.proofs.line_with.Tie as tie
 limits : (c : tie.Start) → HeaderMost (headerOf (c .args .years) (c .args .segments) (c .args .crossings))
 limits c = record { years-most = c .pre .3; segments-most = c .pre .4; crossings-most = c .pre .5 }
 
-numbers-of-requires : tie.Need-numbers-of-requires
-numbers-of-requires c κs = search needs
-
-array-read-overdispersion : tie.Need-array-read-overdispersion
-array-read-overdispersion c = search needs
+number-requires : tie.Need-number-requires
+number-requires c κs = search needs
 
 overdispersion-requires : tie.Need-overdispersion-requires
 overdispersion-requires c κs = valid-kind (c .before .args .site) (c .before .pre .6)
@@ -39,16 +33,16 @@ weigh-requires c κs =
 
 returns : tie.Need-returns
 returns c =
-    let length = ap (λ (numbers : List ℕ). editionOne .overdispersion (c .before .before .before .before .args .site .kind) (getD numbers 1 0)) (c .before .before .before .numbers-of .ensures) in
+    let site = c .before .before .before .before .args .site in
+    let length = ap (editionOne .overdispersion (site .kind)) (c .before .before .before .number .ensures) in
     let k = c .before .before .overdispersion .ensures ∙ ap coded length in
-    line-made editionOne _ (c .before .before .before .before .args .site) _ _ _ _ (ap (λ (r : Ratio). r .num) k) (ap (λ (r : Ratio). r .den) k) (c .before .predicted-with .ensures) (c .weigh .ensures)
+    line-made editionOne _ site _ _ _ _ (ap (λ (r : Ratio). r .num) k) (ap (λ (r : Ratio). r .den) k) (c .before .predicted-with .ensures) (c .weigh .ensures)
 
 pub line-with-spec : {M : Type 1} → statement M
 line-with-spec =
     tie.close
     (tie.spec
-    numbers-of-requires
-    array-read-overdispersion
+    number-requires
     overdispersion-requires
     predicted-with-requires
     weigh-requires
