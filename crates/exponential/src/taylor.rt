@@ -15,6 +15,13 @@ pub(crate) fn taylor(f: u64) -> Ends
     requires { ⌜ f ≤ 10000 ⌝ }
     ensures { λ r. ⌜ (r .low ≡ taylorLow f) × (r .high ≡ taylorHigh f) ⌝ }
 {
+    // e^0 is 1, and no term adds to it
+    if f == 0 {
+        return Ends {
+            low: SCALE,
+            high: SCALE,
+        };
+    }
     let mut low_term = SCALE;
     let mut high_term = SCALE;
     let mut low = SCALE;

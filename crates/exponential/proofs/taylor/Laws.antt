@@ -51,3 +51,8 @@ module _ {f k low-term high-term low high : ℕ} (h : Terms f k low-term high-te
 pub done : {f low-term high-term low high : ℕ} → Terms f 16 low-term high-term low high → (low ≡ taylorLow f) × (high + 2 * ceiling high-term f 170000 ≡ taylorHigh f)
 unfolding taylorLow taylorHigh
 done {f} h = (h .low-is, ap₂ (λ (s t : ℕ). s + 2 * t) (h .high-is) (ap (λ (z : ℕ). ceiling z f 170000) (h .high-term-is) ∙ next-term f 16))
+
+-- of e^0, by computation
+pub none : {f : ℕ} → f ≡ 0 → (scale ≡ taylorLow f) × (scale ≡ taylorHigh f)
+unfolding taylorLow taylorHigh sumLow sumHigh termLow termHigh
+none e = rw e (refl, refl)

@@ -3,7 +3,7 @@ use mathlib.Core.Path.{_≡_}
 use Prim.Native.Nat.{_-_}
 use native.Mathlib.Omega.{arith}
 use borrow.Author.Needs.{needs}
-use Rattle.exponential.proofs.taylor.Laws.{Terms, first, next, fit, done}
+use Rattle.exponential.proofs.taylor.Laws.{Terms, none, first, next, fit, done}
 use Rattle.exponential.proofs.taylor.taylor.Statement.{statement}
 use Rattle.exponential.proofs.taylor.taylor.Tie as tie
 
@@ -13,8 +13,11 @@ Inv-loop f low-term₀ high-term₀ low₀ high₀ k₀ low-term high-term low h
 abbrev μ-loop : tie.MeasureT-loop
 μ-loop f low-term₀ high-term₀ low₀ high₀ k₀ low-term high-term low high k = 16 - k
 
+returns : tie.Need-returns Inv-loop μ-loop
+returns c = none (c .if1 .taken)
+
 loop-holds : tie.Need-loop-holds Inv-loop μ-loop
-loop-holds c = first (c .args .f)
+loop-holds c = first (c .before .args .f)
 
 add-d : tie.Need-add-d Inv-loop μ-loop
 add-d c = search needs
@@ -23,28 +26,28 @@ mul-d : tie.Need-mul-d Inv-loop μ-loop
 mul-d c = search needs
 
 mul-low-term : tie.Need-mul-low-term Inv-loop μ-loop
-mul-low-term c = let w = fit (c .before .loop .inv) (c .before .before .pre) in omega arith
+mul-low-term c = let w = fit (c .before .loop .inv) (c .before .before .before .pre) in omega arith
 
 div-low-term : tie.Need-div-low-term Inv-loop μ-loop
 div-low-term c = search needs
 
 mul-high-term : tie.Need-mul-high-term Inv-loop μ-loop
-mul-high-term c = let w = fit (c .before .loop .inv) (c .before .before .pre) in omega arith
+mul-high-term c = let w = fit (c .before .loop .inv) (c .before .before .before .pre) in omega arith
 
 sub-high-term : tie.Need-sub-high-term Inv-loop μ-loop
 sub-high-term c = search needs
 
 add-high-term : tie.Need-add-high-term Inv-loop μ-loop
-add-high-term c = let w = fit (c .before .loop .inv) (c .before .before .pre) in omega arith
+add-high-term c = let w = fit (c .before .loop .inv) (c .before .before .before .pre) in omega arith
 
 div-high-term : tie.Need-div-high-term Inv-loop μ-loop
 div-high-term c = search needs
 
 add-low : tie.Need-add-low Inv-loop μ-loop
-add-low c = let w = fit (next (c .before .loop .inv) (omega arith)) (c .before .before .pre) in omega arith
+add-low c = let w = fit (next (c .before .loop .inv) (omega arith)) (c .before .before .before .pre) in omega arith
 
 add-high : tie.Need-add-high Inv-loop μ-loop
-add-high c = let w = fit (next (c .before .loop .inv) (omega arith)) (c .before .before .pre) in omega arith
+add-high c = let w = fit (next (c .before .loop .inv) (omega arith)) (c .before .before .before .pre) in omega arith
 
 add-k : tie.Need-add-k Inv-loop μ-loop
 add-k c = search needs
@@ -56,19 +59,19 @@ loop-again : tie.Need-loop-again Inv-loop μ-loop
 loop-again c = next (c .before .loop .inv) (omega arith)
 
 mul-tail : tie.Need-mul-tail Inv-loop μ-loop
-mul-tail c = let w = fit (c .before .loop .inv) (c .before .before .pre) in omega arith
+mul-tail c = let w = fit (c .before .loop .inv) (c .before .before .before .pre) in omega arith
 
 add-tail : tie.Need-add-tail Inv-loop μ-loop
-add-tail c = let w = fit (c .before .loop .inv) (c .before .before .pre) in omega arith
+add-tail c = let w = fit (c .before .loop .inv) (c .before .before .before .pre) in omega arith
 
-mul-t13 : tie.Need-mul-t13 Inv-loop μ-loop
-mul-t13 c = let w = fit (c .before .loop .inv) (c .before .before .pre) in omega arith
+mul-t14 : tie.Need-mul-t14 Inv-loop μ-loop
+mul-t14 c = let w = fit (c .before .loop .inv) (c .before .before .before .pre) in omega arith
 
-add-t14 : tie.Need-add-t14 Inv-loop μ-loop
-add-t14 c = let w = fit (c .before .loop .inv) (c .before .before .pre) in omega arith
+add-t15 : tie.Need-add-t15 Inv-loop μ-loop
+add-t15 c = let w = fit (c .before .loop .inv) (c .before .before .before .pre) in omega arith
 
-returns : tie.Need-returns Inv-loop μ-loop
-returns c = let e : c .before .loop .k ≡ 16 = omega arith in done (rw e at (c .before .loop .inv))
+returns-2 : tie.Need-returns-2 Inv-loop μ-loop
+returns-2 c = let e : c .before .loop .k ≡ 16 = omega arith in done (rw e at (c .before .loop .inv))
 
 pub taylor-spec : {M : Type 1} → statement M
 taylor-spec =
@@ -76,6 +79,7 @@ taylor-spec =
     (tie.spec
     Inv-loop
     μ-loop
+    returns
     loop-holds
     add-d
     mul-d
@@ -92,6 +96,6 @@ taylor-spec =
     loop-again
     mul-tail
     add-tail
-    mul-t13
-    add-t14
-    returns)
+    mul-t14
+    add-t15
+    returns-2)
