@@ -1,45 +1,22 @@
--- A line's four numbers lent, and what they say of the site's line.
-use Prim.Native.Nat.{ℕ, _≤_, _<_}
+-- What a line's four numbers that are lent say of the site's line.
+use Prim.Native.Nat.{ℕ, _<_}
 use mathlib.Core.Path.{_≡_, sym, ap, _∙_}
-use mathlib.Core.Bool.{Bool, cond}
+use mathlib.Core.Bool.{Bool, false, cond}
 use mathlib.Core.List.{List, _++_}
 use native.Mathlib.Decide.{decLt}
 use native.Mathlib.Omega.{arith}
-use lib.ListN.{length, set, drop}
+use lib.ListN.{length, drop}
+use lib.Dec.{ltb}
 use borrow.Author.Tests.{lt-ltb, le-ltb, eq-eqb, ne-eqb}
 use Rattle.site.specs.declared.values.Site.{Site}
 use Rattle.model.specs.Coefficients.{editionOne}
 use Rattle.model.specs.Predicted.{Header}
-use Rattle.line.specs.declared.Line.{Line}
 use Rattle.line.specs.declared.LineAnswer.{LineAnswer}
 use Rattle.line.specs.declared.LineAnswer.the-variants.{Made, OutsideRange}
 use Rattle.line.specs.Line.{lineAnswer}
 use Rattle.line.specs.Stands.{LineStands, AnswerStands}
 use Rattle.unit.specs.SiteNumbers.{siteFrom, siteNumbers}
 use Rattle.unit.specs.LineNumbers.{lineNumbers, lineAt, lineNumber, lineInto, lineFrom, LendsLine, LinesNumbers}
-use Rattle.unit.proofs.Lending.{four-stored}
-
--- a line without and with space for it
-module _ (line : Line) (run : List ℕ) where
-  short-number : length run < 4 → lineNumber (Made line) (length run) ≡ 10
-  short-number h = ap (λ (t : Bool). cond t 10 0) (lt-ltb (length run) 4 h)
-
-  long-into : 4 ≤ length run → lineInto (Made line) run ≡ lineNumbers line ++ drop 4 run
-  long-into h = ap (λ (t : Bool). cond t run (lineNumbers line ++ drop 4 run)) (le-ltb (length run) 4 h)
-
-  module _ (answer : LineAnswer) (is : answer ≡ Made line) where
-    pub no-space : length run < 4 → LendsLine answer run run 10
-    no-space h = rw is (record {
-      number-is = sym (short-number h);
-      run-is = sym (ap (λ (t : Bool). cond t run (lineNumbers line ++ drop 4 run)) (lt-ltb (length run) 4 h));
-    })
-
-    pub lent : 4 ≤ length run
-        → LendsLine answer run (set (set (set (set run 0 (line .«predicted_low»)) 1 (line .«predicted_high»)) 2 (line .«expected_low»)) 3 (line .«expected_high»)) 0
-    lent h = rw is (record {
-      number-is = sym (ap (λ (t : Bool). cond t 10 0) (le-ltb (length run) 4 h));
-      run-is = four-stored run _ _ _ _ h ∙ sym (long-into h);
-    })
 
 -- an answer that stands, lent with the number 0
 lent-stands : (header : Header) (site : Site) (before afterwards : List ℕ) (number : ℕ) (answer : LineAnswer)
@@ -49,8 +26,10 @@ lent-stands header site before afterwards number OutsideRange s l z = let e = l 
 lent-stands header site before afterwards number (Made line) s l z = by (decLt (length before) 4)
   where
     by : Dec (length before < 4) → LineStands editionOne header site (lineAt afterwards)
-    by (yes h) = let e : number ≡ 10 = l .number-is ∙ short-number line before h in absurd (omega arith)
-    by (no f) = rw (l .run-is ∙ long-into line before (omega arith)) s
+    by (yes h) = let e : number ≡ 10 = l .number-is ∙ ap (λ (t : Bool). cond t 10 0) (lt-ltb (length before) 4 h) in absurd (omega arith)
+    by (no f) =
+        let room : ltb (length before) 4 ≡ false = le-ltb (length before) 4 (omega arith) in
+        rw (l .run-is ∙ ap (λ (t : Bool). cond t before (lineNumbers line ++ drop 4 before)) room) s
 
 module _ (header : Header) (numbers before : List ℕ) where
   pub no-numbers : (length numbers ≡ siteNumbers → ⊥) → LinesNumbers header numbers before before 8

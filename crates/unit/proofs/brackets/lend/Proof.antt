@@ -1,5 +1,6 @@
 use native.Mathlib.Omega.{arith}
 use borrow.Author.Needs.{needs}
+use denote.Ref.{now}
 use lib.ListN.{length-set}
 use Rattle.unit.proofs.Lending.{no-space, lent}
 use Rattle.unit.proofs.brackets.lend.Statement.{statement}
@@ -16,8 +17,8 @@ returns c = search needs
 
 returns-2 : tie.Need-returns-2
 returns-2 c =
-    let a = c .before .before in
-    no-space _ (a .answer .given .0 .0) _ (a .answer .given .1) (c .if1 .taken)
+    let told = no-space _ _ _ _ _ (c .if1 .taken) in
+    rw (c .before .before .answer .given .1) (record { number-is = told .0; run-is = told .1 })
 
 slice-write-ends : tie.Need-slice-write-ends
 slice-write-ends c = search needs
@@ -36,8 +37,10 @@ same-length c = search needs
 
 returns-3 : tie.Need-returns-3
 returns-3 c =
-    let a = c .before .before in
-    lent _ (a .answer .given .0 .0) _ (a .answer .given .1) (c .if1 .left)
+    let answer = c .before .before .answer .given in
+    let made = answer .0 .0 in
+    let told = lent (now (c .before .before .before .before .args .ends)) (made .«low_num») (made .«low_den») (made .«high_num») (made .«high_den») (c .if1 .left) in
+    rw (answer .1) (record { number-is = told .0; run-is = told .1 })
 
 pub lend-spec : {M : Type 1} → statement M
 lend-spec =

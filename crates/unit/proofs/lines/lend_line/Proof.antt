@@ -2,8 +2,9 @@
 -- Assumes nothing.
 use native.Mathlib.Omega.{arith}
 use borrow.Author.Needs.{needs}
+use denote.Ref.{now}
 use lib.ListN.{length-set}
-use Rattle.unit.proofs.LineSteps.{no-space, lent}
+use Rattle.unit.proofs.Lending.{no-space, lent}
 use Rattle.unit.proofs.lines.lend_line.Statement.{statement}
 use Rattle.unit.proofs.lines.lend_line.Tie as tie
 
@@ -18,8 +19,8 @@ returns c = search needs
 
 returns-2 : tie.Need-returns-2
 returns-2 c =
-    let a = c .before .before in
-    no-space (a .answer .given .0 .0) _ _ (a .answer .given .1) (c .if1 .taken)
+    let told = no-space _ _ _ _ _ (c .if1 .taken) in
+    rw (c .before .before .answer .given .1) (record { number-is = told .0; run-is = told .1 })
 
 slice-write-run : tie.Need-slice-write-run
 slice-write-run c = search needs
@@ -38,8 +39,10 @@ same-length c = search needs
 
 returns-3 : tie.Need-returns-3
 returns-3 c =
-    let a = c .before .before in
-    lent (a .answer .given .0 .0) _ _ (a .answer .given .1) (c .if1 .left)
+    let answer = c .before .before .answer .given in
+    let made = answer .0 .0 in
+    let told = lent (now (c .before .before .before .before .args .run)) (made .«predicted_low») (made .«predicted_high») (made .«expected_low») (made .«expected_high») (c .if1 .left) in
+    rw (answer .1) (record { number-is = told .0; run-is = told .1 })
 
 pub lend-line-spec : {M : Type 1} → statement M
 lend-line-spec =
