@@ -6,7 +6,6 @@ use mathlib.Core.List.{List}
 use Prim.Native.Nat.{ℕ, suc, _+_, _-_, _<_, _≤_}
 use native.Mathlib.Omega.{arith}
 use lib.ListN.{length, take, drop, length-drop}
-use lib.Seq.{take-all}
 use lib.Dec.{leb}
 use borrow.Author.Tests.{lt-ltb, le-ltb}
 use Rattle.site.specs.declared.values.Site.{Site}
@@ -14,6 +13,7 @@ use Rattle.site.specs.declared.values.SiteAnswer.{SiteAnswer}
 use Rattle.site.specs.declared.values.SiteAnswer.the-variants as site
 use Rattle.site.specs.Record.{readSite}
 use Rattle.site.specs.Promises.{ReadsSite}
+use Rattle.site.proofs.Walk.{part-from}
 use Rattle.model.specs.Predicted.{inLimits}
 use Rattle.project.specs.declared.Header.{Header}
 use Rattle.project.specs.declared.ScanAnswer.{ScanAnswer}
@@ -25,10 +25,6 @@ pub limits-of : (s : List ℕ) (header : Header) → ReadsHeader s header
     → (inLimits (valuesOf header) && leb (header .sites) mostSites) ≡ (inLimits (headerIn s) && leb (countIn s) mostSites)
 limits-of s header r = rw (r .years-is, r .segments-is, r .crossings-is, r .sites-is)
 
--- the part that a record is handed over as is all that follows its place
-part-is : (s : List ℕ) (at : ℕ) → take (length s - at) (drop at s) ≡ drop at s
-part-is s at = take-all (length s - at) (drop at s) (omega (arith, length-drop at s))
-
 pub start : (s : List ℕ) (sites at : ℕ) → scanRecords sites (sites - 0) at s ≡ scanRecords sites sites at s
 start s sites at = let e : sites - 0 ≡ sites = omega arith in rw e
 
@@ -39,7 +35,7 @@ module _ (s : List ℕ) (sites i at : ℕ) (whole : ScanAnswer) (inv : scanRecor
 
   module _ (answer : SiteAnswer) (reads : ReadsSite (take (length s - at) (drop at s)) answer) where
     answer-of : answer ≡ readSite (drop at s)
-    answer-of = rw (part-is s at) at (reads .answer-is)
+    answer-of = rw (part-from s at) at (reads .answer-is)
 
     pub record-refused : (number : ℕ) → i < sites → answer ≡ site.Refused number → Refused number at ≡ whole
     record-refused number h e = let q : readSite (drop at s) ≡ site.Refused number = sym answer-of ∙ e in rw q at (step h)
@@ -51,7 +47,7 @@ module _ (s : List ℕ) (sites i at : ℕ) (whole : ScanAnswer) (inv : scanRecor
     pub record-within : (value : Site) (n : ℕ) → at ≤ length s → answer ≡ site.Read value n → at + n ≤ length s
     record-within value n h e =
         let w = reads .bounds value n e in
-        let l : n ≤ length (drop at s) = rw (part-is s at) at (w .within) in
+        let l : n ≤ length (drop at s) = rw (part-from s at) at (w .within) in
         omega (arith, length-drop at s)
 
   pub bytes-after : sites ≤ i → at < length s → Refused 2 at ≡ whole

@@ -62,7 +62,7 @@ refusal-row s =
 
 counted : (s : List ℕ) (n : ℕ) → Whole s n → Whole s (countIn s)
 counted s n w =
-    record { fine = w .fine; count-is = refl; ends = subst (λ (k : ℕ). Starts s k (length s)) (w .count-is) (w .ends) }
+    record { header = w .header; count-is = refl; ends = subst (λ (k : ℕ). Starts s k (length s)) (w .count-is) (w .ends) }
 
 module _ (s : List ℕ) (room : ℕ) where
   -- each cause of the order is one of the table's
@@ -82,9 +82,9 @@ module _ (s : List ℕ) (room : ℕ) where
 
   bytes-none : NoCause s room → {number p : ℕ} → FirstInBytes s number p → ⊥
   bytes-none none (in-header c) = header-none none c
-  bytes-none none (in-record {number} {p} fine ne r) =
+  bytes-none none (in-record {number} {p} header ne r) =
       row-of-none none (subst RecordRow (cause-number (drop p s) (r .cause)) (refusal-row (drop p s))) p ne r
-  bytes-none none (in-rest {p} fine r) = none .none-after p r
+  bytes-none none (in-rest {p} header r) = none .none-after p r
 
   pub first-is-cause : NoCause s room → {number p : ℕ} → FirstCause s room number p → ⊥
   first-is-cause none (in-bytes f) = bytes-none none f
@@ -93,7 +93,7 @@ module _ (s : List ℕ) (room : ℕ) where
   -- no row of the table holds of a whole file whose report suffices
   module _ (w : Whole s (countIn s)) where
     past-free : {p : ℕ} → RunsPast s p → ⊥
-    past-free (header-past h) = let l = w .fine .long in omega arith
+    past-free (header-past h) = let l = w .header .long in omega arith
     past-free (record-past {p} r) = let z = earlier s (w .ends) (r .starts) (r .counted) in let q = cause-number (drop p s) (r .cause) in omega arith
 
     record-free : (number p : ℕ) → (number ≡ 0 → ⊥) → RecordNumber s number p → ⊥
@@ -104,8 +104,8 @@ module _ (s : List ℕ) (room : ℕ) where
         record {
           none-past = λ p r. past-free r;
           none-after = λ p r. let e = same-place s (r .starts) (w .ends) in let m = r .more in omega arith;
-          edition-right = λ p r. r .other (w .fine .edition);
-          limits-kept = λ p r. r .outside (w .fine .limits, w .fine .few);
+          edition-right = λ p r. r .other (w .header .edition);
+          limits-kept = λ p r. r .outside (w .header .limits, w .header .few);
           kinds-known = λ p r. record-free 5 p (λ z. omega arith) r;
           none-lacked = λ p r. record-free 6 p (λ z. omega arith) r;
           none-missing = λ p r. record-free 7 p (λ z. omega arith) r;

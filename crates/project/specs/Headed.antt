@@ -11,19 +11,19 @@ use Rattle.site.specs.Truth.{and-left, and-right, passed}
 use Rattle.model.specs.Predicted.{inLimits}
 use Rattle.project.specs.File.{headerLength, editionIn, headerIn, countIn, mostSites, headerNumber}
 
-pub record HeaderFine (s : List ℕ) : Type 0 where
+pub record HeaderAccepted (s : List ℕ) : Type 0 where
   pub long : headerLength ≤ length s
   pub edition : editionIn s ≡ 1
   pub limits : inLimits (headerIn s) ≡ true
   pub few : countIn s ≤ mostSites
 
 -- no refusal of the header, told apart
-pub header-fine : (s : List ℕ) → headerNumber s ≡ 0 → HeaderFine s
+pub header-accepted : (s : List ℕ) → headerNumber s ≡ 0 → HeaderAccepted s
 unfolding headerNumber
-header-fine s e = by (eqb (editionIn s) 1) (inLimits (headerIn s) && leb (countIn s) mostSites) refl refl (passed (ltb (length s) headerLength) 0 _ e)
+header-accepted s e = by (eqb (editionIn s) 1) (inLimits (headerIn s) && leb (countIn s) mostSites) refl refl (passed (ltb (length s) headerLength) 0 _ e)
   where
     by : (a b : Bool) → eqb (editionIn s) 1 ≡ a → (inLimits (headerIn s) && leb (countIn s) mostSites) ≡ b
-        → (ltb (length s) headerLength ≡ false) × (_≡_ {A = ℕ} (cond a (cond b 0 4) 3) 0) → HeaderFine s
+        → (ltb (length s) headerLength ≡ false) × (_≡_ {A = ℕ} (cond a (cond b 0 4) 3) 0) → HeaderAccepted s
     by true true p q h =
         record {
           long = ltb-false (length s) headerLength (h .0);
@@ -34,7 +34,7 @@ header-fine s e = by (eqb (editionIn s) 1) (inLimits (headerIn s) && leb (countI
     by true false p q h = let z : ⊥ = omega arith in absurd z
     by false b p q h = let z : ⊥ = omega arith in absurd z
 
-pub fine-header : (s : List ℕ) → HeaderFine s → headerNumber s ≡ 0
+pub accepted-header : (s : List ℕ) → HeaderAccepted s → headerNumber s ≡ 0
 unfolding headerNumber
-fine-header s h =
+accepted-header s h =
     rw (le-ltb (length s) headerLength (h .long), eq-eqb (editionIn s) 1 (h .edition), h .limits, le-leb (countIn s) mostSites (h .few))

@@ -19,8 +19,8 @@ use Rattle.site.specs.BytesRead.{headRefused, bears, past-nothing}
 use Rattle.site.specs.Theorems.{words-most, longest, read-length}
 use Rattle.project.specs.declared.ScanAnswer.the-variants.{Refused}
 use Rattle.project.specs.File.{headerLength, countIn, mostSites, headerNumber, onward, scanRecords, scanFile}
-use Rattle.project.specs.Headed.{header-fine}
-use Rattle.project.specs.Scan.{scan-fine, scan-header}
+use Rattle.project.specs.Headed.{header-accepted}
+use Rattle.project.specs.Scan.{scan-past-header, scan-header}
 
 -- a header and 1,900 records of 33 bytes
 abbrev pub longestFile : ℕ
@@ -99,11 +99,11 @@ module _ (s t : List ℕ) (full : longestFile < length s) where
   same-by : (b : Bool) → eqb (headerNumber s) 0 ≡ b → scanFile (s ++ t) ≡ scanFile s
   same-by true e =
       let z = eqb-true (headerNumber s) 0 e in
-      let few = header-fine s z .few in
-      scan-fine (s ++ t) (same-header ∙ z)
+      let few = header-accepted s z .few in
+      scan-past-header (s ++ t) (same-header ∙ z)
       ∙ ap (λ (k : ℕ). scanRecords k k headerLength (s ++ t)) same-count
       ∙ same-records (countIn s) (countIn s) 0 headerLength (omega arith) (omega arith)
-      ∙ sym (scan-fine s z)
+      ∙ sym (scan-past-header s z)
   same-by false e =
       let ne = eqb-false (headerNumber s) 0 e in
       scan-header (s ++ t) (λ z. ne (sym same-header ∙ z)) ∙ ap (λ (k : ℕ). Refused k 0) same-header ∙ sym (scan-header s ne)

@@ -19,7 +19,7 @@ use Rattle.model.specs.Predicted.{inLimits}
 use Rattle.project.specs.declared.ScanAnswer.{ScanAnswer}
 use Rattle.project.specs.declared.ScanAnswer.the-variants.{Accepted, Refused}
 use Rattle.project.specs.File.{headerLength, editionIn, headerIn, countIn, mostSites, headerNumber, onward, scanRecords, scanFile}
-use Rattle.project.specs.Headed.{HeaderFine, header-fine, fine-header}
+use Rattle.project.specs.Headed.{HeaderAccepted, header-accepted, accepted-header}
 use Rattle.project.specs.RecordCauses.{cause-number, record-cause-exactly}
 use Rattle.project.specs.Causes.{Starts, first, next, RecordNumber, BytesAfter, HeaderCause, header-cut, header-edition, header-limits, FirstInBytes, in-header, in-record, in-rest, Whole}
 
@@ -172,10 +172,10 @@ module _ (s : List ℕ) where
   cause-not-zero (header-edition l h) e = omega arith
   cause-not-zero (header-limits q h) e = omega arith
 
--- where the header is fine, a scan of the file is one of its records
-pub scan-fine : (s : List ℕ) → headerNumber s ≡ 0 → scanFile s ≡ scanRecords (countIn s) (countIn s) headerLength s
+-- where the header is accepted, a scan of the file is one of its records
+pub scan-past-header : (s : List ℕ) → headerNumber s ≡ 0 → scanFile s ≡ scanRecords (countIn s) (countIn s) headerLength s
 unfolding scanFile
-scan-fine s e = rw (eq-eqb (headerNumber s) 0 e)
+scan-past-header s e = rw (eq-eqb (headerNumber s) 0 e)
 
 pub scan-header : (s : List ℕ) → (headerNumber s ≡ 0 → ⊥) → scanFile s ≡ Refused (headerNumber s) 0
 unfolding scanFile
@@ -183,22 +183,22 @@ scan-header s ne = rw (ne-eqb (headerNumber s) 0 ne)
 
 -- the scan refuses a file with the first cause that its bytes show
 module _ (s : List ℕ) where
-  told : HeaderFine s → (number p : ℕ) (answer : ScanAnswer) → Scanned s answer → answer ≡ Refused number p → FirstInBytes s number p
-  told fine number p (Accepted n) (to-end st) e = let z : _≡_ {A = ℕ} 0 1 = cc in absurd (omega arith)
-  told fine number p (Refused m q) (at-record ne r) e =
+  told : HeaderAccepted s → (number p : ℕ) (answer : ScanAnswer) → Scanned s answer → answer ≡ Refused number p → FirstInBytes s number p
+  told header number p (Accepted n) (to-end st) e = let z : _≡_ {A = ℕ} 0 1 = cc in absurd (omega arith)
+  told header number p (Refused m q) (at-record ne r) e =
       let a : m ≡ number = cc in
       let b : q ≡ p = cc in
-      rw (← a, ← b) (in-record fine ne r)
-  told fine number p (Refused m q) (at-rest r) e =
+      rw (← a, ← b) (in-record header ne r)
+  told header number p (Refused m q) (at-rest r) e =
       let a : 2 ≡ number = cc in
       let b : q ≡ p = cc in
-      rw (← a, ← b) (in-rest fine r)
+      rw (← a, ← b) (in-rest header r)
 
   refused-by : (number p : ℕ) → scanFile s ≡ Refused number p → (b : Bool) → eqb (headerNumber s) 0 ≡ b → FirstInBytes s number p
   refused-by number p e true t =
       let z = eqb-true (headerNumber s) 0 t in
-      let fine = header-fine s z in
-      told fine number p _ (scanned s (fine .long)) (sym (scan-fine s z) ∙ e)
+      let header = header-accepted s z in
+      told header number p _ (scanned s (header .long)) (sym (scan-past-header s z) ∙ e)
   refused-by number p e false t =
       let ne = eqb-false (headerNumber s) 0 t in
       let q : Refused (headerNumber s) 0 ≡ Refused number p = sym (scan-header s ne) ∙ e in
@@ -211,29 +211,29 @@ module _ (s : List ℕ) where
       let h = cause-header s c in
       let ne : headerNumber s ≡ 0 → ⊥ = λ z. cause-not-zero s c (sym h ∙ z) in
       scan-header s ne ∙ ap (λ (m : ℕ). Refused m 0) h
-  first-refused (in-record {number} {p} fine ne r) =
+  first-refused (in-record {number} {p} header ne r) =
       let m : r .index + suc (countIn s - suc (r .index)) ≡ countIn s = let h = r .counted in omega arith in
-      scan-fine s (fine-header s fine) ∙ reach s (countIn s) (r .index) p (suc (countIn s - suc (r .index))) (r .starts) m
+      scan-past-header s (accepted-header s header) ∙ reach s (countIn s) (r .index) p (suc (countIn s - suc (r .index))) (r .starts) m
       ∙ step-refused s (countIn s) (countIn s - suc (r .index)) p number (part-refused (drop p s) number (record { number-is = cause-number (drop p s) (r .cause); not-zero = ne }))
-  first-refused (in-rest {p} fine r) =
-      scan-fine s (fine-header s fine) ∙ reach s (countIn s) (countIn s) p 0 (r .starts) (omega arith) ∙ step-after s (countIn s) p (r .more)
+  first-refused (in-rest {p} header r) =
+      scan-past-header s (accepted-header s header) ∙ reach s (countIn s) (countIn s) p 0 (r .starts) (omega arith) ∙ step-after s (countIn s) p (r .more)
 
   pub refused-exactly : (number p : ℕ) → (scanFile s ≡ Refused number p) ↔ FirstInBytes s number p
   refused-exactly number p = (λ e. refused-by number p e (eqb (headerNumber s) 0) refl, λ f. first-refused f)
 
   -- and accepts it where the bytes are a header and the records that it counts
-  ended : HeaderFine s → (n : ℕ) (answer : ScanAnswer) → Scanned s answer → answer ≡ Accepted n → Whole s n
-  ended fine n (Accepted m) (to-end st) e =
+  ended : HeaderAccepted s → (n : ℕ) (answer : ScanAnswer) → Scanned s answer → answer ≡ Accepted n → Whole s n
+  ended header n (Accepted m) (to-end st) e =
       let a : countIn s ≡ n = cc in
-      record { fine = fine; count-is = sym a; ends = subst (λ (k : ℕ). Starts s k (length s)) a st }
-  ended fine n (Refused m q) (at-record ne r) e = let z : _≡_ {A = ℕ} 0 1 = cc in absurd (omega arith)
-  ended fine n (Refused m q) (at-rest r) e = let z : _≡_ {A = ℕ} 0 1 = cc in absurd (omega arith)
+      record { header = header; count-is = sym a; ends = subst (λ (k : ℕ). Starts s k (length s)) a st }
+  ended header n (Refused m q) (at-record ne r) e = let z : _≡_ {A = ℕ} 0 1 = cc in absurd (omega arith)
+  ended header n (Refused m q) (at-rest r) e = let z : _≡_ {A = ℕ} 0 1 = cc in absurd (omega arith)
 
   accepted-by : (n : ℕ) → scanFile s ≡ Accepted n → (b : Bool) → eqb (headerNumber s) 0 ≡ b → Whole s n
   accepted-by n e true t =
       let z = eqb-true (headerNumber s) 0 t in
-      let fine = header-fine s z in
-      ended fine n _ (scanned s (fine .long)) (sym (scan-fine s z) ∙ e)
+      let header = header-accepted s z in
+      ended header n _ (scanned s (header .long)) (sym (scan-past-header s z) ∙ e)
   accepted-by n e false t =
       let q : Refused (headerNumber s) 0 ≡ Accepted n = sym (scan-header s (eqb-false (headerNumber s) 0 t)) ∙ e in
       let z : _≡_ {A = ℕ} 0 1 = cc in
@@ -244,7 +244,7 @@ module _ (s : List ℕ) where
       let e = w .count-is in
       let m : n + 0 ≡ countIn s = omega arith in
       let l : length s ≤ length s = omega arith in
-      scan-fine s (fine-header s (w .fine)) ∙ reach s (countIn s) n (length s) 0 (w .ends) m ∙ step-end s (countIn s) (length s) l ∙ ap Accepted (sym e)
+      scan-past-header s (accepted-header s (w .header)) ∙ reach s (countIn s) n (length s) 0 (w .ends) m ∙ step-end s (countIn s) (length s) l ∙ ap Accepted (sym e)
 
   pub accepted-exactly : (n : ℕ) → (scanFile s ≡ Accepted n) ↔ Whole s n
   accepted-exactly n = (λ e. accepted-by n e (eqb (headerNumber s) 0) refl, whole-accepted n)

@@ -16,9 +16,9 @@ use Rattle.site.specs.ReadWrite.{read-valid}
 use Rattle.model.specs.Predicted.{inLimits}
 use Rattle.project.specs.declared.ScanAnswer.the-variants.{Accepted, Refused}
 use Rattle.project.specs.File.{headerLength, headerIn, countIn, mostSites, onward, scanRecords, scanFile, taken, sitesFrom, sitesIn}
-use Rattle.project.specs.Headed.{fine-header}
+use Rattle.project.specs.Headed.{accepted-header}
 use Rattle.project.specs.Causes.{Starts, first, next}
-use Rattle.project.specs.Scan.{scan-fine, accepted-exactly}
+use Rattle.project.specs.Scan.{scan-past-header, accepted-exactly}
 
 pub record ValidSites (n : ℕ) (sites : List Site) : Type 0 where
   pub count-is : length sites ≡ n
@@ -58,11 +58,11 @@ unfolding sitesIn
 accepted-sites s n e =
     let w = accepted-exactly s n .0 e in
     let c = w .count-is in
-    let few = w .fine .few in
-    let q : scanRecords (countIn s) (countIn s) headerLength s ≡ Accepted n = sym (scan-fine s (fine-header s (w .fine))) ∙ e in
+    let few = w .header .few in
+    let q : scanRecords (countIn s) (countIn s) headerLength s ≡ Accepted n = sym (scan-past-header s (accepted-header s (w .header))) ∙ e in
     record {
-      long = w .fine .long;
-      limits = w .fine .limits;
+      long = w .header .long;
+      limits = w .header .limits;
       count-is = c;
       few = omega arith;
       sites = subst (λ (k : ℕ). ValidSites k (sitesFrom (countIn s) headerLength s)) (sym c) (valid-from s (countIn s) n (countIn s) headerLength q);

@@ -3,14 +3,13 @@
 use mathlib.Core.Path.{_≡_, sym, ap, _∙_}
 use mathlib.Core.List.{List}
 use Prim.Native.Nat.{ℕ, _-_}
-use native.Mathlib.Omega.{arith}
-use lib.ListN.{length, take, drop, length-drop}
-use lib.Seq.{take-all}
+use lib.ListN.{length, take, drop}
 use Rattle.site.specs.declared.values.Site.{Site}
 use Rattle.site.specs.declared.values.SiteAnswer.{SiteAnswer}
 use Rattle.site.specs.declared.values.SiteAnswer.the-variants.{Read, Refused}
 use Rattle.site.specs.Record.{readSite}
 use Rattle.site.specs.Promises.{ReadsSite}
+use Rattle.site.proofs.Walk.{part-from}
 use Rattle.model.specs.Coefficients.{editionOne}
 use Rattle.model.specs.Predicted.{Header}
 use Rattle.line.specs.declared.Line.{Line}
@@ -20,9 +19,7 @@ use Rattle.report.specs.Fill.{recordLine}
 
 module _ (s : List ℕ) (at : ℕ) (answer : SiteAnswer) (reads : ReadsSite (take (length s - at) (drop at s)) answer) (header : Header) where
   answer-of : answer ≡ readSite (drop at s)
-  answer-of =
-      let e : take (length s - at) (drop at s) ≡ drop at s = take-all (length s - at) (drop at s) (omega (arith, length-drop at s)) in
-      rw e at (reads .answer-is)
+  answer-of = rw (part-from s at) at (reads .answer-is)
 
   pub no-line : (number : ℕ) → answer ≡ Refused number → Unread ≡ recordLine header (readSite (drop at s))
   no-line number e = ap (recordLine header) (sym e ∙ answer-of)

@@ -15,8 +15,8 @@ use Rattle.project.specs.declared.Header as file
 use Rattle.project.specs.declared.ScanAnswer.the-variants.{Accepted}
 use Rattle.project.specs.File.{headerLength, headerIn, countIn, scanRecords, scanFile, sitesIn}
 use Rattle.project.specs.Fields.{valuesOf, ReadsHeader}
-use Rattle.project.specs.Headed.{fine-header}
-use Rattle.project.specs.Scan.{scan-fine, accepted-exactly}
+use Rattle.project.specs.Headed.{accepted-header}
+use Rattle.project.specs.Scan.{scan-past-header, accepted-exactly}
 use Rattle.project.specs.SitesRead.{AcceptedFile, accepted-sites}
 use Rattle.project.specs.Causes.{reportLength}
 use Rattle.report.specs.Report.{numbersOf, allNumbers, noLine, totalOf, reportNumbers, linesIn, laidOver}
@@ -44,7 +44,7 @@ module _ (s : List ℕ) (n : ℕ) (accepted : scanFile s ≡ Accepted n) where
   facts = accepted-sites s n accepted
 
   scanned : scanRecords (countIn s) (countIn s) headerLength s ≡ Accepted (countIn s)
-  scanned = sym (scan-fine s (fine-header s (accepted-exactly s n .0 accepted .fine))) ∙ accepted ∙ ap Accepted (facts .count-is)
+  scanned = sym (scan-past-header s (accepted-header s (accepted-exactly s n .0 accepted .header))) ∙ accepted ∙ ap Accepted (facts .count-is)
 
   -- WHAT A FILL ASKS is there
   pub fillable : (header : file.Header) (room : ℕ) → ReadsHeader s header → reportLength n ≤ room → Fillable s header room

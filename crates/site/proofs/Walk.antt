@@ -2,12 +2,12 @@
 -- Assumes nothing.
 use mathlib.Core.Path.{_≡_, ap, sym, _∙_}
 use mathlib.Core.List.{List, [], _∷_, _++_, append-nil}
-use Prim.Native.Nat.{ℕ, suc, _+_, _<_, _≤_}
+use Prim.Native.Nat.{ℕ, suc, _+_, _-_, _<_, _≤_}
 use native.Mathlib.Nat.{add-zero, add-suc, suc-add}
 use native.Mathlib.Numerals.{add-one}
 use native.Mathlib.Omega.{arith}
-use lib.ListN.{length, getD, drop, set, drop-of-length-le}
-use lib.Seq.{drop-cons, sets, sets-eq}
+use lib.ListN.{length, getD, take, drop, set, length-drop, drop-of-length-le}
+use lib.Seq.{take-all, drop-cons, sets, sets-eq}
 
 module _ {A : Type 0} where
   pub next : (xs : List A) (i : ℕ) (d : A) → i < length xs → drop i xs ≡ getD xs i d ∷ drop (i + 1) xs
@@ -15,6 +15,10 @@ module _ {A : Type 0} where
 
   pub at-end : (xs : List A) (i : ℕ) → length xs ≤ i → drop i xs ≡ []
   at-end xs i h = drop-of-length-le xs h
+
+  -- the part from a place on, as it is lent
+  pub part-from : (xs : List A) (i : ℕ) → take (length xs - i) (drop i xs) ≡ drop i xs
+  part-from xs i = take-all (length xs - i) (drop i xs) (omega (arith, length-drop i xs))
 
   pub fill-start : (v whole : List A) → length v ≡ length whole → sets v 0 whole ≡ whole
   fill-start v whole e =

@@ -38,22 +38,22 @@ absent-unwritten rule = by (absentOf rule) refl
     by (Number value) e = rw (e, eq-eqb value value refl)
 
 -- what one field that is read says to the writer
-record Forth (rule : Rule) (map : ℕ) (s : List ℕ) : Type 0 where
+record RewrittenField (rule : Rule) (map : ℕ) (s : List ℕ) : Type 0 where
   pub fit : fits rule (fieldValue rule map s) ≡ true
   pub bit : slotBit rule (fieldValue rule map s) ≡ bitOf rule map
   pub bytes : Bytes s → fieldBytes rule (fieldValue rule map s) ≡ take (2 * bitOf rule map) s
 
 module _ (rule : Rule) (map : ℕ) (s : List ℕ) (h : 2 * bitOf rule map ≤ length s) where
-  forth-standing : bitOf rule map ≡ 1 → fieldNumber rule map s ≡ 0 → Forth rule map s
-  forth-standing e nu =
+  rewritten-standing : bitOf rule map ≡ 1 → fieldNumber rule map s ≡ 0 → RewrittenField rule map s
+  rewritten-standing e nu =
       let n : valueNumber rule (word s) ≡ 0 = rw e at nu in
       let q = value-taken (allows rule (word s)) (holds (absentOf rule) (word s)) n in
       let one : bits rule ≡ 1 = omega (arith, digit-most (bits rule) map, bits-most rule) in
       let two : 2 ≤ length s = omega arith in
       record { fit = rw e (q .0); bit = rw (e, q .1) one; bytes = λ bytes. rw (e, q .1, one) (bytes-of-word s bytes two) }
 
-  forth-absent : bitOf rule map ≡ 0 → right rule ≡ true → neededBitAbsent rule map ≡ false → Forth rule map s
-  forth-absent e ri wa =
+  rewritten-absent : bitOf rule map ≡ 0 → right rule ≡ true → neededBitAbsent rule map ≡ false → RewrittenField rule map s
+  rewritten-absent e ri wa =
       let n : needed rule ≡ false = unneeded (needed rule) (rw e at wa) in
       let a = absent-unwritten rule in
       record { fit = rw e (rw n at ri); bit = rw e a; bytes = λ bytes. rw (e, a) }
@@ -62,28 +62,28 @@ module _ (rule : Rule) (map : ℕ) (s : List ℕ) (h : 2 * bitOf rule map ≤ le
       unneeded true q = q
       unneeded false q = refl
 
-  forth : right rule ≡ true → neededBitAbsent rule map ≡ false → fieldNumber rule map s ≡ 0 → Forth rule map s
-  forth ri wa nu = by (stands rule map) refl
+  rewritten-field : right rule ≡ true → neededBitAbsent rule map ≡ false → fieldNumber rule map s ≡ 0 → RewrittenField rule map s
+  rewritten-field ri wa nu = by (stands rule map) refl
     where
-      by : (b : Bool) → stands rule map ≡ b → Forth rule map s
-      by true e = forth-standing (eqb-true (bitOf rule map) 1 e) nu
-      by false e = forth-absent (omega (arith, eqb-false (bitOf rule map) 1 e, digit-most (bits rule) map, bits-most rule)) ri wa
+      by : (b : Bool) → stands rule map ≡ b → RewrittenField rule map s
+      by true e = rewritten-standing (eqb-true (bitOf rule map) 1 e) nu
+      by false e = rewritten-absent (omega (arith, eqb-false (bitOf rule map) 1 e, digit-most (bits rule) map, bits-most rule)) ri wa
 
-record Forths (rules : List Rule) (map : ℕ) (s : List ℕ) : Type 0 where
+record RewrittenFields (rules : List Rule) (map : ℕ) (s : List ℕ) : Type 0 where
   pub fit : allFit rules (fieldsValues rules map s) ≡ true
   pub map-is : mapOf rules (fieldsValues rules map s) ≡ map
   pub bytes : Bytes s → bytesOf rules (fieldsValues rules map s) ≡ take (2 * words rules map) s
   pub count : length (fieldsValues rules map s) ≡ length rules
 
-forths : (rules : List Rule) (map : ℕ) (s : List ℕ) → rulesRight rules ≡ true → 2 * words rules map ≤ length s
-    → lacks rules map ≡ false → misses rules map ≡ false → fieldsNumber rules map s ≡ 0 → Forths rules map s
+rewritten-fields : (rules : List Rule) (map : ℕ) (s : List ℕ) → rulesRight rules ≡ true → 2 * words rules map ≤ length s
+    → lacks rules map ≡ false → misses rules map ≡ false → fieldsNumber rules map s ≡ 0 → RewrittenFields rules map s
 unfolding allFit mapOf bytesOf words anyField fieldsNumber fieldsValues rulesRight
-forths [] map s ri h la mi nu =
+rewritten-fields [] map s ri h la mi nu =
     record { fit = refl; map-is = omega (arith, ltb-false 0 map la); bytes = λ bytes. refl; count = refl }
-forths (rule ∷ rules) map s ri h la mi nu =
+rewritten-fields (rule ∷ rules) map s ri h la mi nu =
     let n = both-zero (fieldNumber rule map s) (fieldsNumber rules (restOf rule map) (after rule map s)) (eqb (fieldNumber rule map s) 0) refl nu in
-    let f = forth rule map s (omega arith) (and-left (right rule) (rulesRight rules) ri) (or-left (neededBitAbsent rule map) (misses rules (restOf rule map)) mi) (n .0) in
-    let fs = forths rules (restOf rule map) (after rule map s) (and-right (right rule) (rulesRight rules) ri) (omega (arith, length-drop (2 * bitOf rule map) s)) (or-right (lackedBitStands rule map) (lacks rules (restOf rule map)) la) (or-right (neededBitAbsent rule map) (misses rules (restOf rule map)) mi) (n .1) in
+    let f = rewritten-field rule map s (omega arith) (and-left (right rule) (rulesRight rules) ri) (or-left (neededBitAbsent rule map) (misses rules (restOf rule map)) mi) (n .0) in
+    let fs = rewritten-fields rules (restOf rule map) (after rule map s) (and-right (right rule) (rulesRight rules) ri) (omega (arith, length-drop (2 * bitOf rule map) s)) (or-right (lackedBitStands rule map) (lacks rules (restOf rule map)) la) (or-right (neededBitAbsent rule map) (misses rules (restOf rule map)) mi) (n .1) in
     let d : 2 * (bitOf rule map + words rules (restOf rule map)) ≡ 2 * bitOf rule map + 2 * words rules (restOf rule map) = omega arith in
     record {
       fit = rw (f .fit, fs .fit);
@@ -152,9 +152,9 @@ header (k ∷ s) bytes h = ap (λ (l : List ℕ). k ∷ l) (bytes-of-word s (λ 
 
 -- what an accepted record's site says to the writer
 module _ (s : List ℕ) (a : Accepted s) where
-  fields : Forths (rulesIn s) (mapIn s) (drop 3 s)
+  fields : RewrittenFields (rulesIn s) (mapIn s) (drop 3 s)
   fields =
-      forths (rulesIn s) (mapIn s) (drop 3 s) (tested-rules (kindIn s) (curved (entriesOf (kindIn s)) (mapIn s)) (a .known) .rights) (a .full) (a .lack) (a .miss) (a .no-field-refused)
+      rewritten-fields (rulesIn s) (mapIn s) (drop 3 s) (tested-rules (kindIn s) (curved (entriesOf (kindIn s)) (mapIn s)) (a .known) .rights) (a .full) (a .lack) (a .miss) (a .no-field-refused)
 
   slots-again : slotsOf (siteIn s) ≡ fieldsValues (rulesIn s) (mapIn s) (drop 3 s)
   slots-again =

@@ -50,7 +50,7 @@ slot-bit-most rule (Number value) = by (holds (absentOf rule) value)
     by false = le-refl (bits rule)
 
 -- what one field that is written says to the reader
-record Back (rule : Rule) (slot : Slot) (map : ℕ) (t : List ℕ) : Type 0 where
+record FieldReadBack (rule : Rule) (slot : Slot) (map : ℕ) (t : List ℕ) : Type 0 where
   pub stray : lackedBitStands rule map ≡ false
   pub want : neededBitAbsent rule map ≡ false
   pub number : fieldNumber rule map (fieldBytes rule slot ++ t) ≡ 0
@@ -58,7 +58,7 @@ record Back (rule : Rule) (slot : Slot) (map : ℕ) (t : List ℕ) : Type 0 wher
   pub rest : after rule map (fieldBytes rule slot ++ t) ≡ t
 
 dropped : (rule : Rule) (slot : Slot) (map : ℕ) (t : List ℕ) → bitOf rule map ≡ 0 → slotBit rule slot ≡ 0
-    → needed rule ≡ false → absentOf rule ≡ slot → Back rule slot map t
+    → needed rule ≡ false → absentOf rule ≡ slot → FieldReadBack rule slot map t
 dropped rule slot map t z b n a =
     record {
       stray = rw z (and-false (lacking rule));
@@ -69,7 +69,7 @@ dropped rule slot map t z b n a =
     }
 
 written : (rule : Rule) (value map : ℕ) (t : List ℕ) → bitOf rule map ≡ 1 → slotBit rule (Number value) ≡ 1
-    → allows rule value ≡ true → holds (absentOf rule) value ≡ false → Back rule (Number value) map t
+    → allows rule value ≡ true → holds (absentOf rule) value ≡ false → FieldReadBack rule (Number value) map t
 written rule value map t z b f h =
     record {
       stray = rw (allows-bit rule value f .1);
@@ -79,13 +79,13 @@ written rule value map t z b f h =
       rest = rw (z, b);
     }
 
-back : (rule : Rule) (slot : Slot) (map : ℕ) (t : List ℕ) → fits rule slot ≡ true → bitOf rule map ≡ slotBit rule slot
-    → Back rule slot map t
-back rule Absent map t f e =
+field-read-back : (rule : Rule) (slot : Slot) (map : ℕ) (t : List ℕ) → fits rule slot ≡ true → bitOf rule map ≡ slotBit rule slot
+    → FieldReadBack rule slot map t
+field-read-back rule Absent map t f e =
     dropped rule Absent map t e refl (not-true (needed rule) (and-left (not (needed rule)) (absent (absentOf rule)) f)) (absent-is (absentOf rule) (and-right (not (needed rule)) (absent (absentOf rule)) f))
-back rule (Number value) map t f e = by (holds (absentOf rule) value) refl
+field-read-back rule (Number value) map t f e = by (holds (absentOf rule) value) refl
   where
-    by : (b : Bool) → holds (absentOf rule) value ≡ b → Back rule (Number value) map t
+    by : (b : Bool) → holds (absentOf rule) value ≡ b → FieldReadBack rule (Number value) map t
     by true q =
         let z : slotBit rule (Number value) ≡ 0 = rw q in
         dropped rule (Number value) map t (e ∙ z) z (holds-needed rule value q) (holds-is (absentOf rule) value q)
@@ -93,23 +93,23 @@ back rule (Number value) map t f e = by (holds (absentOf rule) value) refl
         let z : slotBit rule (Number value) ≡ 1 = rw q (allows-bit rule value f .0) in
         written rule value map t (e ∙ z) z f q
 
-record Backs (rules : List Rule) (slots : List Slot) (t : List ℕ) : Type 0 where
+record FieldsReadBack (rules : List Rule) (slots : List Slot) (t : List ℕ) : Type 0 where
   pub lack : lacks rules (mapOf rules slots) ≡ false
   pub miss : misses rules (mapOf rules slots) ≡ false
   pub number : fieldsNumber rules (mapOf rules slots) (bytesOf rules slots ++ t) ≡ 0
   pub values : fieldsValues rules (mapOf rules slots) (bytesOf rules slots ++ t) ≡ slots
 
-backs : (rules : List Rule) (slots : List Slot) (t : List ℕ) → allFit rules slots ≡ true → length slots ≡ length rules
-    → Backs rules slots t
+fields-read-back : (rules : List Rule) (slots : List Slot) (t : List ℕ) → allFit rules slots ≡ true → length slots ≡ length rules
+    → FieldsReadBack rules slots t
 unfolding allFit mapOf bytesOf anyField fieldsNumber fieldsValues
-backs [] [] t f l = record { lack = refl; miss = refl; number = refl; values = refl }
-backs [] (slot ∷ slots) t f l = let z : ⊥ = omega arith in absurd z
-backs (rule ∷ rules) [] t f l = absurd (true≢false (sym f))
-backs (rule ∷ rules) (slot ∷ slots) t f l =
+fields-read-back [] [] t f l = record { lack = refl; miss = refl; number = refl; values = refl }
+fields-read-back [] (slot ∷ slots) t f l = let z : ⊥ = omega arith in absurd z
+fields-read-back (rule ∷ rules) [] t f l = absurd (true≢false (sym f))
+fields-read-back (rule ∷ rules) (slot ∷ slots) t f l =
     let low = digit-low (slotBit rule slot) (bits rule) (mapOf rules slots) (slot-bit-most rule slot) in
     let half = digit-rest (slotBit rule slot) (bits rule) (mapOf rules slots) (slot-bit-most rule slot) in
-    let b = back rule slot (slotBit rule slot + (1 + bits rule) * mapOf rules slots) (bytesOf rules slots ++ t) (and-left (fits rule slot) (allFit rules slots) f) low in
-    let bs = backs rules slots t (and-right (fits rule slot) (allFit rules slots) f) (omega arith) in
+    let b = field-read-back rule slot (slotBit rule slot + (1 + bits rule) * mapOf rules slots) (bytesOf rules slots ++ t) (and-left (fits rule slot) (allFit rules slots) f) low in
+    let bs = fields-read-back rules slots t (and-right (fits rule slot) (allFit rules slots) f) (omega arith) in
     record {
       lack = rw (b .stray, half) (bs .lack);
       miss = rw (b .want, half) (bs .miss);
@@ -231,7 +231,7 @@ module _ (kind : ℕ) (slots : List Slot) (t : List ℕ) (hk : kind ≤ lastKind
       let rules = rulesHeld kind slots in
       let map = mapOf rules slots in
       let s = kind ∷ map / 256 ∷ map % 256 ∷ (bytesOf rules slots ++ t) in
-      let bs = backs rules slots t f same-count in
+      let bs = fields-read-back rules slots t f same-count in
       let n = length-bytes rules slots same-count in
       let a : Accepted s =
       record {

@@ -5,7 +5,7 @@ use borrow.Author.Tests.{eq-eqb, ne-eqb}
 use mathlib.Core.Path.{sym, _∙_}
 use Rattle.project.specs.File.{scanFile}
 use Rattle.project.specs.Promise.{scans-file}
-use Rattle.project.specs.Headed.{header-fine}
+use Rattle.project.specs.Headed.{header-accepted}
 use Rattle.project.proofs.scan.Statement.{statement}
 use Rattle.project.proofs.scan.Tie as tie
 
@@ -17,10 +17,10 @@ unfolding scanFile
 returns c = scans-file _ _ (simp (← c .before .header-number .ensures, ne-eqb _ _ (c .if1 .taken)))
 
 header-of-requires : tie.Need-header-of-requires
-header-of-requires c κs = header-fine _ (sym (c .before .header-number .ensures) ∙ c .if1 .left) .long
+header-of-requires c κs = header-accepted _ (sym (c .before .header-number .ensures) ∙ c .if1 .left) .long
 
 scan-records-requires : tie.Need-scan-records-requires
-scan-records-requires c κs = header-fine _ (sym (c .before .before .header-number .ensures) ∙ c .before .if1 .left) .long
+scan-records-requires c κs = header-accepted _ (sym (c .before .before .header-number .ensures) ∙ c .before .if1 .left) .long
 
 returns-2 : tie.Need-returns-2
 unfolding scanFile

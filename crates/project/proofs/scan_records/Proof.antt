@@ -11,7 +11,8 @@ use Rattle.project.proofs.scan_records.Statement.{statement}
 use Rattle.project.proofs.scan_records.Tie as tie
 
 abbrev Inv-loop : tie.InvT-loop
-Inv-loop file sites at₀ i₀ at i = (i ≤ sites) × (at ≤ length file) × (scanRecords sites (sites - i) at file ≡ scanRecords sites sites headerLength file)
+Inv-loop file sites at₀ i₀ at i =
+    (i ≤ sites) × (at ≤ length file) × (scanRecords sites (sites - i) at file ≡ scanRecords sites sites headerLength file)
 
 abbrev μ-loop : tie.MeasureT-loop
 μ-loop file sites at₀ i₀ at i = sites - i
@@ -35,14 +36,17 @@ enum-known-answer : tie.Need-enum-known-answer Inv-loop μ-loop
 enum-known-answer c = search needs
 
 returns : tie.Need-returns Inv-loop μ-loop
-returns c = record-refused _ _ _ _ _ (c .before .before .before .before .before .before .loop .inv .2) _ (c .before .before .before .read-site .ensures) _ (c .before .before .before .before .before .loop-test .taken) (c .before .answer .given .1)
+returns c =
+    let turn = c .before .before .before .before .before in
+    record-refused _ _ _ _ _ (turn .before .loop .inv .2) _ (c .before .before .before .read-site .ensures) _ (turn .loop-test .taken) (c .before .answer .given .1)
 
 enum-known-answer-2 : tie.Need-enum-known-answer-2 Inv-loop μ-loop
 enum-known-answer-2 c = search needs
 
 add-at : tie.Need-add-at Inv-loop μ-loop
 add-at c =
-    let w = record-within _ _ _ _ _ (c .before .before .before .before .before .before .loop .inv .2) _ (c .before .before .before .read-site .ensures) _ _ (c .before .before .before .before .before .before .loop .inv .1) (c .before .answer2 .given .1) in
+    let inv = c .before .before .before .before .before .before .loop .inv in
+    let w = record-within _ _ _ _ _ (inv .2) _ (c .before .before .before .read-site .ensures) _ _ (inv .1) (c .before .answer2 .given .1) in
     omega arith
 
 add-i : tie.Need-add-i Inv-loop μ-loop
@@ -52,11 +56,15 @@ loop-less : tie.Need-loop-less Inv-loop μ-loop
 loop-less c = omega arith
 
 loop-again : tie.Need-loop-again Inv-loop μ-loop
-loop-again c = (
-  omega arith,
-  record-within _ _ _ _ _ (c .before .before .before .before .before .before .loop .inv .2) _ (c .before .before .before .read-site .ensures) _ _ (c .before .before .before .before .before .before .loop .inv .1) (c .before .answer2 .given .1),
-  record-read _ _ _ _ _ (c .before .before .before .before .before .before .loop .inv .2) _ (c .before .before .before .read-site .ensures) _ _ (c .before .before .before .before .before .loop-test .taken) (c .before .answer2 .given .1),
-)
+loop-again c =
+    let turn = c .before .before .before .before .before in
+    let inv = turn .before .loop .inv in
+    let reads = c .before .before .before .read-site .ensures in
+    let is = c .before .answer2 .given .1 in (
+      omega arith,
+      record-within _ _ _ _ _ (inv .2) _ reads _ _ (inv .1) is,
+      record-read _ _ _ _ _ (inv .2) _ reads _ _ (turn .loop-test .taken) is,
+    )
 
 returns-2 : tie.Need-returns-2 Inv-loop μ-loop
 returns-2 c = bytes-after _ _ _ _ _ (c .before .before .loop .inv .2) (c .before .loop-test .left) (c .if1 .taken)

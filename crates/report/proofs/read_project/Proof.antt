@@ -26,19 +26,30 @@ enum-known-answer-2 : tie.Need-enum-known-answer-2
 enum-known-answer-2 c = search needs
 
 fill-requires : tie.Need-fill-requires
-fill-requires c κs = record { sites = _; scanned = (sym (c .before .before .before .before .before .before .before .before .scan .ensures .answer-is) ∙ c .before .before .before .before .before .before .found2 .given .1); room-for = space-suffices _ _ _ (sym (c .before .before .before .before .before .before .before .before .scan .ensures .answer-is) ∙ c .before .before .before .before .before .before .found2 .given .1) _ (sym (c .before .before .answer2 .given .1) ∙ c .before .before .before .before .space .ensures) }
+fill-requires c κs =
+    let found = c .before .before .before .before .before .before in
+    let scanned = sym (found .before .before .scan .ensures .answer-is) ∙ found .found2 .given .1 in
+    let space = sym (c .before .before .answer2 .given .1) ∙ c .before .before .before .before .space .ensures in
+    record { sites = _; scanned = scanned; room-for = space-suffices _ _ _ scanned _ space }
 
 returns : tie.Need-returns
 returns c = refused-by-bytes _ _ _ _ (sym (c .before .before .before .scan .ensures .answer-is) ∙ c .before .found .given .1)
 
 returns-2 : tie.Need-returns-2
-returns-2 c = refused-by-room _ _ _ (sym (c .before .before .before .before .before .before .before .scan .ensures .answer-is) ∙ c .before .before .before .before .before .found2 .given .1) _ _ (sym (c .before .answer .given .1) ∙ c .before .before .before .space .ensures)
+returns-2 c =
+    let found = c .before .before .before .before .before in
+    let scanned = sym (found .before .before .scan .ensures .answer-is) ∙ found .found2 .given .1 in
+    refused-by-room _ _ _ scanned _ _ (sym (c .before .answer .given .1) ∙ c .before .before .before .space .ensures)
 
 same-length : tie.Need-same-length
 same-length c = search needs
 
 returns-3 : tie.Need-returns-3
-returns-3 c = reported _ _ _ (sym (c .before .before .before .before .before .before .before .before .before .before .before .scan .ensures .answer-is) ∙ c .before .before .before .before .before .before .before .before .before .found2 .given .1) _ _ (sym (c .before .before .before .before .before .answer2 .given .1) ∙ c .before .before .before .before .before .before .before .space .ensures) (c .before .before .fill .ensures .0) (c .before .before .fill .ensures .1)
+returns-3 c =
+    let fill = c .before .before .fill .ensures in
+    let found = c .before .before .before .before .before .before .before .before .before in
+    let scanned = sym (found .before .before .scan .ensures .answer-is) ∙ found .found2 .given .1 in
+    reported _ _ _ scanned _ _ (sym (c .before .before .before .before .before .answer2 .given .1) ∙ c .before .before .before .before .before .before .before .space .ensures) (fill .0) (fill .1)
 
 pub read-project-spec : {M : Type 1} → statement M
 read-project-spec =

@@ -1,12 +1,8 @@
 -- `site_reader::read_site` meets its contract. Kind and map are there, then the fields are read by their rules.
 -- Assumes nothing.
-use native.Mathlib.Omega.{arith}
 use borrow.Author.Tests.{lt-ltb, le-ltb}
-use mathlib.Core.Path.{_≡_}
-use Prim.Native.Nat.{_-_}
 use denote.Ref.{now}
-use lib.ListN.{length, take, drop, length-drop}
-use lib.Seq.{take-all}
+use Rattle.site.proofs.Walk.{part-from}
 use Rattle.site.specs.Record.{refusalOf, readSite}
 use Rattle.site.specs.Promises.{reads-site}
 use borrow.Author.Needs.{needs}
@@ -45,8 +41,7 @@ read-fields-requires c κs = search needs
 returns-3 : tie.Need-returns-3
 unfolding readSite refusalOf
 returns-3 c =
-    let p = now (c .before .before .before .before .before .before .before .before .args .part) in
-    let e : take (length p - 3) (drop 3 p) ≡ drop 3 p = take-all (length p - 3) (drop 3 p) (omega (arith, length-drop 3 p)) in
+    let start = c .before .before .before .before .before .before .before .before in
     reads-site _ _
     (simp (
       le-ltb _ _ (c .before .before .before .before .before .before .if1 .left),
@@ -54,7 +49,7 @@ returns-3 c =
       ← c .before .before .before .word-at .ensures,
       ← c .before .before .rules-read .ensures,
     )
-    (rw e at (c .read-fields .ensures)))
+    (rw (part-from (now (start .args .part)) 3) at (c .read-fields .ensures)))
 
 pub read-site-spec : {M : Type 1} → statement M
 read-site-spec =

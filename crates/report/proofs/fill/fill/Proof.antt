@@ -23,8 +23,14 @@ header-of-requires c κs = let a = c .before .before .before .before .before .pr
 
 fill-lines-requires : tie.Need-fill-lines-requires
 fill-lines-requires c κs =
-    let a = c .before .before .before .before .before .before .before .before .before .before .pre in
-    (c .before .before .before .before .before .before .before .stored-powers .ensures, c .before .before .before .before .before .before .stored-logarithms .ensures, c .before .before .before .before .before .stored-exponentials .ensures, fillable _ (a .sites) (a .scanned) _ _ (c .before .before .before .before .header-of .ensures) (a .room-for))
+    let header = c .before .before .before .before in
+    let tables = header .before in
+    let a = tables .before .before .before .before .before .pre in (
+      tables .before .before .stored-powers .ensures,
+      tables .before .stored-logarithms .ensures,
+      tables .stored-exponentials .ensures,
+      fillable _ (a .sites) (a .scanned) _ _ (header .header-of .ensures) (a .room-for),
+    )
 
 same-length : tie.Need-same-length
 same-length c = search needs
@@ -33,9 +39,10 @@ returns : tie.Need-returns
 returns c =
     let start = c .before .before .before .before .before .before .before .before .before .before .before .before .before in
     let a = start .pre in
-    laid-meets _ (a .sites) (a .scanned) (now (start .args .report)) _
+    let before = now (start .args .report) in
+    laid-meets _ (a .sites) (a .scanned) before _
     (c .before .before .fill-lines .ensures
-    ∙ ap (sets (now (start .args .report)) 0) (filled-report _ (a .sites) (a .scanned) _ (c .before .before .before .before .before .before .before .header-of .ensures))
+    ∙ ap (sets before 0) (filled-report _ (a .sites) (a .scanned) _ (c .before .before .before .before .before .before .before .header-of .ensures))
     ∙ report-fits _ (a .sites) (a .scanned) _ (a .room-for))
 
 pub fill-spec : {M : Type 1} → statement M

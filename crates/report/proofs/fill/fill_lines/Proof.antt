@@ -39,19 +39,19 @@ enum-known-next c = search needs
 enum-told : tie.Need-enum-told Inv-loop μ-loop
 enum-told c = search needs
 
-same-length : tie.Need-same-length Inv-loop μ-loop
-same-length c =
+-- a record of an accepted file is always read
+never : (c : tie.After-enum-told Inv-loop μ-loop) → ⊥
+never c =
     let read = c .before .before in
     let turn = read .before in
     let asked = turn .before .before .before .before .before .pre .3 in
-    absurd (always-read (asked .limits) (turn .before .before .loop .inv .1) (turn .if1 .taken) (asked .most) (read .line-at .ensures) (c .enum-told .given .1))
+    always-read (asked .limits) (turn .before .before .loop .inv .1) (turn .if1 .taken) (asked .most) (read .line-at .ensures) (c .enum-told .given .1)
+
+same-length : tie.Need-same-length Inv-loop μ-loop
+same-length c = absurd (never c)
 
 returns : tie.Need-returns Inv-loop μ-loop
-returns c =
-    let read = c .before .before in
-    let turn = read .before in
-    let asked = turn .before .before .before .before .before .pre .3 in
-    absurd (always-read (asked .limits) (turn .before .before .loop .inv .1) (turn .if1 .taken) (asked .most) (read .line-at .ensures) (c .enum-told .given .1))
+returns c = absurd (never c)
 
 mul-put-line : tie.Need-mul-put-line Inv-loop μ-loop
 mul-put-line c =

@@ -30,14 +30,21 @@ enum-known-answer c = search needs
 
 line-with-requires : tie.Need-line-with-requires
 line-with-requires c κs =
-    let start = c .before .before .before .before .before .before in
-    (start .pre .0, start .pre .1, start .pre .2, start .pre .4, start .pre .5, start .pre .6, c .before .before .before .read-site .ensures .valid _ _ (c .before .answer .given .1))
+    let read = c .before .before .before in
+    let pre = read .before .before .before .pre in
+    (pre .0, pre .1, pre .2, pre .4, pre .5, pre .6, read .read-site .ensures .valid _ _ (c .before .answer .given .1))
 
 returns : tie.Need-returns
-returns c = let start = c .before .before .before .before .before in no-line (now (start .args .file)) (start .args .at) _ (c .before .before .read-site .ensures) (header start) _ (c .enum-told .given .1)
+returns c =
+    let read = c .before .before in
+    let start = read .before .before .before in
+    no-line (now (start .args .file)) (start .args .at) _ (read .read-site .ensures) (header start) _ (c .enum-told .given .1)
 
 returns-2 : tie.Need-returns-2
-returns-2 c = let start = c .before .before .before .before .before .before .before in a-line (now (start .args .file)) (start .args .at) _ (c .before .before .before .before .read-site .ensures) (header start) _ _ _ (c .before .before .answer .given .1) (c .line-with .ensures)
+returns-2 c =
+    let read = c .before .before .before .before in
+    let start = read .before .before .before in
+    a-line (now (start .args .file)) (start .args .at) _ (read .read-site .ensures) (header start) _ _ _ (c .before .before .answer .given .1) (c .line-with .ensures)
 
 pub line-at-spec : {M : Type 1} → statement M
 line-at-spec =

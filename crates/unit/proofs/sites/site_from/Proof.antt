@@ -1,12 +1,9 @@
 -- `unit::sites::site_from` meets its contract. The kind and the slots of a run of numbers.
 -- Assumes nothing.
-use native.Mathlib.Omega.{arith}
-use mathlib.Core.Path.{_≡_, ap, _∙_}
+use mathlib.Core.Path.{ap, _∙_}
 use mathlib.Core.List.{map}
-use Prim.Native.Nat.{_-_}
 use denote.Ref.{now}
-use lib.ListN.{length, take, drop, length-drop}
-use lib.Seq.{take-all}
+use Rattle.site.proofs.Walk.{part-from}
 use Rattle.unit.specs.SiteNumbers.{slotFrom}
 use Rattle.unit.proofs.NumberSteps.{same-site}
 use borrow.Author.Needs.{needs}
@@ -36,9 +33,9 @@ site-of-requires c κs = search needs
 
 returns : tie.Need-returns
 returns c =
-    let p = now (c .before .before .before .before .before .before .args .values) in
-    let e : take (length p - 1) (drop 1 p) ≡ drop 1 p = take-all (length p - 1) (drop 1 p) (omega (arith, length-drop 1 p)) in
-    c .site-of .ensures ∙ same-site _ _ _ _ (c .before .before .before .kind-from .ensures) (c .before .slots-from .ensures ∙ ap (map slotFrom) e)
+    let numbers = now (c .before .before .before .before .before .before .args .values) in
+    let slots = c .before .slots-from .ensures ∙ ap (map slotFrom) (part-from numbers 1) in
+    c .site-of .ensures ∙ same-site _ _ _ _ (c .before .before .before .kind-from .ensures) slots
 
 pub site-from-spec : {M : Type 1} → statement M
 site-from-spec =
