@@ -149,11 +149,11 @@ pub fn carry_crossing(
 {
     let start = years * calibration * 200_000_000;
     let ends = CarryAnswer::Carried(start, start);
-    let major = through(ends, major_factor(powers, v));
-    let minor = through(major, minor_factor(powers, v));
-    let left = through(minor, left_factor(v));
-    let right = through(left, right_factor(v));
-    let seen = through(right, sight_factor(v));
-    let skewed = through(seen, skew_factor(exponentials, v));
-    through(skewed, base_factor(v.kind))
+    let after_major = through(ends, major_factor(powers, v));
+    let after_minor = through(after_major, minor_factor(powers, v));
+    let after_left = through(after_minor, left_factor(v));
+    let after_right = through(after_left, right_factor(v));
+    let after_sight = through(after_right, sight_factor(v));
+    let after_skew = through(after_sight, skew_factor(exponentials, v));
+    through(after_skew, base_factor(v.kind))
 }

@@ -185,15 +185,15 @@ fn carry_straight(logarithms: &[u64; 256], start: u64, v: Segment) -> CarryAnswe
     ensures { λ r. ⌜ r ≡ carried start start (straightBrackets v) ⌝ }
 {
     let ends = CarryAnswer::Carried(start, start);
-    let base = through(ends, base_factor(0));
-    let lane = through(base, lane_factor(v));
-    let shoulder = through(lane, shoulder_factor(v));
-    let first_grade = through(shoulder, first_grade_factor(v));
-    let grade = through(first_grade, second_grade_factor(v));
-    let two_way = through(grade, two_way_factor(v));
-    let passing = through(two_way, passing_factor(v));
-    let roadside = through(passing, hazard_factor(v.hazard_rating));
-    through(roadside, driveway_factor(logarithms, v))
+    let after_base = through(ends, base_factor(0));
+    let after_lane = through(after_base, lane_factor(v));
+    let after_shoulder = through(after_lane, shoulder_factor(v));
+    let after_first_grade = through(after_shoulder, first_grade_factor(v));
+    let after_grade = through(after_first_grade, second_grade_factor(v));
+    let after_two_way = through(after_grade, two_way_factor(v));
+    let after_passing = through(after_two_way, passing_factor(v));
+    let after_hazard = through(after_passing, hazard_factor(v.hazard_rating));
+    through(after_hazard, driveway_factor(logarithms, v))
 }
 
 // A straight road's answer through the curve's two factors.
@@ -201,8 +201,8 @@ fn carry_curve(straight: CarryAnswer, v: Segment) -> CarryAnswer
     requires { ⌜ CurveSizes v ⌝ }
     ensures { λ r. ⌜ r ≡ carriedOn straight (curveBrackets v) ⌝ }
 {
-    let bent = through(straight, curve_factor(v));
-    through(bent, superelevation_factor(v))
+    let after_curve = through(straight, curve_factor(v));
+    through(after_curve, superelevation_factor(v))
 }
 
 // The start through the factors of every road and then the curve's.
