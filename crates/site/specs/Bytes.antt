@@ -1,23 +1,24 @@
 -- A record is bytes: kind, map and fields fit what they are written in.
-use mathlib.Core.Path.{_≡_}
+use mathlib.Core.Path.{_≡_, refl}
 use mathlib.Core.Bool.{Bool, true, false, cond}
 use mathlib.Core.List.{List, [], _∷_, _++_}
 use Prim.Native.Nat.{ℕ, zero, suc, _+_, _*_, _/_, _%_, _^_, _<_, _≤_}
 use native.Mathlib.Nat.{lt-of-lt-of-le, pow-le-pow-right}
 use native.Mathlib.Omega.{arith}
 use lib.ListN.{getD, drop}
-use lib.Dec.{leb, ltb, eqb}
+use lib.Dec.{ltb, eqb}
 use lib.Pow.{pow-pos, pow-add}
-use borrow.Author.Tests.{leb-true, ltb-true}
+use borrow.Author.Tests.{ltb-true}
 use Rattle.site.specs.declared.rules.Rule.{Rule}
 use Rattle.site.specs.declared.values.Slot.{Slot}
 use Rattle.site.specs.declared.values.Slot.the-variants.{Absent, Number}
 use Rattle.site.specs.declared.values.Site.{Site}
-use Rattle.site.specs.Rules.{entriesOf, lastKind, bits}
-use Rattle.site.specs.Writing.{slotsOf, curveHeld, rulesHeld, fits, allFit, slotBit, mapOf, slotBytes, fieldBytes, bytesOf, recordBy, recordOf, sound, Valid}
+use Rattle.site.specs.Rules.{entriesOf, bits}
+use Rattle.site.specs.Writing.{slotsOf, curveHeld, rulesHeld, fits, allFit, slotBit, mapOf, slotBytes, fieldBytes, bytesOf, recordBy, recordOf, Valid}
 use Rattle.site.specs.Truth.{and-left, and-right}
 use Rattle.site.specs.Digits.{Bytes}
 use Rattle.site.specs.Tested.{bitCount, top, topsLow, bits-most, allows-top, tested-rules}
+use Rattle.site.specs.Ranges.{valid-fits, valid-kind}
 use Rattle.site.specs.WriteRead.{slot-bit-most}
 
 -- a map is below 2 to its count of bits
@@ -77,16 +78,16 @@ fields-bytes [] slots f h = bytes-nil
 fields-bytes (rule ∷ rules) [] f h = bytes-nil
 fields-bytes (rule ∷ rules) (slot ∷ slots) f h =
     bytes-append (fieldBytes rule slot) (bytesOf rules slots)
-    (field-bytes rule slot (and-left (fits rule slot) (allFit rules slots) f) (ltb-true (top rule) 65535 (and-left (ltb (top rule) 65535) (topsLow rules) h)))
-    (fields-bytes rules slots (and-right (fits rule slot) (allFit rules slots) f) (and-right (ltb (top rule) 65535) (topsLow rules) h))
+    (field-bytes rule slot (and-left _ _ f) (ltb-true (top rule) 65535 (and-left _ _ h)))
+    (fields-bytes rules slots (and-right (fits rule slot) _ f) (and-right (ltb (top rule) 65535) _ h))
 
 -- what the writer emits is bytes
 pub record-bytes : (site : Site) → Valid site → Bytes (recordOf site)
-unfolding sound recordBy
+unfolding recordBy
 record-bytes site v =
     let rules = rulesHeld (site .kind) (slotsOf site) in
-    let hk : site .kind ≤ lastKind = leb-true (site .kind) lastKind (and-left (leb (site .kind) lastKind) (allFit rules (slotsOf site)) (v .is-sound)) in
-    let fit = and-right (leb (site .kind) lastKind) (allFit rules (slotsOf site)) (v .is-sound) in
+    let hk = valid-kind site v in
+    let fit = valid-fits site v (site .kind) refl in
     let s = tested-rules (site .kind) (curveHeld (entriesOf (site .kind)) (slotsOf site)) hk in
     let small = map-small rules (slotsOf site) 0 (s .few) in
     let map = mapOf rules (slotsOf site) in

@@ -9,12 +9,12 @@ pub mod Truth
 pub mod Digits
 pub mod Tested
 pub mod Accepted
+pub mod Ranges
 pub mod WriteRead
 pub mod ReadWrite
 pub mod Bytes
 pub mod BytesRead
 pub mod Curve
-pub mod Ranges
 pub mod Theorems
 pub mod Known
 pub mod Promises

@@ -104,7 +104,7 @@ pub record CrossingRanges (angle left right sight : Rule) (site : Site) : Type 0
   pub «right_lanes» : Obeys right (site .«right_lanes»)
   pub «limited_sight» : Obeys sight (site .«limited_sight»)
 
-valid-fits : (site : Site) → Valid site → (kind : ℕ) → site .kind ≡ kind
+pub valid-fits : (site : Site) → Valid site → (kind : ℕ) → site .kind ≡ kind
     → allFit (rulesHeld kind (slotsOf site)) (slotsOf site) ≡ true
 unfolding sound
 valid-fits site v kind e =

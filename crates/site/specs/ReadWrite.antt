@@ -82,8 +82,9 @@ rewritten-fields [] map s ri h la mi nu =
     record { fit = refl; map-is = omega (arith, ltb-false 0 map la); bytes = λ bytes. refl; count = refl }
 rewritten-fields (rule ∷ rules) map s ri h la mi nu =
     let n = both-zero (fieldNumber rule map s) (fieldsNumber rules (restOf rule map) (after rule map s)) (eqb (fieldNumber rule map s) 0) refl nu in
-    let f = rewritten-field rule map s (omega arith) (and-left (right rule) (rulesRight rules) ri) (or-left (neededBitAbsent rule map) (misses rules (restOf rule map)) mi) (n .0) in
-    let fs = rewritten-fields rules (restOf rule map) (after rule map s) (and-right (right rule) (rulesRight rules) ri) (omega (arith, length-drop (2 * bitOf rule map) s)) (or-right (lackedBitStands rule map) (lacks rules (restOf rule map)) la) (or-right (neededBitAbsent rule map) (misses rules (restOf rule map)) mi) (n .1) in
+    let f = rewritten-field rule map s (omega arith) (and-left _ _ ri) (or-left _ _ mi) (n .0) in
+    let long : 2 * words rules (restOf rule map) ≤ length (after rule map s) = omega (arith, length-drop (2 * bitOf rule map) s) in
+    let fs = rewritten-fields rules (restOf rule map) (after rule map s) (and-right (right rule) _ ri) long (or-right (lackedBitStands rule map) _ la) (or-right (neededBitAbsent rule map) _ mi) (n .1) in
     let d : 2 * (bitOf rule map + words rules (restOf rule map)) ≡ 2 * bitOf rule map + 2 * words rules (restOf rule map) = omega arith in
     record {
       fit = rw (f .fit, fs .fit);
@@ -114,12 +115,12 @@ straight-read : (entries : List Entry) (map : ℕ) (s : List ℕ) → entriesRig
     → curveHeld entries (fieldsValues (settle false entries) map s) ≡ false
 unfolding anyField curveHeld fieldsValues entriesRight
 straight-read [] map s r e = refl
-straight-read (Always rule ∷ entries) map s r e = straight-read entries (restOf rule map) (after rule map s) (and-right (entryRight (Always rule)) (entriesRight entries) r) e
+straight-read (Always rule ∷ entries) map s r e = straight-read entries (restOf rule map) (after rule map s) (and-right (entryRight (Always rule)) _ r) e
 straight-read (OnCurve rule ∷ entries) map s r e =
-    let one : bits rule ≡ 1 = eqb-true (bits rule) 1 (and-right (right rule) (eqb (bits rule) 1) (and-left (entryRight (OnCurve rule)) (entriesRight entries) r)) in
+    let one : bits rule ≡ 1 = eqb-true (bits rule) 1 (and-right (right rule) _ (and-left _ _ r)) in
     let e′ : (eqb (map % 2) 1 || curved entries (map / 2)) ≡ false = rw one at e in
     rw (or-left (eqb (map % 2) 1) (curved entries (map / 2)) e′)
-    (straight-read entries (map / 2) (drop (2 * (map % 2)) s) (and-right (entryRight (OnCurve rule)) (entriesRight entries) r) (or-right (eqb (map % 2) 1) (curved entries (map / 2)) e′))
+    (straight-read entries (map / 2) (drop (2 * (map % 2)) s) (and-right (entryRight (OnCurve rule)) _ r) (or-right (eqb (map % 2) 1) _ e′))
 
 same-curve : (kind map : ℕ) (s : List ℕ) → kind ≤ lastKind
     → curveHeld (entriesOf kind) (fieldsValues (rulesRead kind map) map s) ≡ curved (entriesOf kind) map
@@ -154,11 +155,10 @@ header (k ∷ s) bytes h = ap (λ (l : List ℕ). k ∷ l) (bytes-of-word s (λ 
 module _ (s : List ℕ) (a : Accepted s) where
   fields : RewrittenFields (rulesIn s) (mapIn s) (drop 3 s)
   fields =
-      rewritten-fields (rulesIn s) (mapIn s) (drop 3 s) (tested-rules (kindIn s) (curved (entriesOf (kindIn s)) (mapIn s)) (a .known) .rights) (a .full) (a .lack) (a .miss) (a .no-field-refused)
+      rewritten-fields (rulesIn s) (mapIn s) (drop 3 s) (tested-rules _ _ (a .known) .rights) (a .full) (a .lack) (a .miss) (a .no-field-refused)
 
   slots-again : slotsOf (siteIn s) ≡ fieldsValues (rulesIn s) (mapIn s) (drop 3 s)
-  slots-again =
-      slots-of-site (kindIn s) (fieldsValues (rulesIn s) (mapIn s) (drop 3 s)) (fields .count ∙ tested-rules (kindIn s) (curved (entriesOf (kindIn s)) (mapIn s)) (a .known) .count)
+  slots-again = slots-of-site (kindIn s) _ (fields .count ∙ tested-rules _ _ (a .known) .count)
 
   rules-again : rulesHeld (kindIn s) (fieldsValues (rulesIn s) (mapIn s) (drop 3 s)) ≡ rulesIn s
   rules-again =

@@ -6,8 +6,8 @@ use Prim.Native.Nat.{ℕ, zero, suc, _+_, _*_, _/_, _%_, _≤_}
 use native.Mathlib.Nat.{le-refl, le-trans}
 use native.Mathlib.Omega.{arith}
 use lib.ListN.{length, length-append}
-use lib.Dec.{leb, eqb}
-use borrow.Author.Tests.{eqb-true, leb-true, not-true}
+use lib.Dec.{eqb}
+use borrow.Author.Tests.{eqb-true, not-true}
 use Rattle.site.specs.declared.rules.Rule.{Rule}
 use Rattle.site.specs.declared.rules.Entry.{Entry}
 use Rattle.site.specs.declared.rules.Entry.the-variants.{Always, OnCurve}
@@ -17,9 +17,10 @@ use Rattle.site.specs.declared.values.Site.{Site}
 use Rattle.site.specs.declared.values.SiteAnswer.the-variants.{Read}
 use Rattle.site.specs.Rules.{entriesOf, lastKind, slotCount, allows, absentOf, needed, lacking, bits, settle, absent, holds}
 use Rattle.site.specs.Record.{bitOf, stands, lackedBitStands, neededBitAbsent, anyField, lacks, misses, curved, rulesRead, words, fieldNumber, fieldValue, after, fieldsNumber, fieldsValues, siteOf, readSite}
-use Rattle.site.specs.Writing.{slotsOf, curveHeld, rulesHeld, fits, allFit, slotBit, mapOf, slotBytes, fieldBytes, bytesOf, recordBy, recordOf, sound, Valid}
+use Rattle.site.specs.Writing.{slotsOf, curveHeld, rulesHeld, fits, allFit, slotBit, mapOf, slotBytes, fieldBytes, bytesOf, recordBy, recordOf, Valid}
 use Rattle.site.specs.Truth.{and-left, and-right, not-both}
 use Rattle.site.specs.Digits.{digit-low, digit-rest, two-bytes}
+use Rattle.site.specs.Ranges.{valid-fits, valid-kind}
 use Rattle.site.specs.Tested.{right, entryRight, entriesRight, hasCurve, needsCurve, bits-most, allows-bit, needed-bit, tested-rules, entries-count}
 use Rattle.site.specs.Accepted.{Accepted, accept}
 
@@ -82,7 +83,7 @@ written rule value map t z b f h =
 field-read-back : (rule : Rule) (slot : Slot) (map : ℕ) (t : List ℕ) → fits rule slot ≡ true → bitOf rule map ≡ slotBit rule slot
     → FieldReadBack rule slot map t
 field-read-back rule Absent map t f e =
-    dropped rule Absent map t e refl (not-true (needed rule) (and-left (not (needed rule)) (absent (absentOf rule)) f)) (absent-is (absentOf rule) (and-right (not (needed rule)) (absent (absentOf rule)) f))
+    dropped rule Absent map t e refl (not-true (needed rule) (and-left _ _ f)) (absent-is (absentOf rule) (and-right (not (needed rule)) _ f))
 field-read-back rule (Number value) map t f e = by (holds (absentOf rule) value) refl
   where
     by : (b : Bool) → holds (absentOf rule) value ≡ b → FieldReadBack rule (Number value) map t
@@ -108,8 +109,8 @@ fields-read-back (rule ∷ rules) [] t f l = absurd (true≢false (sym f))
 fields-read-back (rule ∷ rules) (slot ∷ slots) t f l =
     let low = digit-low (slotBit rule slot) (bits rule) (mapOf rules slots) (slot-bit-most rule slot) in
     let half = digit-rest (slotBit rule slot) (bits rule) (mapOf rules slots) (slot-bit-most rule slot) in
-    let b = field-read-back rule slot (slotBit rule slot + (1 + bits rule) * mapOf rules slots) (bytesOf rules slots ++ t) (and-left (fits rule slot) (allFit rules slots) f) low in
-    let bs = fields-read-back rules slots t (and-right (fits rule slot) (allFit rules slots) f) (omega arith) in
+    let b = field-read-back rule slot (slotBit rule slot + (1 + bits rule) * mapOf rules slots) (bytesOf rules slots ++ t) (and-left _ _ f) low in
+    let bs = fields-read-back rules slots t (and-right (fits rule slot) _ f) (omega arith) in
     record {
       lack = rw (b .stray, half) (bs .lack);
       miss = rw (b .want, half) (bs .miss);
@@ -155,7 +156,7 @@ straight-written (Always rule ∷ entries) (slot ∷ slots) r l h =
     rw (digit-rest (slotBit rule slot) (bits rule) (mapOf (settle false entries) slots) (slot-bit-most rule slot))
     (straight-written entries slots (and-right (entryRight (Always rule)) (entriesRight entries) r) (omega arith) h)
 straight-written (OnCurve rule ∷ entries) (Absent ∷ slots) r l h =
-    let one : bits rule ≡ 1 = eqb-true (bits rule) 1 (and-right (right rule) (eqb (bits rule) 1) (and-left (entryRight (OnCurve rule)) (entriesRight entries) r)) in
+    let one : bits rule ≡ 1 = eqb-true (bits rule) 1 (and-right (right rule) _ (and-left _ _ r)) in
     rw (
       one,
       digit-low 0 1 (mapOf (settle false entries) slots) (omega arith),
@@ -223,7 +224,7 @@ module _ (kind : ℕ) (slots : List Slot) (t : List ℕ) (hk : kind ≤ lastKind
   same-rules = ap (λ (c : Bool). settle c (entriesOf kind)) (curve-kept kind slots hk l f)
 
   same-count : length slots ≡ length (rulesHeld kind slots)
-  same-count = l ∙ sym (tested-rules kind (curveHeld (entriesOf kind) slots) hk .count)
+  same-count = l ∙ sym (tested-rules _ _ hk .count)
 
   read-back : readSite (recordBy (rulesHeld kind slots) kind slots ++ t) ≡ Read (siteOf kind slots) (length (recordBy (rulesHeld kind slots) kind slots))
   unfolding recordBy
@@ -247,7 +248,4 @@ module _ (kind : ℕ) (slots : List Slot) (t : List ℕ) (hk : kind ≤ lastKind
 
 -- for every site that the writer takes: what it emits, followed by any bytes, reads back as the same site
 pub write-read : (site : Site) (t : List ℕ) → Valid site → readSite (recordOf site ++ t) ≡ Read site (length (recordOf site))
-unfolding sound
-write-read site t v =
-    let rules = rulesHeld (site .kind) (slotsOf site) in
-    read-back (site .kind) (slotsOf site) t (leb-true (site .kind) lastKind (and-left (leb (site .kind) lastKind) (allFit rules (slotsOf site)) (v .is-sound))) refl (and-right (leb (site .kind) lastKind) (allFit rules (slotsOf site)) (v .is-sound))
+write-read site t v = read-back (site .kind) (slotsOf site) t (valid-kind site v) refl (valid-fits site v (site .kind) refl)

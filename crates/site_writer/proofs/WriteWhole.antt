@@ -14,9 +14,9 @@ use Rattle.site.specs.declared.rules.Rule.{Rule}
 use Rattle.site.specs.declared.values.Slot.{Slot}
 use Rattle.site.specs.declared.values.Site.{Site}
 use Rattle.site.specs.declared.values.WriteAnswer.the-variants.{Written, Unwritten}
-use Rattle.site.specs.Rules.{entriesOf, lastKind}
+use Rattle.site.specs.Rules.{lastKind}
 use Rattle.site.specs.Record.{words}
-use Rattle.site.specs.Writing.{slotsOf, curveHeld, rulesHeld, allFit, mapOf, bytesOf, recordBy, recordOf, sound, writeRefusal, writeAnswer, writeInto}
+use Rattle.site.specs.Writing.{slotsOf, rulesHeld, allFit, mapOf, bytesOf, recordBy, recordOf, sound, writeRefusal, writeAnswer, writeInto}
 use Rattle.site.specs.Tested.{tested-rules}
 use Rattle.site.specs.WriteRead.{length-bytes, length-record}
 use Rattle.site.specs.Promises.{WritesSite, writes-site}
@@ -57,7 +57,7 @@ module _ (site : Site) (before : List ℕ) (f : Found site) where
   record-is = rw (f .rules-are, f .slots-are)
 
   counts : length (f .slots) ≡ length (f .rules)
-  counts = rw (f .rules-are, f .slots-are) (sym (tested-rules (site .kind) (curveHeld (entriesOf (site .kind)) (slotsOf site)) (f .kind-known) .count))
+  counts = rw (f .rules-are, f .slots-are) (sym (tested-rules _ _ (f .kind-known) .count))
 
   pub fields-long : length (bytesOf (f .rules) (f .slots)) ≡ 2 * f .n
   fields-long = rw (f .n-is, f .map-is) (length-bytes (f .rules) (f .slots) counts)

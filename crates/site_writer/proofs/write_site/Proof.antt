@@ -6,8 +6,6 @@ use mathlib.Core.Path.{sym, _∙_}
 use borrow.Author.Tests.{not-true, not-false}
 use denote.Ref.{now}
 use lib.ListN.{length-set}
-use Rattle.site.specs.Rules.{entriesOf}
-use Rattle.site.specs.Writing.{curveHeld}
 use Rattle.site.specs.Tested.{tested-rules}
 use Rattle.site_writer.proofs.WriteWhole.{kind-outside, slots-tell, outside, Found, fields-long, room-refused, all-written}
 use Rattle.site_writer.proofs.write_site.Statement.{statement}
@@ -51,9 +49,7 @@ returns-2 c =
 map-of-requires : tie.Need-map-of-requires
 map-of-requires c κs =
     let rules = c .before .before in
-    let kind = rules .before .before .before .before .args .site .kind in
-    let curved = curveHeld (entriesOf kind) (rules .before .slots-of .result) in
-    (search needs, search needs, rw (rules .rules-held .ensures) (tested-rules kind curved (rules .before .before .if1 .left) .few))
+    (search needs, search needs, rw (rules .rules-held .ensures) (tested-rules _ _ (rules .before .before .if1 .left) .few))
 
 count-words-requires : tie.Need-count-words-requires
 count-words-requires c κs = search needs
