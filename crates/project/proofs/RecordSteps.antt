@@ -1,5 +1,4 @@
 -- One record after the other: what a scan says of the records that are left at a place, and of the header's limits.
--- Assumes nothing.
 use mathlib.Core.Path.{_≡_, sym, _∙_}
 use mathlib.Core.Bool.{_&&_}
 use mathlib.Core.List.{List}

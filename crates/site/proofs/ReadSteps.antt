@@ -1,5 +1,4 @@
 -- One field after the other: what each definition of `specs/Record` says of the rules from place i on.
--- Assumes nothing.
 use mathlib.Core.Path.{_≡_, refl, ap, sym, _∙_}
 use mathlib.Core.Bool.{Bool, true, false, cond, _||_}
 use mathlib.Core.List.{List, [], _∷_, map}

@@ -1,5 +1,4 @@
 -- Laws of a loop that walks a list by its index: the element at i before those after it, and a list that is filled from i on.
--- Assumes nothing.
 use mathlib.Core.Path.{_≡_, ap, sym, _∙_}
 use mathlib.Core.List.{List, [], _∷_, _++_, append-nil}
 use Prim.Native.Nat.{ℕ, suc, _+_, _-_, _<_, _≤_}

@@ -191,24 +191,26 @@ fields-not-one (rule ∷ rules) map s e =
 
 -- 1 exactly when the bytes that bear on the answer are not all there
 module _ (s : List ℕ) where
+  other : (number : ℕ) → refusalOf s ≡ number → bears s ≡ 3 → ltb (length s) 3 ≡ false → (number ≡ 1 → ⊥)
+      → (refusalOf s ≡ 1) ↔ (length s < bears s)
+  other number e b a ne = (λ q. absurd (ne (sym e ∙ q)), λ q. absurd (omega (arith, b, ltb-false (length s) 3 a)))
+
   one-by : (short known lack miss cut : Bool) → ltb (length s) 3 ≡ short → ltb lastKind (kindIn s) ≡ known
       → lacks (rulesIn s) (mapIn s) ≡ lack → misses (rulesIn s) (mapIn s) ≡ miss
       → ltb (length (drop 3 s)) (2 * words (rulesIn s) (mapIn s)) ≡ cut → (refusalOf s ≡ 1) ↔ (length s < bears s)
   unfolding refusalOf recordNumber bears
   one-by true known lack miss cut a b c d e = (λ q. rw a (ltb-true (length s) 3 a), λ q. rw a)
-  one-by false true lack miss cut a b c d e =
-      (λ q. let z : _≡_ {A = ℕ} 5 1 = rw (a, b) at q in absurd (omega arith), λ q. let z : length s < 3 = rw (a, b) at q in absurd (omega (arith, ltb-false (length s) 3 a)))
-  one-by false false true miss cut a b c d e =
-      (λ q. let z : _≡_ {A = ℕ} 6 1 = rw (a, b, c) at q in absurd (omega arith), λ q. let z : length s < 3 = rw (a, b, c) at q in absurd (omega (arith, ltb-false (length s) 3 a)))
-  one-by false false false true cut a b c d e =
-      (λ q. let z : _≡_ {A = ℕ} 7 1 = rw (a, b, c, d) at q in absurd (omega arith), λ q. let z : length s < 3 = rw (a, b, c, d) at q in absurd (omega (arith, ltb-false (length s) 3 a)))
+  one-by false true lack miss cut a b c d e = other 5 (rw (a, b)) (rw (a, b)) a (omega arith)
+  one-by false false true miss cut a b c d e = other 6 (rw (a, b, c)) (rw (a, b, c)) a (omega arith)
+  one-by false false false true cut a b c d e = other 7 (rw (a, b, c, d)) (rw (a, b, c, d)) a (omega arith)
   one-by false false false false true a b c d e =
-      (λ q. rw (a, b, c, d) (omega (arith, ltb-true (length (drop 3 s)) (2 * words (rulesIn s) (mapIn s)) e, length-drop 3 s, ltb-false (length s) 3 a)), λ q. rw (a, b, c, d, e))
-  one-by false false false false false a b c d e = (
-    λ q. absurd (fields-not-one (rulesIn s) (mapIn s) (drop 3 s) (rw (a, b, c, d, e) at q)),
-    λ q. let z : length s < lengthIn s = rw (a, b, c, d) at q in absurd (omega (arith, ltb-false (length s) 3 a, ltb-false (length (drop 3 s)) (2 * words (rulesIn s) (mapIn s)) e, length-drop 3 s)),
-  )
+      let missing = ltb-true (length (drop 3 s)) (2 * words (rulesIn s) (mapIn s)) e in
+      (λ q. rw (a, b, c, d) (omega (arith, missing, length-drop 3 s, ltb-false (length s) 3 a)), λ q. rw (a, b, c, d, e))
+  one-by false false false false false a b c d e =
+      let full = ltb-false (length (drop 3 s)) (2 * words (rulesIn s) (mapIn s)) e in (
+        λ q. absurd (fields-not-one (rulesIn s) (mapIn s) (drop 3 s) (rw (a, b, c, d, e) at q)),
+        λ q. let z : length s < lengthIn s = rw (a, b, c, d) at q in absurd (omega (arith, ltb-false (length s) 3 a, full, length-drop 3 s)),
+      )
 
   pub one-exactly : (refusalOf s ≡ 1) ↔ (length s < bears s)
-  one-exactly =
-      one-by (ltb (length s) 3) (ltb lastKind (kindIn s)) (lacks (rulesIn s) (mapIn s)) (misses (rulesIn s) (mapIn s)) (ltb (length (drop 3 s)) (2 * words (rulesIn s) (mapIn s))) refl refl refl refl refl
+  one-exactly = one-by _ _ _ _ _ refl refl refl refl refl

@@ -1,5 +1,4 @@
 -- One slot after the other: what each definition of `specs/Writing` says of the rules and slots from place i on.
--- Assumes nothing.
 use mathlib.Core.Path.{_≡_, refl, ap, sym, _∙_}
 use mathlib.Core.Bool.{false}
 use mathlib.Core.List.{List, [], _∷_, _++_}

@@ -1,5 +1,4 @@
 -- What the writer's tests say of its answer and of the buffer afterwards.
--- Assumes nothing.
 use mathlib.Core.Path.{_≡_, ap, sym, _∙_}
 use mathlib.Core.Bool.{Bool, true, false}
 use mathlib.Core.List.{List, _++_}

@@ -1,5 +1,4 @@
 -- A site as numbers: what the loops of `src/sites.rt` leave.
--- Assumes nothing.
 use mathlib.Core.Path.{_≡_, ap, sym, _∙_}
 use mathlib.Core.Bool.{true, false}
 use mathlib.Core.List.{List, [], _∷_, map}

@@ -1,5 +1,4 @@
 -- `header::is_in_limits` meets its contract. Each test is one of the definition's, in its order.
--- Assumes nothing.
 use borrow.Author.Needs.{needs}
 use borrow.Author.Tests.{not-true, not-false}
 use Rattle.model.specs.Predicted.{inLimits}

@@ -1,5 +1,4 @@
 -- `project::header_number` meets its contract. Length, edition, then the limits.
--- Assumes nothing.
 use borrow.Author.Needs.{needs}
 use borrow.Author.Tests.{lt-ltb, le-ltb, eq-eqb, ne-eqb}
 use Rattle.project.specs.File.{headerNumber}

@@ -1,5 +1,4 @@
 -- `project::scan` meets its contract. The header's refusal, or the scan of as many records as the header says.
--- Assumes nothing.
 use borrow.Author.Needs.{needs}
 use borrow.Author.Tests.{eq-eqb, ne-eqb}
 use mathlib.Core.Path.{sym, _∙_}

@@ -1,5 +1,5 @@
 -- `project::scan_records` meets its contract. The loop's invariant: the records from i on, at their place, tell what the scan answers.
--- The measure is the number of records that are left. Assumes nothing.
+-- The measure is the number of records that are left.
 use borrow.Author.Needs.{needs}
 use native.Mathlib.Omega.{arith}
 use mathlib.Core.Path.{_≡_}

@@ -1,5 +1,3 @@
--- `report::read_project` meets its contract.
--- Assumes nothing.
 use mathlib.Core.Path.{sym, _∙_}
 use Rattle.project.specs.SitesRead.{accepted-sites}
 use Rattle.report.specs.ProjectLaws.{space-suffices, refused-by-bytes, refused-by-room, reported}

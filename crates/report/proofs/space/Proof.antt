@@ -1,5 +1,3 @@
--- `report::space` meets its contract.
--- Assumes nothing.
 use native.Mathlib.Omega.{arith}
 use Rattle.report.specs.ProjectLaws.{room-short, room-enough}
 use borrow.Author.Needs.{needs}

@@ -1,5 +1,4 @@
 -- `report_text::put_digits` meets its contract. The loop's invariant: with the digits that are left stored at the place, the buffer is as it is to be.
--- Assumes nothing.
 use Prim.Native.Nat.{_+_, _≤_}
 use mathlib.Core.Path.{_≡_}
 use native.Mathlib.Omega.{arith}

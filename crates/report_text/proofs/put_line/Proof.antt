@@ -1,5 +1,3 @@
--- `report_text::put_line` meets its contract.
--- Assumes nothing.
 use native.Mathlib.Omega.{arith}
 use borrow.Author.Needs.{needs}
 use Rattle.report_text.specs.Text.{lineText}

@@ -1,5 +1,4 @@
 -- `site_reader::bit_of` meets its contract. A remainder by one more than the field's bits.
--- Assumes nothing.
 use mathlib.Core.Path.{ap}
 use native.Mathlib.Omega.{arith}
 use Prim.Native.Nat.{ℕ, _+_, _%_}

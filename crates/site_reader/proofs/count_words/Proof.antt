@@ -1,5 +1,4 @@
 -- `site_reader::count_words` meets its contract. The loop's invariant: the count so far and the words of the rules from i on are the whole.
--- Assumes nothing.
 use borrow.Author.Needs.{needs}
 use native.Mathlib.Omega.{arith}
 use mathlib.Core.Path.{_≡_}

@@ -1,5 +1,4 @@
 -- `site_reader::fields_number` meets its contract. The loop's invariant: the fields before i are not refused, the bytes of the others are there, and they tell.
--- Assumes nothing.
 use borrow.Author.Needs.{needs}
 use native.Mathlib.Omega.{arith}
 use mathlib.Core.Path.{_≡_}

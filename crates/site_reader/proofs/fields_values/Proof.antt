@@ -1,5 +1,4 @@
 -- `site_reader::fields_values` meets its contract. The loop's invariant: with the slots from i on filled in, the list is all the slots.
--- Assumes nothing.
 use borrow.Author.Needs.{needs}
 use native.Mathlib.Omega.{arith}
 use mathlib.Core.Path.{_≡_, refl}

@@ -1,5 +1,4 @@
 -- `site_reader::read_site` meets its contract. Kind and map are there, then the fields are read by their rules.
--- Assumes nothing.
 use borrow.Author.Tests.{lt-ltb, le-ltb}
 use denote.Ref.{now}
 use Rattle.site.proofs.Walk.{part-from}

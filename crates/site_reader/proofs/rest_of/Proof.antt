@@ -1,5 +1,4 @@
 -- `site_reader::rest_of` meets its contract. A quotient by one more than the field's bits.
--- Assumes nothing.
 use mathlib.Core.Path.{ap}
 use Prim.Native.Nat.{ℕ, _+_, _/_}
 use borrow.Author.Needs.{needs}

@@ -1,5 +1,4 @@
 -- `site_reader::word_at` meets its contract. High byte first; both bytes are below 256, so the number fits.
--- Assumes nothing.
 use Prim.Native.Nat.{_+_}
 use native.Mathlib.Omega.{arith}
 use lib.Seq.{getD-drop}

@@ -1,5 +1,3 @@
--- `site_writer::is_sound` meets its contract.
--- Assumes nothing.
 use mathlib.Core.Path.{sym}
 use borrow.Author.Needs.{needs}
 use Rattle.site_writer.proofs.WriteWhole.{kind-outside, slots-tell}

@@ -1,5 +1,3 @@
--- `report::fill::fill` meets its contract.
--- Assumes nothing.
 use denote.Ref.{now}
 use lib.Seq.{sets}
 use mathlib.Core.Path.{ap, _∙_}

@@ -1,5 +1,3 @@
--- `report::fill::fill_lines` meets its contract.
--- Assumes nothing.
 use Prim.Native.Nat.{_-_, _*_}
 use mathlib.Core.Path.{_≡_, refl, sym, _∙_}
 use native.Mathlib.Omega.{arith}

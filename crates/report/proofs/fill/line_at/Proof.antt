@@ -1,5 +1,3 @@
--- `report::fill::line_at` meets its contract.
--- Assumes nothing.
 use denote.Ref.{now}
 use Rattle.model.specs.Predicted.{Header, headerOf}
 use Rattle.report.proofs.RecordRead.{no-line, a-line}

@@ -1,5 +1,3 @@
--- `report::fill::put_line` meets its contract.
--- Assumes nothing.
 use Prim.Native.Nat.{suc, _+_}
 use mathlib.Core.Path.{_≡_, refl}
 use native.Mathlib.Omega.{arith}

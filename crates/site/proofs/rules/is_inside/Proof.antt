@@ -1,5 +1,4 @@
 -- `site::rules::is_inside` meets its contract. Two comparisons.
--- Assumes nothing.
 use borrow.Author.Tests.{le-leb, lt-leb}
 use Rattle.site.proofs.rules.is_inside.Statement.{statement}
 use Rattle.site.proofs.rules.is_inside.Tie as tie

@@ -1,5 +1,4 @@
 -- `site::rules::settle_rules` meets its contract. The loop's invariant: with the rules from i on filled in, the list is the settled rules.
--- Assumes nothing.
 use Rattle.site.specs.Rules.{settled, slotCount, settle}
 use borrow.Author.Needs.{needs}
 use native.Mathlib.Omega.{arith}
@@ -12,7 +11,8 @@ use Rattle.site.proofs.rules.settle_rules.Statement.{statement}
 use Rattle.site.proofs.rules.settle_rules.Tie as tie
 
 abbrev Inv-loop : tie.InvT-loop
-Inv-loop curved entries rules₀ i₀ rules i = (i ≤ slotCount) × (length rules ≡ slotCount) × (sets rules i (settle curved (drop i entries)) ≡ settle curved entries)
+Inv-loop curved entries rules₀ i₀ rules i =
+    (i ≤ slotCount) × (length rules ≡ slotCount) × (sets rules i (settle curved (drop i entries)) ≡ settle curved entries)
 
 abbrev μ-loop : tie.MeasureT-loop
 μ-loop curved entries rules₀ i₀ rules i = slotCount - i
@@ -42,11 +42,12 @@ loop-less : tie.Need-loop-less Inv-loop μ-loop
 loop-less c = omega arith
 
 loop-again : tie.Need-loop-again Inv-loop μ-loop
-loop-again c = (
-  omega arith,
-  simp length-set (c .before .before .before .loop .inv .1),
-  map-more _ _ _ _ _ (c .before .before .before .before .pre) (c .before .before .before .loop .inv .2) _ _ (c .before .before .loop-test .taken) (c .settled-rule .ensures),
-)
+loop-again c =
+    let loop = c .before .before .before .loop in (
+      omega arith,
+      simp length-set (loop .inv .1),
+      map-more _ _ _ _ _ (c .before .before .before .before .pre) (loop .inv .2) _ _ (c .before .before .loop-test .taken) (c .settled-rule .ensures),
+    )
 
 returns : tie.Need-returns Inv-loop μ-loop
 returns c = map-end _ _ _ _ _ (c .before .before .pre) (c .before .loop .inv .2) (c .loop-test .left)

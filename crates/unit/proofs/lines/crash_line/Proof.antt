@@ -1,5 +1,4 @@
 -- `unit::lines::crash_line` meets its contract. The answer of the site's line, lent.
--- Assumes nothing.
 use Rattle.unit.proofs.LineSteps.{no-numbers, lined}
 use borrow.Author.Needs.{needs}
 use Rattle.unit.proofs.lines.crash_line.Statement.{statement}

@@ -1,5 +1,3 @@
--- `unit::projects::crash_project` meets its contract.
--- Assumes nothing.
 use Rattle.unit.specs.ProjectNumbers.{told}
 use borrow.Author.Needs.{needs}
 use Rattle.unit.proofs.projects.crash_project.Statement.{statement}

@@ -1,5 +1,4 @@
 -- `unit::sites::code_of` meets its contract. An absent slot is 65,536.
--- Assumes nothing.
 use mathlib.Core.Path.{ap, sym}
 use Rattle.unit.specs.SiteNumbers.{code}
 use borrow.Author.Needs.{needs}

@@ -1,5 +1,4 @@
 -- `unit::sites::crash_site_read` meets its contract. The reader's answer, told by its number and its values.
--- Assumes nothing.
 use Rattle.unit.proofs.NumberSteps.{no-room, refused-number, told}
 use borrow.Author.Needs.{needs}
 use Rattle.unit.proofs.sites.crash_site_read.Statement.{statement}
@@ -30,7 +29,9 @@ same-length : tie.Need-same-length
 same-length c = search needs
 
 returns-3 : tie.Need-returns-3
-returns-3 c = told _ _ _ (c .before .before .before .before .before .before .before .before .read-site .ensures .answer-is) _ _ (c .before .before .before .before .before .before .answer2 .given .1) (c .before .before .before .before .if1 .left) _ (c .before .before .put-site .ensures)
+returns-3 c =
+    let read = c .before .before .before .before .before .before .before .before .read-site .ensures .answer-is in
+    told _ _ _ read _ _ (c .before .before .before .before .before .before .answer2 .given .1) (c .before .before .before .before .if1 .left) _ (c .before .before .put-site .ensures)
 
 pub crash-site-read-spec : {M : Type 1} → statement M
 crash-site-read-spec =

@@ -1,5 +1,4 @@
 -- `unit::sites::crash_site_write` meets its contract. The writer's answer, told by its number and its length.
--- Assumes nothing.
 use Rattle.unit.proofs.NumberSteps.{no-numbers, unwritten-numbers, written-numbers}
 use borrow.Author.Needs.{needs}
 use Rattle.unit.proofs.sites.crash_site_write.Statement.{statement}
@@ -27,13 +26,19 @@ same-length : tie.Need-same-length
 same-length c = search needs
 
 returns-2 : tie.Need-returns-2
-returns-2 c = unwritten-numbers _ _ _ _ (c .before .before .before .before .before .before .before .before .if1 .left) _ (c .before .before .before .before .before .before .before .site-from .ensures) _ (c .before .before .before .before .before .write-site .ensures) _ (c .before .answer .given .1)
+returns-2 c =
+    let site = c .before .before .before .before .before .before .before in
+    let written = c .before .before .before .before .before .write-site .ensures in
+    unwritten-numbers _ _ _ _ (site .before .if1 .left) _ (site .site-from .ensures) _ written _ (c .before .answer .given .1)
 
 same-length-2 : tie.Need-same-length-2
 same-length-2 c = search needs
 
 returns-3 : tie.Need-returns-3
-returns-3 c = written-numbers _ _ _ _ (c .before .before .before .before .before .before .before .before .if1 .left) _ (c .before .before .before .before .before .before .before .site-from .ensures) _ (c .before .before .before .before .before .write-site .ensures) _ (c .before .answer2 .given .1)
+returns-3 c =
+    let site = c .before .before .before .before .before .before .before in
+    let written = c .before .before .before .before .before .write-site .ensures in
+    written-numbers _ _ _ _ (site .before .if1 .left) _ (site .site-from .ensures) _ written _ (c .before .answer2 .given .1)
 
 pub crash-site-write-spec : {M : Type 1} → statement M
 crash-site-write-spec =

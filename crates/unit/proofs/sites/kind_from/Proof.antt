@@ -1,5 +1,4 @@
 -- `unit::sites::kind_from` meets its contract. A byte, or 255.
--- Assumes nothing.
 use borrow.Author.Tests.{lt-ltb, le-ltb}
 use borrow.Author.Needs.{needs}
 use Rattle.unit.proofs.sites.kind_from.Statement.{statement}

@@ -1,5 +1,4 @@
 -- `unit::sites::put_slots` meets its contract. The loop's invariant: with the codes from i on stored, the run is as it is to be.
--- Assumes nothing.
 use borrow.Author.Needs.{needs}
 use native.Mathlib.Omega.{arith}
 use mathlib.Core.Path.{_≡_}
@@ -14,7 +13,8 @@ use Rattle.unit.proofs.sites.put_slots.Statement.{statement}
 use Rattle.unit.proofs.sites.put_slots.Tie as tie
 
 abbrev Inv-loop : tie.InvT-loop
-Inv-loop values₀ slots i₀ values i = (i ≤ slotCount) × (length values ≡ length values₀) × (sets values (1 + i) (map code (drop i slots)) ≡ sets values₀ 1 (map code slots))
+Inv-loop values₀ slots i₀ values i =
+    (i ≤ slotCount) × (length values ≡ length values₀) × (sets values (1 + i) (map code (drop i slots)) ≡ sets values₀ 1 (map code slots))
 
 abbrev μ-loop : tie.MeasureT-loop
 μ-loop values₀ slots i₀ values i = slotCount - i
@@ -47,11 +47,12 @@ loop-less : tie.Need-loop-less Inv-loop μ-loop
 loop-less c = omega arith
 
 loop-again : tie.Need-loop-again Inv-loop μ-loop
-loop-again c = (
-  omega arith,
-  simp length-set (c .before .before .before .loop .inv .1),
-  store-more code _ _ _ _ (c .before .before .before .before .before .pre .0) (c .before .before .before .loop .inv .2) _ _ (c .before .before .loop-test .taken) (c .code-of .ensures),
-)
+loop-again c =
+    let loop = c .before .before .before .loop in (
+      omega arith,
+      simp length-set (loop .inv .1),
+      store-more code _ _ _ _ (c .before .before .before .before .before .pre .0) (loop .inv .2) _ _ (c .before .before .loop-test .taken) (c .code-of .ensures),
+    )
 
 same-length : tie.Need-same-length Inv-loop μ-loop
 same-length c = search needs

@@ -1,5 +1,4 @@
 -- `unit::sites::site_from` meets its contract. The kind and the slots of a run of numbers.
--- Assumes nothing.
 use mathlib.Core.Path.{ap, _∙_}
 use mathlib.Core.List.{map}
 use denote.Ref.{now}

@@ -1,5 +1,4 @@
 -- `unit::sites::slots_from` meets its contract. The loop's invariant: with the slots from i on filled in, the list is all the slots.
--- Assumes nothing.
 use borrow.Author.Needs.{needs}
 use native.Mathlib.Omega.{arith}
 use mathlib.Core.Path.{_≡_, refl}
@@ -15,7 +14,8 @@ use Rattle.unit.proofs.sites.slots_from.Statement.{statement}
 use Rattle.unit.proofs.sites.slots_from.Tie as tie
 
 abbrev Inv-loop : tie.InvT-loop
-Inv-loop numbers slots₀ i₀ slots i = (i ≤ slotCount) × (length slots ≡ slotCount) × (sets slots i (map slotFrom (drop i numbers)) ≡ map slotFrom numbers)
+Inv-loop numbers slots₀ i₀ slots i =
+    (i ≤ slotCount) × (length slots ≡ slotCount) × (sets slots i (map slotFrom (drop i numbers)) ≡ map slotFrom numbers)
 
 abbrev μ-loop : tie.MeasureT-loop
 μ-loop numbers slots₀ i₀ slots i = slotCount - i
@@ -45,11 +45,12 @@ loop-less : tie.Need-loop-less Inv-loop μ-loop
 loop-less c = omega arith
 
 loop-again : tie.Need-loop-again Inv-loop μ-loop
-loop-again c = (
-  omega arith,
-  simp length-set (c .before .before .before .loop .inv .1),
-  map-more slotFrom _ _ _ _ (c .before .before .before .before .before .pre) (c .before .before .before .loop .inv .2) _ _ (c .before .before .loop-test .taken) (c .slot-from .ensures),
-)
+loop-again c =
+    let loop = c .before .before .before .loop in (
+      omega arith,
+      simp length-set (loop .inv .1),
+      map-more slotFrom _ _ _ _ (c .before .before .before .before .before .pre) (loop .inv .2) _ _ (c .before .before .loop-test .taken) (c .slot-from .ensures),
+    )
 
 returns : tie.Need-returns Inv-loop μ-loop
 returns c = map-end slotFrom _ _ _ _ (c .before .before .before .pre) (c .before .loop .inv .2) (c .loop-test .left)
