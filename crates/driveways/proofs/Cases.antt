@@ -1,5 +1,4 @@
 -- The part's bracket from the bracket of ln A and the part's values at its ends.
--- Assumes nothing.
 use Prim.Native.Nat.{ℕ, _*_, _≤_, _<_}
 use mathlib.Core.Path.{_≡_, sym}
 use native.Mathlib.Omega.{arith}

@@ -1,5 +1,4 @@
 -- The driveway part falls or rises with ln A, so its bracket stands at every depth; how wide and how large the bracket is.
--- Assumes nothing.
 use Prim.Native.Nat.{ℕ, _+_, _-_, _*_, _≤_, _<_}
 use mathlib.Core.Path.{_≡_, ap}
 use native.Mathlib.Nat.{mul-comm, mul-le-mul-left, mul-le-mul-right, mul-pos, sub-add-cancel, sub-eq-zero-of-le, le-of-lt, lt-of-not-le}

@@ -1,5 +1,4 @@
 -- e^x and e^(-x) at depth d, for a fraction x from 0.
--- Assumes nothing.
 use Prim.Native.Nat.{ℕ, zero, suc, _+_, _*_, _^_, _<_}
 use mathlib.Core.Path.{_≡_, ap}
 use native.Mathlib.Nat.{mul-pos, pow-zero, pow-suc, one-le-pow}

@@ -1,5 +1,4 @@
 -- Numbers at most and at least e^x, told by partial sums alone; what they make, and why they stand against the estimates of e^x and e^(-x) at every depth.
--- Assumes nothing.
 use Prim.Native.Nat.{ℕ, _+_, _*_, _<_}
 use mathlib.Core.Path.{_≡_}
 use native.Mathlib.Omega.{arith}

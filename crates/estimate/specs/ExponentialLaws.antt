@@ -1,5 +1,4 @@
 -- Laws of the partial sums of e^x: they grow, their tail bounds them all, and both rise with x.
--- Assumes nothing.
 use Prim.Native.Nat.{ℕ, zero, suc, _+_, _*_, _≤_, _<_, zero-le}
 use mathlib.Core.Path.{_≡_, refl}
 use native.Mathlib.Nat.{mul-pos, mul-le-mul, mul-le-mul-left, mul-le-mul-right, mul-lt-mul-of-pos-right, not-suc-le-zero}

@@ -1,5 +1,4 @@
 -- The product laws of the partial sums S_m of e^x: S_m(x+y) ≤ S_m(x) S_m(y) and S_m(x) S_n(y) ≤ S_(m+n)(x+y), and their iterates.
--- Assumes nothing.
 use Prim.Native.Nat.{ℕ, zero, suc, _+_, _*_, _-_, _≤_, _<_}
 use mathlib.Core.Path.{_≡_, ap, ap₂}
 use native.Mathlib.Nat.{mul-pos, mul-le-mul-right, le-of-mul-le-mul-right, add-zero, pow-zero, pow-suc, zero-mul, suc-mul}

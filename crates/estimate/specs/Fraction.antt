@@ -1,5 +1,4 @@
 -- Fractions. Document 01: "In statements a fraction is two whole numbers, compared by cross products."
--- Assumes nothing.
 use Prim.Native.Nat.{ℕ, zero, suc, _+_, _-_, _*_, _^_, _≤_, _<_}
 use mathlib.Core.Bool.{Bool, true, false}
 use mathlib.Core.Path.{_≡_}

@@ -1,5 +1,4 @@
 -- Laws of fractions: their order, and how sums, products, powers, differences and reciprocals keep it.
--- Assumes nothing.
 use Prim.Native.Nat.{ℕ, zero, suc, _+_, _*_, _^_, _≤_, _<_}
 use mathlib.Core.Bool.{Bool, true, false}
 use mathlib.Core.Path.{_≡_, refl, ap}

@@ -1,6 +1,5 @@
 -- Estimates of powers, exponentials and logarithms at every depth, and the laws that carry a computed bound to all of them.
 -- What to read: Fraction, Search, Power, Exponential, Logarithm, Standing. The other modules prove laws about those definitions.
--- Assumes nothing.
 pub mod Fraction
 pub mod FractionLaws
 pub mod Search

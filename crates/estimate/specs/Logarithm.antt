@@ -1,5 +1,4 @@
 -- ln A at depth d, for a fraction A from 1 (document 01's A is `whole A`).
--- Assumes nothing.
 use Prim.Native.Nat.{ℕ, suc, _*_, _^_, _≤_}
 use mathlib.Core.Path.{_≡_, refl}
 use native.Mathlib.Nat.{le-mul-of-pos-right}

@@ -1,5 +1,4 @@
 -- Laws of the estimates of ln: what bounds them at every depth, their order, and products.
--- Assumes nothing.
 use Prim.Native.Nat.{ℕ, _+_, _*_, _^_, _≤_, _<_}
 use mathlib.Core.Path.{_≡_, refl}
 use native.Mathlib.Nat.{le-add-right, lt-of-not-le}

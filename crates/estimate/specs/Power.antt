@@ -1,5 +1,4 @@
 -- A^(p/q) at depth d, for any p and any q from 1 (document 01 has q = 100).
--- Assumes nothing.
 use Prim.Native.Nat.{ℕ, zero, suc, _+_, _*_, _^_, _≤_, _<_, zero-le}
 use mathlib.Core.Path.{_≡_}
 use native.Mathlib.Nat.{le-trans, mul-zero, pow-suc, pow-le-pow-left, mul-le-mul-right, one-le-pow, zero-lt-suc, not-suc-le-zero, not-le-of-lt}

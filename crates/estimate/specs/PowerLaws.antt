@@ -1,5 +1,4 @@
 -- Laws of bounds t/S of powers A^(p/q), over every exponent p and denominator q: why they stand at every depth, and what they make.
--- Assumes nothing.
 use Prim.Native.Nat.{ℕ, _+_, _*_, _^_, _≤_, _<_}
 use mathlib.Core.Path.{_≡_}
 use native.Mathlib.Nat.{le-trans, le-of-lt, mul-le-mul-left, mul-le-mul-right, le-of-mul-le-mul-right, one-le-pow, pow-le-pow-left, lt-of-not-le, not-suc-le-self}

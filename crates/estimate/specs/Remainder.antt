@@ -1,5 +1,4 @@
 -- The remainder factor (N+r)/N: with z = r/(2N+r) it is (1+z)/(1-z), and its logarithm is between 2z and 2z + z^3.
--- Assumes nothing.
 use Prim.Native.Nat.{ℕ, zero, suc, _+_, _*_, _^_, _≤_, _<_}
 use mathlib.Core.Path.{_≡_, refl, ap}
 use native.Mathlib.Nat.{mul-le-mul-left, mul-le-mul-right, mul-pos}

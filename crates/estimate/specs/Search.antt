@@ -1,5 +1,4 @@
 -- The largest and the smallest whole number that pass a test: a search up to a bound, and what it finds among all whole numbers.
--- Assumes nothing.
 use Prim.Native.Nat.{ℕ, zero, suc, _≤_, _<_, zero-le}
 use mathlib.Core.Bool.{Bool, true, false}
 use mathlib.Core.Path.{_≡_, refl}

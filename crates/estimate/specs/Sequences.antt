@@ -1,5 +1,4 @@
 -- Sums and Cauchy products of sequences of whole numbers, and the Cauchy product of two sequences that go by the recurrence of x^i/i!.
--- Assumes nothing.
 use Prim.Native.Nat.{ℕ, zero, suc, _+_, _*_, _≤_, _<_, zero-le, suc-le-suc}
 use mathlib.Core.Path.{_≡_, refl, ap}
 use native.Mathlib.Nat.{mul-pos, mul-le-mul-left, mul-le-mul-right, eq-of-mul-eq-mul-left, zero-add}

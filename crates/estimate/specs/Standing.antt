@@ -1,5 +1,4 @@
 -- When a low and a high are right, over estimates that are functions of the depth.
--- Assumes nothing.
 use Prim.Native.Nat.{ℕ, _≤_, _<_}
 use Rattle.estimate.specs.Fraction.{Fraction, _≤ᶠ_, _+ᶠ_, _*ᶠ_, inverse}
 use Rattle.estimate.specs.FractionLaws.{≤ᶠ-refl, ≤ᶠ-trans, +ᶠ-mono, *ᶠ-mono, inverse-antitone}

@@ -1,5 +1,4 @@
 -- A rule of a table: one test, computed entry after entry, and one law that carries it to each entry.
--- Assumes nothing.
 use mathlib.Core.Path.{_≡_, _∙_, subst, sym}
 use mathlib.Core.Bool.{Bool, true, false}
 use mathlib.Core.Logic.{⊎-elim}

@@ -1,5 +1,4 @@
 -- Powers of whole numbers: of a product, to a product, and how they keep an order.
--- Assumes nothing.
 use Prim.Native.Nat.{ℕ, zero, suc, _*_, _^_, _≤_, _<_}
 use mathlib.Core.Path.{_≡_}
 use native.Mathlib.Nat.{pow-zero, pow-suc, mul-zero, mul-suc, mul-mul-mul-comm, pow-lt-pow-left, lt-of-not-le, lt-irrefl, lt-of-lt-of-le, ne-of-gt}

@@ -1,5 +1,4 @@
 -- The brackets of e^x and e^(-x), x in ten-thousandths, what the calls answer, and what an answer promises.
--- Assumes nothing.
 use Prim.Native.Nat.{ℕ, _+_, _*_, _/_, _%_, _<_}
 use mathlib.Core.Bool.{cond}
 use lib.Dec.{leb}

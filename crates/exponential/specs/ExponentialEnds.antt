@@ -1,5 +1,4 @@
 -- The ends of the bracket of e^x at the scale: they are at most and at least e^x, close to each other, and of a known size.
--- Assumes nothing.
 use Prim.Native.Nat.{ℕ, suc, _+_, _*_, _/_, _%_, _^_, _≤_, _<_}
 use native.Mathlib.Nat.{le-trans, mul-le-mul-left, lt-of-mul-lt-mul-right, le-of-suc-le-suc}
 use native.Mathlib.Omega.{arith}

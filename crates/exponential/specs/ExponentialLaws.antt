@@ -1,5 +1,4 @@
 -- The brackets of e^x and e^(-x) stand at every depth, are at most 10^-10 wide, and have ends of a known size; what is answered stands.
--- Assumes nothing.
 use Prim.Native.Nat.{ℕ, _+_, _-_, _*_, _≤_, _<_}
 use mathlib.Core.Path.{_≡_, refl, ap}
 use native.Mathlib.Nat.{mul-le-mul-left, lt-of-not-le, sub-add-cancel}

@@ -1,6 +1,5 @@
 -- Brackets of e^x and e^(-x): what the calls answer, and why their brackets stand at every depth and how wide they are.
 -- What to read: Scale, Stored, Taylor, Exponential. The other modules prove laws about those definitions.
--- Assumes nothing.
 pub mod Scale
 pub mod Stored
 pub mod StoredLaws

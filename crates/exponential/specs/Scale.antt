@@ -1,5 +1,4 @@
 -- The scale at which whole numbers stand for fractions here, and products at that scale.
--- Assumes nothing.
 use Prim.Native.Nat.{ℕ, _*_, _^_, _≤_, _<_}
 use native.Mathlib.Nat.{le-trans, le-of-eq, mul-comm}
 use native.Mathlib.Omega.{arith}

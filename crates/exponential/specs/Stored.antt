@@ -1,5 +1,4 @@
 -- The stored e^i for whole i from 0 to 14: what each is, and what a table of them is.
--- Assumes nothing.
 use Prim.Native.Nat.{ℕ, _<_}
 use mathlib.Core.Path.{_≡_}
 use mathlib.Core.List.{List}

@@ -1,5 +1,4 @@
 -- A table is tested by one computation. Each stored number is at most e^i, and the next one is at least e^i.
--- Assumes nothing.
 use Prim.Native.Nat.{ℕ, _+_, _*_, _≤_, _<_}
 use mathlib.Core.Path.{_≡_}
 use mathlib.Core.Bool.{Bool}

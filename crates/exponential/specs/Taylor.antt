@@ -1,5 +1,4 @@
 -- e^f for f in ten-thousandths, by the terms of its sum at the scale.
--- Assumes nothing.
 use Prim.Native.Nat.{ℕ, zero, suc, _+_, _*_}
 use Rattle.wide.specs.Scaling.{floor, ceiling}
 use Rattle.exponential.specs.Scale.{scale}

@@ -1,6 +1,5 @@
 -- The two estimates of a logarithm at depth 12 are near each other: what the over-estimate of e^x exceeds its under-estimate by
 -- is less than what 10^-12 more of x adds.
--- Assumes nothing.
 use Prim.Native.Nat.{ℕ, zero, suc, _+_, _*_, _^_, _≤_, _<_}
 use native.Mathlib.Nat.{le-trans, mul-le-mul, mul-le-mul-left, mul-le-mul-right, not-suc-le-self}
 use native.Mathlib.Omega.{arith}

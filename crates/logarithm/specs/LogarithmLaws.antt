@@ -1,5 +1,4 @@
 -- The bracket of ln a stands at every depth and is narrow; how large its ends are.
--- Assumes nothing.
 use Prim.Native.Nat.{ℕ, _+_, _*_, _^_, _≤_, _<_}
 use mathlib.Core.Path.{_≡_, ap}
 use native.Mathlib.Nat.{mul-le-mul-right, one-le-pow}

@@ -1,5 +1,4 @@
 -- Stored bounds of ln k for k from 1 to 256: the estimates at depth 12.
--- Assumes nothing.
 use Prim.Native.Nat.{ℕ, _+_, _-_, _*_, _^_, _≤_}
 use mathlib.Core.List.{List}
 use mathlib.Core.Path.{_≡_}

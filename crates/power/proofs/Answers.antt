@@ -1,5 +1,4 @@
 -- The two answers of the public call, with all that it ensures.
--- Assumes nothing.
 use Prim.Native.Nat.{ℕ}
 use mathlib.Core.Path.{_≡_, sym}
 use Rattle.bracket.specs.declared.Bracket.{Bracket}

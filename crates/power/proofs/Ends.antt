@@ -1,5 +1,4 @@
 -- An end of the bracket from the steps that find it: the same walk at both ends.
--- Assumes nothing.
 use Prim.Native.Nat.{ℕ, _*_}
 use mathlib.Core.Path.{_≡_}
 use Rattle.remainder.specs.Split.{firstFactor, secondFactor, restOf, splitOf}

@@ -1,5 +1,4 @@
 -- The table's rule: one test, computed over the table, and one law that carries it to each entry of any table that passes.
--- Assumes nothing.
 use Prim.Native.Nat.{ℕ, _+_, _-_, _*_, _/_, _%_, _^_, _≤_, _<_}
 use mathlib.Core.Bool.{Bool}
 use mathlib.Core.List.{List}

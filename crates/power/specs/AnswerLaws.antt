@@ -1,5 +1,4 @@
 -- The answer of the public call: where a bracket is given, and that it stands.
--- Assumes nothing.
 use Prim.Native.Nat.{ℕ}
 use mathlib.Core.Bool.{Bool, true, false, cond}
 use mathlib.Core.Path.{_≡_, refl}

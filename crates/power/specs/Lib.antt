@@ -1,6 +1,5 @@
 -- Brackets of powers by stored bounds: what they are, that they stand at every depth, and how wide they are.
 -- What to read: Exponents, Stored, Power. The other modules prove laws about those definitions.
--- Assumes nothing.
 pub mod Exponents
 pub mod Stored
 pub mod Power

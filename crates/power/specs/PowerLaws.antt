@@ -1,6 +1,5 @@
 -- The bracket of A^(p/q) stands at every depth and is narrow; how large its ends are.
 -- "The shared laws of powers are shown over the exponent, not for each": p/q is any exponent up to 1.
--- Assumes nothing.
 use Prim.Native.Nat.{ℕ, zero, suc, _+_, _*_, _^_, _≤_, _<_}
 use mathlib.Core.Path.{_≡_, refl}
 use native.Mathlib.Nat.{le-trans, mul-le-mul-left, mul-le-mul-right, pow-le-pow-left, pow-le-pow-right}

@@ -1,5 +1,4 @@
 -- How far apart two rounded products are: s t g over S R below, (s + 1)(t + 1) g' above, with g' near g.
--- Assumes nothing.
 use Prim.Native.Nat.{ℕ, _+_, _*_, _≤_, _<_}
 use native.Mathlib.Nat.{mul-le-mul, mul-le-mul-left, mul-le-mul-right, le-of-mul-le-mul-right}
 use native.Mathlib.Omega.{arith}

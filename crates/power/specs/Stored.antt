@@ -1,5 +1,4 @@
 -- "Stored bounds of powers for A from 1 to 256 at the five exponents are one constant table, checked against these definitions": the estimates at depth 9.
--- Assumes nothing.
 use Prim.Native.Nat.{ℕ, _+_, _-_, _*_, _^_, _≤_, _<_}
 use mathlib.Core.List.{List}
 use mathlib.Core.Path.{_≡_, refl}

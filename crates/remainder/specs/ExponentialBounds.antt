@@ -1,5 +1,4 @@
 -- The bounds of e^x for an x up to 0.004: the sums of their rounded terms, over any scale R where that is possible.
--- Assumes nothing.
 use Prim.Native.Nat.{ℕ, _+_, _*_, _^_, _≤_, _<_}
 use mathlib.Core.Path.{_≡_}
 use native.Mathlib.Nat.{mul-le-mul, mul-le-mul-left, mul-le-mul-right}

@@ -1,6 +1,5 @@
 -- A number as a product and a small rest, and bounds of what the rest adds to its logarithm and its powers.
 -- What to read: Split, Remainder. The other modules prove laws about those definitions.
--- Assumes nothing.
 pub mod Quotient
 pub mod Split
 pub mod Remainder

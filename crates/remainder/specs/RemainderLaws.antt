@@ -1,5 +1,4 @@
 -- The bounds of ((N+r)/N)^(p/q), for every exponent p/q up to 1: that they are bounds, how near they are and how large.
--- Assumes nothing.
 use Prim.Native.Nat.{ℕ, _+_, _*_, _^_, _≤_, _<_}
 use mathlib.Core.Path.{_≡_}
 use native.Mathlib.Nat.{mul-le-mul, mul-le-mul-left, mul-le-mul-right, le-of-mul-le-mul-right}

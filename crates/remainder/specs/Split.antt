@@ -1,5 +1,4 @@
 -- A number a from 1 to 65536 as n m + r. Document 01: "how a larger A is reached is free".
--- Assumes nothing.
 use Prim.Native.Nat.{ℕ, zero, suc, _+_, _-_, _*_, _≤_, _<_}
 use mathlib.Core.Path.{_≡_}
 use native.Mathlib.Nat.{mul-pos}

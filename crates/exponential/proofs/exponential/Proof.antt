@@ -1,4 +1,4 @@
--- The answer is by the range, and stands by the law of the definition. Assumes nothing.
+-- The answer is by the range, and stands by the law of the definition.
 use native.Mathlib.Omega.{arith}
 use Rattle.exponential.specs.Exponential.{expBracket, exponentialAnswer}
 use Rattle.exponential.specs.ExponentialLaws.{exponential-stands}

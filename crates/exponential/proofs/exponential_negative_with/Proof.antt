@@ -1,4 +1,4 @@
--- The bracket of e^x, its fractions turned over and exchanged. Assumes nothing.
+-- The bracket of e^x, its fractions turned over and exchanged.
 use mathlib.Core.Path.{ap}
 use Rattle.exponential.specs.Exponential.{reciprocal, expNegBracket}
 use borrow.Author.Needs.{needs}

@@ -1,4 +1,4 @@
--- The stored number and the ends of the rest are the definition's, and so are their products. Assumes nothing.
+-- The stored number and the ends of the rest are the definition's, and so are their products.
 use mathlib.Core.Path.{_≡_}
 use Prim.Native.Nat.{_/_}
 use native.Mathlib.Omega.{arith}

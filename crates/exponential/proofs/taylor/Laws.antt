@@ -1,4 +1,4 @@
--- What the loop over the terms holds after k of them, how a turn keeps it, and that every number on the way fits. Assumes nothing.
+-- What the loop over the terms holds after k of them, how a turn keeps it, and that every number on the way fits.
 use mathlib.Core.Path.{_≡_, refl, ap, ap₂, _∙_}
 use Prim.Native.Nat.{ℕ, suc, _+_, _*_, _≤_, _<_}
 use native.Mathlib.Nat.{mul-le-mul}

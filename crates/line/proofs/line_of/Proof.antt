@@ -1,5 +1,4 @@
 -- `line::line_of` meets its contract.
--- Assumes nothing.
 use mathlib.Core.Path.{sym, _∙_}
 use borrow.Author.Tests.{not-true, not-false}
 use Rattle.line.specs.AnswerLaws.{limits-of, header-outside, site-outside, both-inside}

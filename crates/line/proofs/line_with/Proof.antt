@@ -1,5 +1,4 @@
 -- `line::line_with` meets its contract.
--- Assumes nothing.
 use mathlib.Core.Path.{ap, _∙_}
 use Rattle.site.specs.Ranges.{valid-kind}
 use Rattle.model.specs.Coefficients.{editionOne}

@@ -1,5 +1,4 @@
 -- `line_rounds::round` meets its contract. The loop's invariant: the place is within the records.
--- Assumes nothing.
 use Prim.Native.Nat.{ℕ, _+_, _≤_, _<_, _^_, _-_}
 use denote.Ref.{now}
 use native.Mathlib.Omega.{arith}

@@ -1,5 +1,4 @@
 -- `line_rounds::rounds` meets its contract.
--- Assumes nothing.
 use Prim.Native.Nat.{_<_, _^_, _-_}
 use borrow.Author.Needs.{needs}
 use Rattle.line_rounds.proofs.rounds.Statement.{statement}

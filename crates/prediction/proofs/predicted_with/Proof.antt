@@ -1,5 +1,4 @@
 -- `prediction::predicted_with` meets its contract.
--- Assumes nothing.
 use native.Mathlib.Nat.{pos-of-ne-zero}
 use Rattle.prediction.specs.Numbers.{segment-numbers, crossing-numbers}
 use Rattle.prediction.specs.Values.{segment-sizes, crossing-sizes, segment-pair, crossing-pair}

@@ -1,5 +1,4 @@
 -- `bracket::carry::through` meets its contract.
--- Assumes nothing.
 use borrow.Author.Needs.{needs}
 use Rattle.bracket.proofs.carry.through.Statement.{statement}
 use Rattle.bracket.proofs.carry.through.Tie as tie

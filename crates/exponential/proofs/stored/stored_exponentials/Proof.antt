@@ -1,4 +1,4 @@
--- The table is the definition's, entry by entry: one computed test. Assumes nothing.
+-- The table is the definition's, entry by entry: one computed test.
 use mathlib.Core.Path.{refl}
 use Rattle.estimate.specs.Fraction.{whole, fraction}
 use Rattle.estimate.specs.Exponential.{termNum, termDen, sumNum, partialSum, expUnder}

@@ -1,4 +1,4 @@
--- Each turn makes one term more of the definition's sums. Assumes nothing.
+-- Each turn makes one term more of the definition's sums.
 use mathlib.Core.Path.{_≡_}
 use Prim.Native.Nat.{_-_}
 use native.Mathlib.Omega.{arith}

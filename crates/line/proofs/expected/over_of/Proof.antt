@@ -1,5 +1,4 @@
 -- `line::expected::over_of` meets its contract.
--- Assumes nothing.
 use native.Mathlib.Nat.{mul-le-mul}
 use native.Mathlib.Omega.{arith}
 use Prim.Native.Nat.{_*_, _≤_}

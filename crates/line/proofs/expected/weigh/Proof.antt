@@ -1,5 +1,4 @@
 -- `line::expected::weigh` meets its contract.
--- Assumes nothing.
 use borrow.Author.Needs.{needs}
 use Rattle.line.proofs.expected.weigh.Statement.{statement}
 use Rattle.line.proofs.expected.weigh.Tie as tie

@@ -1,5 +1,4 @@
 -- `line::expected::weigh_high` meets its contract.
--- Assumes nothing.
 use Rattle.line.specs.Weighing.{under-positive, high-fits}
 use borrow.Author.Needs.{needs}
 use Rattle.line.proofs.expected.weigh_high.Statement.{statement}

@@ -1,5 +1,4 @@
 -- `prediction::crossing::carry_crossing` meets its contract.
--- Assumes nothing.
 use mathlib.Core.Path.{refl, _∙_}
 use native.Mathlib.Omega.{arith}
 use native.Mathlib.Nat.{mul-le-mul}

@@ -1,5 +1,4 @@
 -- `prediction::crossing::crossing_of` meets its contract.
--- Assumes nothing.
 use borrow.Author.Needs.{needs}
 use Rattle.prediction.proofs.crossing.crossing_of.Statement.{statement}
 use Rattle.prediction.proofs.crossing.crossing_of.Tie as tie

@@ -1,5 +1,4 @@
 -- `prediction::crossing::minor_factor` meets its contract.
--- Assumes nothing.
 use mathlib.Core.Path.{ap, _∙_}
 use Rattle.power.specs.Exponents.{exponentAt}
 use Rattle.power.specs.Power.{powerBracket}

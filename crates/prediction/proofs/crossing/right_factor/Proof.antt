@@ -1,5 +1,4 @@
 -- `prediction::crossing::right_factor` meets its contract.
--- Assumes nothing.
 use Rattle.prediction.specs.Values.{exact-is}
 use borrow.Author.Needs.{needs}
 use Rattle.prediction.proofs.crossing.right_factor.Statement.{statement}

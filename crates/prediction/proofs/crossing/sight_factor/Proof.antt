@@ -1,5 +1,4 @@
 -- `prediction::crossing::sight_factor` meets its contract.
--- Assumes nothing.
 use Rattle.prediction.specs.Values.{exact-is}
 use borrow.Author.Needs.{needs}
 use Rattle.prediction.proofs.crossing.sight_factor.Statement.{statement}

@@ -1,5 +1,4 @@
 -- `prediction::crossing::skew_factor` meets its contract.
--- Assumes nothing.
 use native.Mathlib.Omega.{arith}
 use Prim.Native.Nat.{_*_, _≤_}
 use Rattle.prediction.specs.Kept.{skew-most}

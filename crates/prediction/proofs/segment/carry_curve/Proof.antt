@@ -1,5 +1,4 @@
 -- `prediction::segment::carry_curve` meets its contract.
--- Assumes nothing.
 use Rattle.bracket.specs.CarryLaws.{one-by-one}
 use Rattle.prediction.specs.Values.{curveBrackets}
 use borrow.Author.Needs.{needs}

@@ -1,5 +1,4 @@
 -- `prediction::segment::carry_segment` meets its contract.
--- Assumes nothing.
 use Rattle.prediction.specs.Values.{straight-carried, curve-carried}
 use borrow.Author.Needs.{needs}
 use Rattle.prediction.proofs.segment.carry_segment.Statement.{statement}

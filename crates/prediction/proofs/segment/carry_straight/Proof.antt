@@ -1,5 +1,4 @@
 -- `prediction::segment::carry_straight` meets its contract.
--- Assumes nothing.
 use mathlib.Core.Path.{refl, _∙_}
 use Rattle.bracket.specs.CarryLaws.{one-by-one, further}
 use Rattle.bracket.specs.declared.carry.CarryAnswer.the-variants.{Carried}

@@ -1,5 +1,4 @@
 -- `prediction::segment::curve_factor` meets its contract.
--- Assumes nothing.
 use Rattle.prediction.specs.Values.{exact-is}
 use borrow.Author.Needs.{needs}
 use Rattle.prediction.proofs.segment.curve_factor.Statement.{statement}

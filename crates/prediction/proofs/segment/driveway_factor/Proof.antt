@@ -1,5 +1,4 @@
 -- `prediction::segment::driveway_factor` meets its contract.
--- Assumes nothing.
 use Rattle.model.specs.Coefficients.{editionOne}
 use borrow.Author.Needs.{needs}
 use Rattle.prediction.proofs.segment.driveway_factor.Statement.{statement}

@@ -1,5 +1,4 @@
 -- `prediction::segment::segment_of` meets its contract.
--- Assumes nothing.
 use borrow.Author.Needs.{needs}
 use Rattle.prediction.proofs.segment.segment_of.Statement.{statement}
 use Rattle.prediction.proofs.segment.segment_of.Tie as tie

@@ -1,5 +1,4 @@
 -- `prediction::segment::segment_start` meets its contract.
--- Assumes nothing.
 use native.Mathlib.Omega.{arith}
 use Rattle.prediction.specs.Values.{StartRoom, start-room}
 use borrow.Author.Needs.{needs}

@@ -1,5 +1,4 @@
 -- `prediction::segment::shoulder_factor` meets its contract.
--- Assumes nothing.
 use Rattle.model.specs.Coefficients.{editionOne}
 use Rattle.model.specs.Widths as widths
 use Rattle.prediction.specs.Values.{exact-is}

@@ -1,4 +1,4 @@
--- `prediction::stored::base_factor` meets its contract. Assumes nothing.
+-- `prediction::stored::base_factor` meets its contract.
 use mathlib.Core.Path.{_∙_}
 use native.Mathlib.Omega.{arith}
 use Rattle.prediction.specs.Stored.{entry-falls}

@@ -1,4 +1,4 @@
--- `prediction::stored::falling` meets its contract. Assumes nothing.
+-- `prediction::stored::falling` meets its contract.
 use mathlib.Core.Path.{refl}
 use Rattle.prediction.proofs.stored.falling.Statement.{statement}
 use Rattle.prediction.proofs.stored.falling.Tie as tie

@@ -1,4 +1,4 @@
--- `prediction::stored::hazard_factor` meets its contract. Assumes nothing.
+-- `prediction::stored::hazard_factor` meets its contract.
 use mathlib.Core.Path.{_∙_}
 use native.Mathlib.Omega.{arith}
 use borrow.Author.Tests.{le-leb, lt-leb}

@@ -1,4 +1,4 @@
--- The table has the ends of the exponential: one computed test of each row. Assumes nothing.
+-- The table has the ends of the exponential: one computed test of each row.
 use Rattle.estimate.specs.Fraction.{whole, fraction}
 use Rattle.estimate.specs.Exponential.{termNum, termDen, sumNum, partialSum, expUnder}
 use Rattle.estimate.specs.Table.{allBelow}

@@ -1,5 +1,4 @@
 -- `prediction::values::round_outward` meets its contract.
--- Assumes nothing.
 use mathlib.Core.Path.{ap, sym}
 use Rattle.prediction.specs.Pair.{outward}
 use borrow.Author.Needs.{needs}

@@ -1,4 +1,4 @@
--- `wide::division::divide` meets its contract: two digit steps on the number and the divisor, both scaled by `norm`. Assumes nothing.
+-- `wide::division::divide` meets its contract: two digit steps on the number and the divisor, both scaled by `norm`.
 use borrow.Author.Needs.{needs}
 use mathlib.Core.Path.{_≡_}
 use Prim.Native.Nat.{ℕ, _+_, _*_, _/_, _%_, _^_, _≤_, _<_}

@@ -1,4 +1,4 @@
--- `wide::division::left_over` meets its contract. Assumes nothing.
+-- `wide::division::left_over` meets its contract.
 use borrow.Author.Needs.{needs}
 use mathlib.Core.Path.{_≡_}
 use Prim.Native.Nat.{ℕ, _+_, _-_, _*_, _/_, _%_, _^_, _≤_, _<_}

@@ -1,4 +1,4 @@
--- `wide::division::norm` meets its contract: with k its highest set bit, d's leading zeros make 63 with k. Assumes nothing.
+-- `wide::division::norm` meets its contract: with k its highest set bit, d's leading zeros make 63 with k.
 use mathlib.Core.Path.{_≡_, sym, _∙_, ap, subst}
 use Prim.Native.Nat.{ℕ, zero, suc, _+_, _*_, _%_, _^_, _≤_, _<_}
 use native.Mathlib.Nat.{mul-le-mul-right, mul-lt-mul-of-pos-right, one-mul, mod-eq-of-lt}

@@ -1,4 +1,4 @@
--- `wide::scale::scale_down` meets its contract. Assumes nothing.
+-- `wide::scale::scale_down` meets its contract.
 use borrow.Author.Needs.{needs}
 use Prim.Native.Nat.{ℕ, _*_, _/_}
 use mathlib.Core.Path.{sym, ap, _∙_}

@@ -1,4 +1,4 @@
--- `wide::scale::scale_up` meets its contract. Assumes nothing.
+-- `wide::scale::scale_up` meets its contract.
 use borrow.Author.Needs.{needs}
 use mathlib.Core.Path.{sym}
 use Rattle.wide.specs.Scaling.{ceiling, answered-zero}

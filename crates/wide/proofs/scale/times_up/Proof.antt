@@ -1,4 +1,4 @@
--- The quotient fits, so that the scaling has a value. Assumes nothing.
+-- The quotient fits, so that the scaling has a value.
 use Rattle.wide.specs.Scaling.{ceiling}
 use borrow.Author.Needs.{needs}
 use Rattle.wide.proofs.scale.times_up.Statement.{statement}

@@ -1,4 +1,4 @@
--- `wide::scale::value` meets its contract: an answer is of a quotient that fits only as that value. Assumes nothing.
+-- `wide::scale::value` meets its contract: an answer is of a quotient that fits only as that value.
 use mathlib.Core.Path.{sym, _∙_}
 use Rattle.wide.specs.Scaling.{value-is, fits-never-large}
 use borrow.Author.Needs.{needs}
