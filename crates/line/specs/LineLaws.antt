@@ -6,7 +6,7 @@ use native.Mathlib.Decide.{decLe}
 use native.Mathlib.Omega.{arith}
 use lib.Dec.{lit≤}
 use Rattle.estimate.specs.Fraction.{Fraction, fraction, _//_, millionths}
-use Rattle.estimate.specs.Standing.{LowRight, HighRight}
+use Rattle.estimate.specs.Standing.{Between}
 use Rattle.wide.specs.Rounding.{Narrow}
 use Rattle.site.specs.declared.values.Site.{Site}
 use Rattle.site.specs.declared.values.Slot.{Slot}
@@ -44,8 +44,7 @@ module _ (k : Fraction) (O n : ℕ) where
 
 -- WITH A HISTORY OR WITHOUT: what the expected pair keeps of a predicted pair that stands
 record ExpectedStands (k : Fraction) (slot : Slot) (under over : ℕ → Fraction) (p e : Pair) : Type 0 where
-  low-right : LowRight (millionths (e .low)) (λ d. withHistory k slot (over d))
-  high-right : HighRight (millionths (e .high)) (λ d. withHistory k slot (under d))
+  between : Between (millionths (e .low)) (millionths (e .high)) (λ d. withHistory k slot (under d)) (λ d. withHistory k slot (over d))
   in-order : e .low ≤ e .high
   narrow : Narrow 100000 (8 * (1 + number slot)) 1 (e .low) (e .high)
   low-amid : (O : ℕ) → slot ≡ Number O → Amid (p .low) (O * 1000000) (e .low)
@@ -61,16 +60,14 @@ number-of m O e = ap number e
 expected-stands : (k : Fraction) → k .num ≤ 2 * k .den → (slot : Slot) (under over : ℕ → Fraction) (p : Pair) → PairStands 1 under over p
     → ExpectedStands k slot under over p (expectedPair k slot p)
 expected-stands k small Absent under over p s = record {
-  low-right = record { at = s .low-right .at };
-  high-right = record { at = s .high-right .at };
+  between = record { low-right = record { at = s .low-right .at }; high-right = record { at = s .high-right .at } };
   in-order = s .in-order;
   narrow = record { width = omega (arith, s .narrow .width) };
   low-amid = λ O e. let z : _≡_ {A = ℕ} 0 1 = cc in absurd (omega arith);
   high-amid = λ O e. let z : _≡_ {A = ℕ} 0 1 = cc in absurd (omega arith);
 }
 expected-stands k small (Number m) under over p s = record {
-  low-right = expected-low-right k m (p .low) (s .low-right);
-  high-right = expected-high-right k m (p .high) (s .high-right);
+  between = record { low-right = expected-low-right k m (p .low) (s .low-right); high-right = expected-high-right k m (p .high) (s .high-right) };
   in-order = expected-in-order k m (p .low) (p .high) (s .in-order);
   narrow = let w = expected-width k m 100000 4 1 (6 + 8 * m) (p .low) (p .high) (record { width = omega (arith, s .narrow .width) }) (history-width (k .num) (k .den) m small) in record { width = omega (arith, w .width) };
   low-amid = λ O e. rw (← number-of m O e) (low-between k m (p .low));
@@ -86,10 +83,8 @@ module _ (c : Coefficients) (rated : Rated c) (small : (kind length : ℕ) → c
       let p = predicted-stands c rated header limits site valid in
       let e = expected-stands (overdispersionOf c site) (small _ _) (site .observed) _ _ (predictedPair c header site) p in
       record {
-        predicted-low-right = p .low-right;
-        predicted-high-right = p .high-right;
-        expected-low-right = e .low-right;
-        expected-high-right = e .high-right;
+        predicted-between = record { low-right = p .low-right; high-right = p .high-right };
+        expected-between = e .between;
         predicted-in-order = omega (arith, p .in-order);
         expected-in-order = omega (arith, e .in-order);
         predicted-narrow = record { width = omega (arith, p .narrow .width) };

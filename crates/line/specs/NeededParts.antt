@@ -27,16 +27,16 @@ module _ (c : Coefficients) (header : Header) (site : Site) (line : Line) where
 
   -- a low above the over-estimate at some depth, a high below the under-estimate
   pub predicted-low-too-high : (d : ℕ) → 1 ≤ d → predictedOver c header site d <ᶠ millionths (line .«predicted_low») → Fails
-  predicted-low-too-high d h l s = not-≤ᶠ-and-<ᶠ (s .predicted-low-right .at d h) l
+  predicted-low-too-high d h l s = not-≤ᶠ-and-<ᶠ (s .predicted-between .low-right .at d h) l
 
   pub predicted-high-too-low : (d : ℕ) → 1 ≤ d → millionths (line .«predicted_high») <ᶠ predictedUnder c header site d → Fails
-  predicted-high-too-low d h l s = not-≤ᶠ-and-<ᶠ (s .predicted-high-right .at d h) l
+  predicted-high-too-low d h l s = not-≤ᶠ-and-<ᶠ (s .predicted-between .high-right .at d h) l
 
   pub expected-low-too-high : (d : ℕ) → 1 ≤ d → expectedOver c header site d <ᶠ millionths (line .«expected_low») → Fails
-  expected-low-too-high d h l s = not-≤ᶠ-and-<ᶠ (s .expected-low-right .at d h) l
+  expected-low-too-high d h l s = not-≤ᶠ-and-<ᶠ (s .expected-between .low-right .at d h) l
 
   pub expected-high-too-low : (d : ℕ) → 1 ≤ d → millionths (line .«expected_high») <ᶠ expectedUnder c header site d → Fails
-  expected-high-too-low d h l s = not-≤ᶠ-and-<ᶠ (s .expected-high-right .at d h) l
+  expected-high-too-low d h l s = not-≤ᶠ-and-<ᶠ (s .expected-between .high-right .at d h) l
 
   -- a low that passes its high
   pub predicted-exchanged : line .«predicted_high» < line .«predicted_low» → Fails

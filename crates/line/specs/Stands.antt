@@ -3,7 +3,7 @@ use Prim.Native.Nat.{ℕ, _+_, _*_, _≤_, min, max}
 use mathlib.Core.Path.{_≡_}
 use mathlib.Core.Bool.{false, _&&_}
 use Rattle.estimate.specs.Fraction.{Fraction, millionths}
-use Rattle.estimate.specs.Standing.{LowRight, HighRight}
+use Rattle.estimate.specs.Standing.{Between}
 use Rattle.wide.specs.Rounding.{Narrow}
 use Rattle.site.specs.declared.values.Site.{Site}
 use Rattle.site.specs.declared.values.Slot.{Slot}
@@ -33,11 +33,11 @@ pub record Amid (x y n : ℕ) : Type 0 where
   pub to : n ≤ max x y
 
 pub record LineStands (c : Coefficients) (header : Header) (site : Site) (line : Line) : Type 0 where
-  -- "A low is right when it is at most the over-estimate at every depth, a high when it is at least the under-estimate"
-  pub predicted-low-right : LowRight (millionths (line .«predicted_low»)) (predictedOver c header site)
-  pub predicted-high-right : HighRight (millionths (line .«predicted_high»)) (predictedUnder c header site)
-  pub expected-low-right : LowRight (millionths (line .«expected_low»)) (expectedOver c header site)
-  pub expected-high-right : HighRight (millionths (line .«expected_high»)) (expectedUnder c header site)
+  -- "an exact figure stands between two numbers when both are right"
+  pub predicted-between : Between (millionths (line .«predicted_low»)) (millionths (line .«predicted_high»))
+      (predictedUnder c header site) (predictedOver c header site)
+  pub expected-between : Between (millionths (line .«expected_low»)) (millionths (line .«expected_high»))
+      (expectedUnder c header site) (expectedOver c header site)
   -- "No low passes its high"
   pub predicted-in-order : line .«predicted_low» ≤ line .«predicted_high»
   pub expected-in-order : line .«expected_low» ≤ line .«expected_high»

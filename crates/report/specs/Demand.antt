@@ -5,7 +5,7 @@ use mathlib.Core.Path.{_≡_}
 use mathlib.Core.List.{List, [], _∷_}
 use lib.ListN.{length, getD}
 use Rattle.estimate.specs.Fraction.{Fraction, whole, millionths, _+ᶠ_}
-use Rattle.estimate.specs.Standing.{LowRight, HighRight}
+use Rattle.estimate.specs.Standing.{Between}
 use Rattle.wide.specs.Rounding.{Narrow}
 use Rattle.site.specs.declared.values.Site.{Site}
 use Rattle.site.specs.Record.{siteOf}
@@ -46,10 +46,10 @@ observedIn (site ∷ sites) = number (site .observed) + observedIn sites
 
 -- the totals of a list of sites: at most 4 a site, or 8 for sites and crashes together, and a hundred-thousandth of the high apart
 pub record TotalsStand (c : Coefficients) (header : Header) (sites : List Site) (total : Line) : Type 0 where
-  pub predicted-low-right : LowRight (millionths (total .«predicted_low»)) (sumOver (predictedOver c header) sites)
-  pub predicted-high-right : HighRight (millionths (total .«predicted_high»)) (sumOver (predictedUnder c header) sites)
-  pub expected-low-right : LowRight (millionths (total .«expected_low»)) (sumOver (expectedOver c header) sites)
-  pub expected-high-right : HighRight (millionths (total .«expected_high»)) (sumOver (expectedUnder c header) sites)
+  pub predicted-between : Between (millionths (total .«predicted_low»)) (millionths (total .«predicted_high»))
+      (sumOver (predictedUnder c header) sites) (sumOver (predictedOver c header) sites)
+  pub expected-between : Between (millionths (total .«expected_low»)) (millionths (total .«expected_high»))
+      (sumOver (expectedUnder c header) sites) (sumOver (expectedOver c header) sites)
   pub predicted-in-order : total .«predicted_low» ≤ total .«predicted_high»
   pub expected-in-order : total .«expected_low» ≤ total .«expected_high»
   pub predicted-narrow : Narrow widthParts (predictedEach * length sites) 1 (total .«predicted_low») (total .«predicted_high»)

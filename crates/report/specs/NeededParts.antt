@@ -96,16 +96,16 @@ module _ (bytes report : List ℕ) where
   Wrong = Demand bytes report → ⊥
 
   pub total-predicted-low-too-high : (d : ℕ) → 1 ≤ d → sumOver (predictedOver editionOne (headerIn bytes)) (sitesIn bytes) d <ᶠ millionths low → Wrong
-  total-predicted-low-too-high d k l m = not-≤ᶠ-and-<ᶠ (m .totals .predicted-low-right .at d k) l
+  total-predicted-low-too-high d k l m = not-≤ᶠ-and-<ᶠ (m .totals .predicted-between .low-right .at d k) l
 
   pub total-predicted-high-too-low : (d : ℕ) → 1 ≤ d → millionths high <ᶠ sumOver (predictedUnder editionOne (headerIn bytes)) (sitesIn bytes) d → Wrong
-  total-predicted-high-too-low d k l m = not-≤ᶠ-and-<ᶠ (m .totals .predicted-high-right .at d k) l
+  total-predicted-high-too-low d k l m = not-≤ᶠ-and-<ᶠ (m .totals .predicted-between .high-right .at d k) l
 
   pub total-expected-low-too-high : (d : ℕ) → 1 ≤ d → sumOver (expectedOver editionOne (headerIn bytes)) (sitesIn bytes) d <ᶠ millionths lowExpected → Wrong
-  total-expected-low-too-high d k l m = not-≤ᶠ-and-<ᶠ (m .totals .expected-low-right .at d k) l
+  total-expected-low-too-high d k l m = not-≤ᶠ-and-<ᶠ (m .totals .expected-between .low-right .at d k) l
 
   pub total-expected-high-too-low : (d : ℕ) → 1 ≤ d → millionths highExpected <ᶠ sumOver (expectedUnder editionOne (headerIn bytes)) (sitesIn bytes) d → Wrong
-  total-expected-high-too-low d k l m = not-≤ᶠ-and-<ᶠ (m .totals .expected-high-right .at d k) l
+  total-expected-high-too-low d k l m = not-≤ᶠ-and-<ᶠ (m .totals .expected-between .high-right .at d k) l
 
   pub total-predicted-exchanged : high < low → Wrong
   total-predicted-exchanged l m = omega (arith, m .totals .predicted-in-order)
@@ -136,6 +136,6 @@ pub one-report-for-two : (bytes others report : List ℕ) → 0 < length (sitesI
 one-report-for-two bytes others report h k d a b l over under apart m o =
     let first = m .each 0 h in
     let second = o .each 0 k in
-    let low : getD report 0 0 < a = order (getD report 0 0) a (≤ᶠ-<ᶠ-trans (first .predicted-low-right .at d l) over) in
-    let high : b < getD report 1 0 = order b (getD report 1 0) (<ᶠ-≤ᶠ-trans under (second .predicted-high-right .at d l)) in
+    let low : getD report 0 0 < a = order (getD report 0 0) a (≤ᶠ-<ᶠ-trans (first .predicted-between .low-right .at d l) over) in
+    let high : b < getD report 1 0 = order b (getD report 1 0) (<ᶠ-≤ᶠ-trans under (second .predicted-between .high-right .at d l)) in
     omega (arith, low, high, first .predicted-narrow .width)

@@ -4,8 +4,8 @@ use mathlib.Core.List.{List, [], _∷_}
 use lib.Dec.{lit≤}
 use native.Mathlib.Omega.{arith}
 use Rattle.estimate.specs.Fraction.{Fraction, fraction, _//_, whole, millionths, _+ᶠ_}
-use Rattle.estimate.specs.FractionLaws.{≤ᶠ-trans, =ᶠ-≤ᶠ, =ᶠ-≥ᶠ, +ᶠ-mono}
-use Rattle.estimate.specs.Standing.{LowRight, HighRight}
+use Rattle.estimate.specs.FractionLaws.{=ᶠ-≤ᶠ, =ᶠ-≥ᶠ}
+use Rattle.estimate.specs.Standing.{Between, smaller-low-right, larger-high-right, low-sum-right, high-sum-right}
 use Rattle.site.specs.declared.values.Site.{Site}
 use Rattle.model.specs.Coefficients.{Coefficients}
 use Rattle.model.specs.Predicted.{Header}
@@ -22,29 +22,24 @@ AllStand c header [] (line ∷ lines) = ⊥
 AllStand c header (site ∷ sites) [] = ⊥
 AllStand c header (site ∷ sites) (line ∷ lines) = LineStands c header site line × AllStand c header sites lines
 
--- sums of lows and of highs
-low-adds : (a b : ℕ) {f g : ℕ → Fraction} → LowRight (millionths a) f → LowRight (millionths b) g → LowRight (millionths (a + b)) (λ d. f d +ᶠ g d)
-low-adds a b h k = record { at = λ d l. ≤ᶠ-trans (=ᶠ-≤ᶠ (millionths-add a b)) (+ᶠ-mono (h .at d l) (k .at d l)) }
+-- two figures between their numbers have a sum between the sums, and no figure is 0
+between-adds : (a b x y : ℕ) {f g u v : ℕ → Fraction} → Between (millionths a) (millionths b) f g → Between (millionths x) (millionths y) u v
+    → Between (millionths (a + x)) (millionths (b + y)) (λ d. f d +ᶠ u d) (λ d. g d +ᶠ v d)
+between-adds a b x y h k = record {
+  low-right = smaller-low-right (=ᶠ-≤ᶠ (millionths-add a x)) (low-sum-right (h .low-right) (k .low-right));
+  high-right = larger-high-right (=ᶠ-≥ᶠ (millionths-add b y)) (high-sum-right (h .high-right) (k .high-right));
+}
 
-high-adds : (a b : ℕ) {f g : ℕ → Fraction} → HighRight (millionths a) f → HighRight (millionths b) g → HighRight (millionths (a + b)) (λ d. f d +ᶠ g d)
-high-adds a b h k = record { at = λ d l. ≤ᶠ-trans (+ᶠ-mono (h .at d l) (k .at d l)) (=ᶠ-≥ᶠ (millionths-add a b)) }
-
-low-none : LowRight (millionths 0) (λ d. whole 0)
+none-between : Between (millionths 0) (millionths 0) (λ d. whole 0) (λ d. whole 0)
 unfolding millionths _//_ whole fraction
-low-none = record { at = λ d l. record { cross = lit≤ tt } }
-
-high-none : HighRight (millionths 0) (λ d. whole 0)
-unfolding millionths _//_ whole fraction
-high-none = record { at = λ d l. record { cross = lit≤ tt } }
+none-between = record { low-right = record { at = λ d l. record { cross = lit≤ tt } }; high-right = record { at = λ d l. record { cross = lit≤ tt } } }
 
 module _ (c : Coefficients) (header : Header) where
   pub totals-stand : (sites : List Site) (lines : List Line) → AllStand c header sites lines → TotalsStand c header sites (totalOf lines)
   unfolding totalOf sumOver observedIn
   totals-stand [] [] h = record {
-    predicted-low-right = low-none;
-    predicted-high-right = high-none;
-    expected-low-right = low-none;
-    expected-high-right = high-none;
+    predicted-between = none-between;
+    expected-between = none-between;
     predicted-in-order = lit≤ tt;
     expected-in-order = lit≤ tt;
     predicted-narrow = record { width = lit≤ tt };
@@ -56,10 +51,8 @@ module _ (c : Coefficients) (header : Header) where
       let s = h .0 in
       let r = totals-stand sites lines (h .1) in
       record {
-        predicted-low-right = low-adds _ _ (s .predicted-low-right) (r .predicted-low-right);
-        predicted-high-right = high-adds _ _ (s .predicted-high-right) (r .predicted-high-right);
-        expected-low-right = low-adds _ _ (s .expected-low-right) (r .expected-low-right);
-        expected-high-right = high-adds _ _ (s .expected-high-right) (r .expected-high-right);
+        predicted-between = between-adds _ _ _ _ (s .predicted-between) (r .predicted-between);
+        expected-between = between-adds _ _ _ _ (s .expected-between) (r .expected-between);
         predicted-in-order = omega (arith, s .predicted-in-order, r .predicted-in-order);
         expected-in-order = omega (arith, s .expected-in-order, r .expected-in-order);
         predicted-narrow = record { width = omega (arith, s .predicted-narrow .width, r .predicted-narrow .width) };
