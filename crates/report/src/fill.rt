@@ -117,7 +117,7 @@ fn fill_lines(
 }
 
 // The report of an accepted file, from the start of a run that has room for it; the stored numbers are made once.
-pub fn fill(file: &[u8], report: &mut [u64])
+pub(crate) fn fill(file: &[u8], report: &mut [u64])
     requires { ⌜ Acceptable (now file) (length (now report)) ⌝ }
     ensures { λ r. ⌜ now (report .exit) ≡ laidOver (reportNumbers (linesIn (now (file .entry)))) (now (report .entry)) ⌝ }
     ensures demand { λ r. ⌜ Demand (now (file .entry)) (now (report .exit)) ⌝ }

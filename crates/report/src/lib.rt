@@ -19,7 +19,7 @@ pub enum ProjectAnswer {
 }
 
 // The space test: the count of a report's numbers, four for each site and four totals, or 10 where the run is shorter.
-pub fn space(sites: usize, room: usize) -> ProjectAnswer
+fn space(sites: usize, room: usize) -> ProjectAnswer
     requires { ⌜ sites ≤ mostSites ⌝ }
     ensures { λ r. ⌜ r ≡ spaced (Accepted sites) room ⌝ }
 {
