@@ -35,7 +35,7 @@ module _ (base num den : ℕ) where
   range-exponent r =
       let s = exponent-small (placeOf num) (r .stored) in
       let e = place-of-holds num (r .stored) in
-      record { at-most-one = omega (arith, s, e, r .hundredths); positive = omega (arith, r .hundredths); few = omega (arith, r .hundredths) }
+      record { at-most-one = omega (arith, s, e, r .hundredths); positive = omega (arith, r .hundredths) }
 
   pub answer-in-range : PowerRange base num den → powerAnswer base num den ≡ Between (powerBracket base num den)
   unfolding powerAnswer

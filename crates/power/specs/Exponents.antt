@@ -62,4 +62,4 @@ pub exponent-small : (e : ℕ) → e < 5 → exponentAt e ≤ 79
 exponent-small e h = leb→le (exponentAt e) 79 (at (λ i x. leb x 79) exponents tt e h)
 
 pub exponent-is : (e : ℕ) → e < 5 → Exponent (exponentAt e) 100
-exponent-is e h = let s = exponent-small e h in record { at-most-one = omega arith; positive = omega arith; few = omega arith }
+exponent-is e h = let s = exponent-small e h in record { at-most-one = omega arith; positive = omega arith }

@@ -158,7 +158,7 @@ pub power-high-small : (A p : ℕ) → 1 ≤ A → A ≤ 20000 → p ≤ 79 → 
 unfolding powerWidth
 power-high-small A p from to hp =
     let big : A ≤ 65536 = omega arith in
-    let e : Exponent p 100 = record { at-most-one = omega arith; positive = omega arith; few = omega arith } in
+    let e : Exponent p 100 = record { at-most-one = omega arith; positive = omega arith } in
     let low = power-low-below A p 100 from big e 20000 79 (2500 * billion) to hp (lit< tt) (lit≤ tt) in
     omega (arith, low, power-width A p 100 from big e .width)
 

@@ -10,11 +10,14 @@ pub record SmallRest (N r : ℕ) : Type 0 where
   pub small : 255 * r ≤ N
   pub few : N ≤ 65536
 
--- an exponent p/q, at most 1
+-- an exponent p/q, at most 1: any denominator above 0
 pub record Exponent (p q : ℕ) : Type 0 where
   pub at-most-one : p ≤ q
   pub positive : 0 < q
-  pub few : q ≤ 1000
+
+-- the largest denominator for which the calls' products fit 64 bits
+abbrev pub mostDenominator : ℕ
+mostDenominator = 1000
 
 -- the bounds' denominator
 abbrev pub scale : ℕ

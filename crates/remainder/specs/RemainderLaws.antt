@@ -6,7 +6,7 @@ use native.Mathlib.Omega.{arith}
 use lib.Dec.{lit<, lit≤}
 use Rattle.estimate.specs.Remainder.{ratio-power-low-whole, ratio-power-high-whole}
 use Rattle.remainder.specs.Quotient.{quotientDown, quotientUp, RoundedDown, RoundedUp, rounded-down, quotient-up, at-most}
-use Rattle.remainder.specs.Remainder.{SmallRest, Exponent, scale, logLow, logHigh, remainderLow, remainderHigh}
+use Rattle.remainder.specs.Remainder.{SmallRest, Exponent, mostDenominator, scale, logLow, logHigh, remainderLow, remainderHigh}
 use Rattle.remainder.specs.LogarithmBounds.{log-low-stands, log-low-small, log-high-stands, log-high-small, log-near, log-near-whole}
 use Rattle.remainder.specs.ExponentialBounds.{ExponentialLow, ExponentialHigh, exponential-low-is, exponential-high-is, exponentials-near}
 
@@ -22,8 +22,9 @@ module _ {p q : ℕ} (e : Exponent p q) where
   parts-near : (y y' c d : ℕ) {x x' : ℕ} → y' ≤ y + c → c * p + q ≤ d * q → RoundedDown (y * p) q x → RoundedUp (y' * p) q x' → x' ≤ x + d
   parts-near y y' c d {x} {x'} h k f g = at-most x' q (x + d) (omega (arith, f .near, g .near, mul-le-mul-right p h))
 
-  pub part-fits : {y : ℕ} → y ≤ 3914000000 → y * p ≤ 3914000000 * 1000
-  part-fits h = mul-le-mul {m₂ = 1000} h (omega arith)
+  -- where the denominator is small, the product before the division fits
+  pub part-fits : {y : ℕ} → q ≤ mostDenominator → y ≤ 3914000000 → y * p ≤ 3914000000 * mostDenominator
+  part-fits few h = mul-le-mul {m₂ = mostDenominator} h (omega arith)
 
 module _ (N r p q : ℕ) (s : SmallRest N r) (e : Exponent p q) where
   low-part : RoundedDown (logLow N r * p) q (quotientDown (logLow N r * p) q)

@@ -4,7 +4,7 @@ ghost use mathlib.Core.Path.{_≡_};
 ghost use Prim.Native.Nat.{_+_, _^_, _≤_, _<_};
 ghost use Rattle.remainder.specs.Quotient.{quotientDown, quotientUp};
 ghost use Rattle.remainder.specs.Split.{splitOf};
-ghost use Rattle.remainder.specs.Remainder.{SmallRest, Exponent, logLow, logBoundsOf, exponentialLow, exponentialHigh, remainderLow, remainderHigh};
+ghost use Rattle.remainder.specs.Remainder.{SmallRest, Exponent, mostDenominator, logLow, logBoundsOf, exponentialLow, exponentialHigh, remainderLow, remainderHigh};
 ghost use Rattle.remainder.specs.LogarithmBounds.{withCube};
 
 const SCALE: u64 = 1_000_000_000_000;
@@ -106,7 +106,7 @@ fn exponential_high(x: u64) -> u64
 
 // A number below ((product + rest) / product)^(num / den).
 pub fn remainder_low(product: u64, rest: u64, num: u64, den: u64) -> u64
-    requires { ⌜ SmallRest product rest × Exponent num den ⌝ }
+    requires { ⌜ SmallRest product rest × Exponent num den × (den ≤ mostDenominator) ⌝ }
     ensures { λ w. ⌜ w ≡ remainderLow product rest num den ⌝ }
 {
     exponential_low(log_low(product, rest) * num / den)
@@ -114,7 +114,7 @@ pub fn remainder_low(product: u64, rest: u64, num: u64, den: u64) -> u64
 
 // A number above ((product + rest) / product)^(num / den).
 pub fn remainder_high(product: u64, rest: u64, num: u64, den: u64) -> u64
-    requires { ⌜ SmallRest product rest × Exponent num den ⌝ }
+    requires { ⌜ SmallRest product rest × Exponent num den × (den ≤ mostDenominator) ⌝ }
     ensures { λ w. ⌜ w ≡ remainderHigh product rest num den ⌝ }
 {
     let log = log_bounds(product, rest);

@@ -1,6 +1,6 @@
 use Prim.Native.Nat.{_*_, _^_, _≤_}
 use native.Mathlib.Omega.{arith}
-use lib.Dec.{lit<}
+use lib.Dec.{lit<, lit≤}
 use borrow.Author.Needs.{needs}
 use Rattle.wide.specs.Scaling.{ceiling}
 use Rattle.remainder.specs.Split.{Splits, splits-of}
@@ -47,7 +47,7 @@ hundredths-requires : tie.Need-hundredths-requires
 hundredths-requires c κs = search needs
 
 remainder-high-requires : tie.Need-remainder-high-requires
-remainder-high-requires c κs = (parts (c .before .before .before .before) .rest, exponent c)
+remainder-high-requires c κs = (parts (c .before .before .before .before) .rest, exponent c, lit≤ tt)
 
 times-up-requires : tie.Need-times-up-requires
 times-up-requires c κs = let s = c .before .before .before in (lit< tt, pair-up-fits (first-fits (s .before)) (second-fits s))

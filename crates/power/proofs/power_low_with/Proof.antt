@@ -1,6 +1,6 @@
 use Prim.Native.Nat.{_*_, _^_, _≤_}
 use native.Mathlib.Omega.{arith}
-use lib.Dec.{lit<}
+use lib.Dec.{lit<, lit≤}
 use borrow.Author.Needs.{needs}
 use Rattle.wide.specs.Scaling.{floor}
 use Rattle.remainder.specs.Split.{Splits, splits-of}
@@ -47,7 +47,7 @@ hundredths-requires : tie.Need-hundredths-requires
 hundredths-requires c κs = search needs
 
 remainder-low-requires : tie.Need-remainder-low-requires
-remainder-low-requires c κs = (parts (c .before .before .before .before) .rest, exponent c)
+remainder-low-requires c κs = (parts (c .before .before .before .before) .rest, exponent c, lit≤ tt)
 
 times-down-requires : tie.Need-times-down-requires
 times-down-requires c κs = let s = c .before .before .before in (lit< tt, pair-down-fits (first-fits (s .before)) (second-fits s))

@@ -14,10 +14,10 @@ log-bounds-requires : tie.Need-log-bounds-requires
 log-bounds-requires c κs = search needs
 
 mul-up : tie.Need-mul-up
-mul-up c = omega (arith, part-fits (c .before .before .pre .1) (small (c .before)))
+mul-up c = omega (arith, part-fits (c .before .before .pre .1) (c .before .before .pre .2) (small (c .before)))
 
 up-requires : tie.Need-up-requires
-up-requires c κs = omega (arith, part-fits (c .before .before .pre .1) (small (c .before)))
+up-requires c κs = omega (arith, part-fits (c .before .before .pre .1) (c .before .before .pre .2) (small (c .before)))
 
 exponential-high-requires : tie.Need-exponential-high-requires
 exponential-high-requires c κs =

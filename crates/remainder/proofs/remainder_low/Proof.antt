@@ -13,7 +13,7 @@ log-low-requires c κs = search needs
 mul-exponential-low : tie.Need-mul-exponential-low
 mul-exponential-low c =
     let small : c .log-low .result ≤ 3914000000 = rw (c .log-low .ensures) (log-low-small _ _ (c .before .pre .0)) in
-    omega (arith, part-fits (c .before .pre .1) small)
+    omega (arith, part-fits (c .before .pre .1) (c .before .pre .2) small)
 
 div-exponential-low : tie.Need-div-exponential-low
 div-exponential-low c = search needs
