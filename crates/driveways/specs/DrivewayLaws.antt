@@ -259,11 +259,10 @@ module _ (k : Coefficients) (count traffic : ℕ) (from : 1 ≤ traffic) (to : t
   driveways-stand positive = driveway-bracket-stands k count positive (ln .stands)
 
   -- from the logarithm's stated width
-  pub driveways-width : 200 ≤ k .driveway-constant → count ≤ 50 → RelativeWidth 1000000 2 (drivewaysOf (k .driveway-constant) (k .fewest-driveways) count traffic)
-  unfolding logarithmWidth
+  pub driveways-width : 200 ≤ k .driveway-constant → count ≤ 50 → RelativeWidth logarithmWidth 2 (drivewaysOf (k .driveway-constant) (k .fewest-driveways) count traffic)
   driveways-width large few =
       driveway-bracket-width (k .driveway-constant) (k .fewest-driveways) count few (logarithmBracket traffic) (ln .stands .low-den) (ln .stands .high-den)
-      large 1000000 (ln .narrow)
+      large logarithmWidth (ln .narrow)
 
   pub driveways-at-most-six : 200 ≤ k .driveway-constant → count ≤ 50
       → let b = drivewaysOf (k .driveway-constant) (k .fewest-driveways) count traffic in b .«high_num» ≤ 6 * b .«high_den»

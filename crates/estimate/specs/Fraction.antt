@@ -55,6 +55,11 @@ unfoldable pub millionths : ℕ → Fraction
 unfolding _//_
 millionths n = n // 1000000
 
+-- an exponent of e is in ten-thousandths
+unfoldable pub tenThousandths : ℕ → Fraction
+unfolding fraction
+tenThousandths x = fraction x 10000 (lit< tt)
+
 -- "t/10^d, t whole"
 unfoldable pub decimal : (d t : ℕ) → Fraction
 unfolding fraction

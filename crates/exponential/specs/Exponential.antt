@@ -2,14 +2,14 @@
 use Prim.Native.Nat.{ℕ, _+_, _*_, _/_, _%_, _<_}
 use mathlib.Core.Bool.{cond}
 use lib.Dec.{leb}
-use Rattle.estimate.specs.Fraction.{Fraction}
+use Rattle.estimate.specs.Fraction.{Fraction, tenThousandths}
 use Rattle.estimate.specs.Exponential.{expUnder, expOver, expNegUnder, expNegOver}
 use Rattle.wide.specs.Scaling.{floor, ceiling}
 use Rattle.bracket.specs.Bracket.{Stands, RelativeWidth, exponentialWidth}
 use Rattle.bracket.specs.declared.Bracket.{Bracket}
 use Rattle.bracket.specs.declared.BracketAnswer.{BracketAnswer}
 use Rattle.bracket.specs.declared.BracketAnswer.the-variants.{Between, OutOfRange}
-use Rattle.exponential.specs.Scale.{scale, tenThousandths}
+use Rattle.exponential.specs.Scale.{scale}
 use Rattle.exponential.specs.Stored.{storedExp}
 use Rattle.exponential.specs.Taylor.{taylorLow, taylorHigh}
 

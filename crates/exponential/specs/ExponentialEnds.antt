@@ -3,11 +3,11 @@ use Prim.Native.Nat.{ℕ, suc, _+_, _*_, _/_, _%_, _^_, _≤_, _<_}
 use native.Mathlib.Nat.{le-trans, mul-le-mul-left, lt-of-mul-lt-mul-right, le-of-suc-le-suc}
 use native.Mathlib.Omega.{arith}
 use lib.Dec.{lit<, lit≤}
-use Rattle.estimate.specs.Fraction.{fraction, _≤ᶠ_, whole, _+ᶠ_}
+use Rattle.estimate.specs.Fraction.{fraction, _≤ᶠ_, whole, _+ᶠ_, tenThousandths}
 use Rattle.estimate.specs.FractionLaws.{≤ᶠ-refl}
 use Rattle.estimate.specs.ExponentialBounds.{AtMostExp, AtLeastExp, at-most-product, at-least-product, at-most-weaker, at-least-weaker, exp-bounds-in-order}
 use Rattle.wide.specs.Rounding.{floor-lt, ceiling-lt}
-use Rattle.exponential.specs.Scale.{scale, scale-positive, scaled, tenThousandths, product-down-≤, product-up-≥}
+use Rattle.exponential.specs.Scale.{scale, scale-positive, scaled, product-down-≤, product-up-≥}
 use Rattle.exponential.specs.Stored.{storedExp}
 use Rattle.exponential.specs.StoredLaws.{storedMost, stored-bounds, stored-at-most, stored-at-least}
 use Rattle.exponential.specs.Taylor.{taylorLow, taylorHigh}

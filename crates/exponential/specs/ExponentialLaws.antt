@@ -6,13 +6,13 @@ use native.Mathlib.Decide.{decLe}
 use native.Mathlib.Omega.{arith}
 use lib.Dec.{lit≤}
 use borrow.Author.Tests.{le-leb, lt-leb}
-use Rattle.estimate.specs.Fraction.{Fraction, fraction, _≤ᶠ_, whole, inverse}
+use Rattle.estimate.specs.Fraction.{Fraction, fraction, _≤ᶠ_, whole, inverse, tenThousandths}
 use Rattle.estimate.specs.FractionLaws.{inverse-antitone}
 use Rattle.estimate.specs.Exponential.{expUnder, expOver, expNegUnder, expNegOver}
 use Rattle.estimate.specs.ExponentialBounds.{exp-low-stands, exp-high-stands, exp-neg-low-stands, exp-neg-high-stands}
 use Rattle.bracket.specs.Bracket.{Stands, RelativeWidth, exponentialWidth}
 use Rattle.bracket.specs.declared.Bracket.{Bracket}
-use Rattle.exponential.specs.Scale.{scale, scale-positive, scaled, tenThousandths}
+use Rattle.exponential.specs.Scale.{scale, scale-positive, scaled}
 use Rattle.exponential.specs.Exponential.{expLow, expHigh, expMost, expBracket, expNegBracket, exponentialLimit, inRange, exponentialAnswer, exponentialNegativeAnswer, Promised, AnswerStands, ExponentialStands, ExponentialNegativeStands}
 use Rattle.exponential.specs.ExponentialEnds.{exp-low-at-most, exp-high-at-least, exp-ends-in-order, exp-ends-close, exp-low-least, exp-low-most, exp-high-least, exp-high-most, shownWidth}
 

@@ -19,11 +19,6 @@ unfoldable pub scaled : ℕ → Fraction
 unfolding fraction
 scaled w = fraction w scale scale-positive
 
--- an argument is in ten-thousandths
-unfoldable pub tenThousandths : ℕ → Fraction
-unfolding fraction
-tenThousandths x = fraction x 10000 (lit< tt)
-
 -- a fraction brought to the scale, rounded down
 pub rounded-down-≤ : (a : Fraction) → scaled (floor scale (a .num) (a .den)) ≤ᶠ a
 unfolding scaled fraction

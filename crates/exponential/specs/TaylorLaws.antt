@@ -3,11 +3,11 @@ use Prim.Native.Nat.{ℕ, zero, suc, _+_, _*_, _≤_, _<_}
 use native.Mathlib.Nat.{le-trans, mul-le-mul, mul-le-mul-right, le-of-mul-le-mul-right, lt-of-mul-lt-mul-right, le-of-suc-le-suc}
 use native.Mathlib.Omega.{arith}
 use lib.Dec.{lit<}
-use Rattle.estimate.specs.Fraction.{fraction, _≤ᶠ_, whole, _*ᶠ_}
+use Rattle.estimate.specs.Fraction.{fraction, _≤ᶠ_, whole, _*ᶠ_, tenThousandths}
 use Rattle.estimate.specs.Exponential.{termNum, termDen, sumNum, partialSum, sumWithTail, term-den-positive, factorial}
 use Rattle.estimate.specs.ExponentialBounds.{AtMostExp, AtLeastExp, at-most-by-sum, at-least-by-tail}
 use Rattle.wide.specs.Rounding.{floor-le, floor-lt, ceiling-ge, ceiling-lt}
-use Rattle.exponential.specs.Scale.{scale, scaled, tenThousandths}
+use Rattle.exponential.specs.Scale.{scale, scaled}
 use Rattle.exponential.specs.Taylor.{termLow, termHigh, sumLow, sumHigh, taylorLow, taylorHigh}
 
 -- THE TERMS AND THE SUMS STAND. In plain numbers P/B is the term so far, Q/B the sum, R the scale, t and s what stands for them, f/d the next factor

@@ -1,5 +1,5 @@
 -- THE LINE of a valid site stands.
-use Prim.Native.Nat.{ℕ, zero, suc, _+_, _*_, _≤_, _<_, min, max}
+use Prim.Native.Nat.{ℕ, zero, suc, _+_, _-_, _*_, _≤_, _<_, min, max}
 use mathlib.Core.Path.{_≡_, refl, sym, ap, _∙_}
 use native.Mathlib.Nat.{mul-le-mul-right}
 use native.Mathlib.Decide.{decLe}
@@ -17,13 +17,14 @@ use Rattle.model.specs.Parts.{number}
 use Rattle.model.specs.Predicted.{Header, predictedUnder, predictedOver}
 use Rattle.model.specs.Expected.{weighed, withHistory, expectedLow, expectedHigh, overdispersionOf, expectedUnder, expectedOver}
 use Rattle.model.specs.ExpectedLaws.{expected-low-right, expected-high-right, expected-in-order, expected-width, history-≤-expected-low, expected-low-≤-prediction, history-≤-expected-high, expected-high-≤-prediction, prediction-≤-expected-low, expected-low-≤-history, prediction-≤-expected-high, expected-high-≤-history}
+use Rattle.model.specs.StatedWidths.{widthParts, predictedEach, expectedEach}
 use Rattle.prediction.specs.declared.Pair.{Pair}
 use Rattle.prediction.specs.Pair.{predictedPair}
 use Rattle.prediction.specs.Kept.{Rated}
 use Rattle.prediction.specs.EditionOne.{edition-one-rated}
 use Rattle.prediction.specs.PredictedLaws.{HeaderMost, PairStands, predicted-stands}
 use Rattle.line.specs.Line.{expectedPair, lineOf}
-use Rattle.line.specs.Stands.{Amid, LineStands, expectedEach}
+use Rattle.line.specs.Stands.{Amid, LineStands}
 use Rattle.line.specs.declared.Line.{Line}
 
 -- the expected numbers lie between the prediction and the history
@@ -46,12 +47,12 @@ module _ (k : Fraction) (O n : ℕ) where
 record ExpectedStands (k : Fraction) (slot : Slot) (under over : ℕ → Fraction) (p e : Pair) : Type 0 where
   between : Between (millionths (e .low)) (millionths (e .high)) (λ d. withHistory k slot (under d)) (λ d. withHistory k slot (over d))
   in-order : e .low ≤ e .high
-  narrow : Narrow 100000 (8 * (1 + number slot)) 1 (e .low) (e .high)
+  narrow : Narrow widthParts (expectedEach * (1 + number slot)) 1 (e .low) (e .high)
   low-amid : (O : ℕ) → slot ≡ Number O → Amid (p .low) (O * 1000000) (e .low)
   high-amid : (O : ℕ) → slot ≡ Number O → Amid (p .high) (O * 1000000) (e .high)
 
--- 4 (1 + kO) is at most 6 + 8 O where k is at most 2
-history-width : (kn kd O : ℕ) → kn ≤ 2 * kd → 4 * (kd + kn * O) ≤ (6 + 8 * O) * kd
+-- 4 (1 + kO) and the 2 of the roundings are at most 8 (1 + O) where k is at most 2
+history-width : (kn kd O : ℕ) → kn ≤ 2 * kd → predictedEach * (kd + kn * O) ≤ (expectedEach - 2 + expectedEach * O) * kd
 history-width kn kd O h = omega (arith, mul-le-mul-right O h)
 
 number-of : (m O : ℕ) → _≡_ {A = Slot} (Number m) (Number O) → m ≡ O
@@ -69,7 +70,7 @@ expected-stands k small Absent under over p s = record {
 expected-stands k small (Number m) under over p s = record {
   between = record { low-right = expected-low-right k m (p .low) (s .low-right); high-right = expected-high-right k m (p .high) (s .high-right) };
   in-order = expected-in-order k m (p .low) (p .high) (s .in-order);
-  narrow = let w = expected-width k m 100000 4 1 (6 + 8 * m) (p .low) (p .high) (record { width = omega (arith, s .narrow .width) }) (history-width (k .num) (k .den) m small) in record { width = omega (arith, w .width) };
+  narrow = let w = expected-width k m widthParts predictedEach 1 (expectedEach - 2 + expectedEach * m) (p .low) (p .high) (record { width = omega (arith, s .narrow .width) }) (history-width (k .num) (k .den) m small) in record { width = omega (arith, w .width) };
   low-amid = λ O e. rw (← number-of m O e) (low-between k m (p .low));
   high-amid = λ O e. rw (← number-of m O e) (high-between k m (p .high));
 }

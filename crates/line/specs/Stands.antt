@@ -13,19 +13,10 @@ use Rattle.model.specs.Coefficients.{Coefficients}
 use Rattle.model.specs.Parts.{number}
 use Rattle.model.specs.Predicted.{Header, inLimits, predictedUnder, predictedOver}
 use Rattle.model.specs.Expected.{expectedUnder, expectedOver}
+use Rattle.model.specs.StatedWidths.{widthParts, predictedEach, expectedEach}
 use Rattle.line.specs.declared.Line.{Line}
 use Rattle.line.specs.declared.LineAnswer.{LineAnswer}
 use Rattle.line.specs.declared.LineAnswer.the-variants.{Made, OutsideRange}
-
--- THE STATED WIDTHS: at most a hundred-thousandth of the high, and for each site and crash
-abbrev pub widthParts : ℕ
-widthParts = 100000
-
-abbrev pub predictedEach : ℕ
-predictedEach = 4
-
-abbrev pub expectedEach : ℕ
-expectedEach = 8
 
 -- a number lies from the lesser to the greater of two
 pub record Amid (x y n : ℕ) : Type 0 where

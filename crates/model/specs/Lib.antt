@@ -9,6 +9,7 @@ pub mod Grade
 pub mod Parts
 pub mod Predicted
 pub mod Expected
+pub mod StatedWidths
 pub mod ExpectedLaws
 pub mod Truncation
 pub mod KnownFigures

@@ -2,8 +2,8 @@
 use Prim.Native.Nat.{ℕ, _-_, _*_}
 use mathlib.Core.Bool.{cond}
 use mathlib.Core.List.{List, [], _∷_}
-use lib.Dec.{leb, eqb, lit<}
-use Rattle.estimate.specs.Fraction.{Fraction, fraction, _//_, whole, lesser, greater}
+use lib.Dec.{leb, eqb}
+use Rattle.estimate.specs.Fraction.{Fraction, _//_, whole, tenThousandths, lesser, greater}
 use Rattle.estimate.specs.Power.{powerUnder, powerOver}
 use Rattle.estimate.specs.Exponential.{expUnder, expOver, expNegUnder, expNegOver}
 use Rattle.estimate.specs.Logarithm.{lnUnder, lnOver}
@@ -30,9 +30,6 @@ abbrev pub power : (traffic hundredths : ℕ) → Part
 power traffic hundredths = record { under = λ d. powerUnder d traffic hundredths 100; over = λ d. powerOver d traffic hundredths 100 }
 
 -- e^x and e^(-x), x in ten-thousandths
-abbrev pub tenThousandths : ℕ → Fraction
-tenThousandths x = fraction x 10000 (lit< tt)
-
 abbrev pub exponential : ℕ → Part
 exponential x = record { under = λ d. expUnder d (tenThousandths x); over = λ d. expOver d (tenThousandths x) }
 

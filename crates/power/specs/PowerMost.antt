@@ -1,19 +1,28 @@
--- A bound of the brackets of powers, from their promises and one computed power.
+-- What a caller of powers in hundredths has of their brackets, for any exponent up to 1: they stand, and a bound from one
+-- computed power.
 use Prim.Native.Nat.{ℕ, _+_, _*_, _^_, _≤_, _<_}
-use native.Mathlib.Nat.{le-refl}
+use native.Mathlib.Nat.{le-refl, mul-le-mul-right}
 use native.Mathlib.Omega.{arith}
-use lib.Dec.{lit<, T}
+use lib.Dec.{lit<}
+use Rattle.estimate.specs.WholePower.{mul-pow}
 use Rattle.bracket.specs.Bracket.{powerWidth}
-use Rattle.bracket.specs.HighBelow.{high-below}
+use Rattle.bracket.specs.WidthLaws.{high-below, steps-apart, power-width-large}
 use Rattle.remainder.specs.Remainder.{Exponent}
 use Rattle.power.specs.Stored.{billion}
-use Rattle.power.specs.Power.{powerBracket}
-use Rattle.power.specs.PowerLaws.{power-low-below, power-width}
+use Rattle.power.specs.Power.{powerBracket, StandingPower}
+use Rattle.power.specs.PowerLaws.{power-low-below, power-standing}
 
--- A^(p/100) for an A up to 20,000, from the power of 20,000
-module _ (A p c : ℕ) (from : 1 ≤ A) (to : A ≤ 20000) (e : Exponent p 100) (room : c ≤ 999999) (power : 20000 ^ p * billion ^ 100 ≤ (c * billion) ^ 100) where
-  pub power-below : powerBracket A p 100 .«high_num» * 1 ≤ (c + 1) * powerBracket A p 100 .«high_den»
-  unfolding powerWidth
-  power-below =
-      let l = power-low-below A p 100 from (omega arith) e 20000 p (c * billion) to (le-refl p) (lit< tt) power in
-      high-below (powerBracket A p 100) c 1 (c + 1) 1 (power-width A p 100 from (omega arith) e) (lit< tt) (lit< tt) (omega (arith, l)) (omega arith)
+module _ (A p : ℕ) (from : 1 ≤ A) (to : A ≤ 20000) (part : p ≤ 100) where
+  exponent : Exponent p 100
+  exponent = record { at-most-one = part; positive = lit< tt }
+
+  pub hundredths-standing : StandingPower A p 100 (powerBracket A p 100)
+  hundredths-standing = power-standing A p 100 from (omega arith) exponent
+
+  -- A^(p/100) is at most c + 1, where 20,000^p is at most c^100
+  pub hundredths-below : (c : ℕ) → c < powerWidth → 20000 ^ p ≤ c ^ 100 → powerBracket A p 100 .«high_num» * 1 ≤ (c + 1) * powerBracket A p 100 .«high_den»
+  hundredths-below c few power =
+      let scaled : 20000 ^ p * billion ^ 100 ≤ (c * billion) ^ 100 = rw (mul-pow c billion 100) (mul-le-mul-right (billion ^ 100) power) in
+      let low = power-low-below A p 100 from (omega arith) exponent 20000 p (c * billion) to (le-refl p) (lit< tt) scaled in
+      high-below powerWidth (powerBracket A p 100) c 1 (c + 1) 1 power-width-large (hundredths-standing .narrow) (lit< tt) (lit< tt)
+      (omega (arith, low)) (steps-apart powerWidth c (c + 1) 1 (omega arith) (omega arith))

@@ -1,13 +1,13 @@
--- Edition 1 keeps what its sites are carried by: one computed sum for the base factor, and the room of a segment, straight or bent.
+-- Edition 1 keeps what its sites are carried by: computed tests of the base factors, and of the room of a segment, straight or bent.
 use Prim.Native.Nat.{ℕ, zero, suc, _+_, _*_, _≤_, _<_}
 use mathlib.Core.List.{List, [], _∷_, map}
 use native.Mathlib.Omega.{arith}
 use lib.Dec.{T, lit<, lit≤}
-use Rattle.estimate.specs.Fraction.{Fraction, fraction, _≤ᶠ_, _//_, whole, _^ᶠ_}
-use Rattle.estimate.specs.Exponential.{partialSum, sumNum, termNum, termDen}
-use Rattle.bracket.specs.Pieces.{bounds, hasRoom, grown, absoluteMost}
-use Rattle.exponential.specs.Scale.{tenThousandths}
-use Rattle.exponential.specs.Exponential.{expNegBracket, exponentialLimit}
+use Rattle.estimate.specs.Fraction.{fraction, _//_, whole, _^ᶠ_, inverse, tenThousandths}
+use Rattle.estimate.specs.Table.{allBelow, all-below}
+use Rattle.estimate.specs.Exponential.{expUnder, expOver, expNegUnder, expNegOver, partialSum, sumWithTail, sumNum, termNum, termDen}
+use Rattle.bracket.specs.Rounded.{roundedOutward}
+use Rattle.bracket.specs.Pieces.{Kept, bounds, hasRoom, grown, absoluteMost}
 use Rattle.site.specs.declared.values.Site.{Site}
 use Rattle.site.specs.declared.values.Slot.{Slot}
 use Rattle.site.specs.declared.values.Slot.the-variants.{Absent, Number}
@@ -15,20 +15,29 @@ use Rattle.model.specs.Coefficients.{editionOne}
 use Rattle.model.specs.Grade.{grade-pieces}
 use Rattle.model.specs.FactorBounds.{left-turn-within, right-turn-within}
 use Rattle.model.specs.Parts.{Term}
-use Rattle.prediction.specs.Pieces.{segmentPieces}
+use Rattle.prediction.specs.Stored.{storedBracket, storedWidth, basePart}
+use Rattle.prediction.specs.Pieces.{parts, storedPiece, segmentPieces}
 use Rattle.prediction.specs.Pair.{unit}
-use Rattle.exponential.specs.ExponentialMost.{exp-neg-below}
 use Rattle.prediction.specs.Numbers.{by-kind}
-use Rattle.prediction.specs.Kept.{Rated, segmentMost, carriedMost}
+use Rattle.prediction.specs.Kept.{InOrder, isKept, stored-kept, negative-in-order, Rated, segmentMost, carriedMost}
 
-base-limits : (kind : ℕ) → kind ≤ 3 → editionOne .base-exponent kind ≤ exponentialLimit
+-- the base factors: e^(-0.4865) is below 0.615, and one test of the crossings'
+base-in-order : (kind : ℕ) → kind ≤ 3 → InOrder (basePart editionOne kind)
 unfolding editionOne
-base-limits kind h = by-kind (λ kind. editionOne .base-exponent kind ≤ exponentialLimit) (lit≤ tt) (lit≤ tt) (lit≤ tt) (lit≤ tt) kind h
+base-in-order kind h = negative-in-order _ (by-kind (λ kind. editionOne .base-exponent kind ≤ 210000) (lit≤ tt) (lit≤ tt) (lit≤ tt) (lit≤ tt) kind h)
 
--- e^(-0.4865) is below 0.615
-base-below : expNegBracket (editionOne .base-exponent 0) .«high_num» * (615 // 1000) .den ≤ (615 // 1000) .num * expNegBracket (editionOne .base-exponent 0) .«high_den»
-unfolding editionOne _//_ fraction partialSum sumNum termNum termDen tenThousandths
-base-below = omega (arith, exp-neg-below 4865 10003 10000 6150 (lit≤ tt) (lit< tt) (record { cross = lit≤ tt }) (lit≤ tt) (lit< tt))
+segment-base : T (isKept (615 // 1000) (basePart editionOne 0))
+unfolding isKept storedWidth storedBracket roundedOutward editionOne expUnder expOver expNegUnder expNegOver inverse partialSum sumWithTail sumNum termNum termDen tenThousandths _//_ fraction
+segment-base = tt
+
+crossing-bases : T (allBelow (λ kind. isKept (whole 1) (basePart editionOne kind)) 4)
+unfolding allBelow isKept storedWidth storedBracket roundedOutward editionOne expUnder expOver expNegUnder expNegOver inverse partialSum sumWithTail sumNum termNum termDen tenThousandths whole fraction
+crossing-bases = tt
+
+crossing-base : (kind : ℕ) → 1 ≤ kind → kind ≤ 3 → Kept parts (storedPiece (basePart editionOne kind) (whole 1))
+crossing-base kind from to =
+    stored-kept (basePart editionOne kind) (whole 1) (base-in-order kind to)
+    (all-below (λ kind. isKept (whole 1) (basePart editionOne kind)) 4 crossing-bases kind (omega arith))
 
 room : (bend : Slot) (site : Site) (term : Term) → T (hasRoom segmentMost (bounds (segmentPieces editionOne bend site term)))
 unfolding segmentPieces editionOne whole _//_ fraction _^ᶠ_
@@ -51,8 +60,8 @@ edition-one-rated = record {
   share-most = lit≤ tt;
   constant-least = lit≤ tt;
   constant-most = lit≤ tt;
-  base-within = base-limits;
-  base-below = base-below;
+  base-kept = stored-kept (basePart editionOne 0) (615 // 1000) (base-in-order 0 (lit≤ tt)) segment-base;
+  crossing-base-kept = crossing-base;
   grade-is = grade-pieces;
   left-most = λ kind lanes. left-turn-within kind lanes .at-most;
   right-most = λ kind lanes. right-turn-within kind lanes .at-most;

@@ -1,24 +1,26 @@
 -- Each piece of a valid site keeps its promise: it stands to its part's estimates, has its share of the width, and its bound.
-use Prim.Native.Nat.{ℕ, zero, suc, _+_, _-_, _*_, _^_, _≤_, _<_}
+use Prim.Native.Nat.{ℕ, zero, suc, _+_, _-_, _*_, _/_, _^_, _≤_, _<_}
 use mathlib.Core.Path.{_≡_, refl}
 use mathlib.Core.Bool.{Bool, true, false, cond}
 use mathlib.Core.List.{List, [], _∷_}
-use native.Mathlib.Nat.{le-trans, mul-le-mul}
 use native.Mathlib.Omega.{arith}
-use lib.Dec.{T, leb, lit<, lit≤}
-use borrow.Author.Tests.{leb-true, leb-false}
-use Rattle.estimate.specs.Fraction.{Fraction, fraction, _≤ᶠ_, _=ᶠ_, _//_, whole, _*ᶠ_, _^ᶠ_}
+use lib.Dec.{T, leb, leb→le, lit<, lit≤}
+use Rattle.estimate.specs.Fraction.{Fraction, fraction, _≤ᶠ_, _=ᶠ_, _//_, whole, _*ᶠ_, _^ᶠ_, tenThousandths}
 use Rattle.estimate.specs.FractionLaws.{≤ᶠ-trans}
-use Rattle.estimate.specs.Exponential.{partialSum, sumWithTail, sumNum, termNum, termDen}
-use Rattle.bracket.specs.Bracket.{RelativeWidth, exponentialWidth, powerWidth}
+use Rattle.estimate.specs.Fraction.{inverse}
+use Rattle.estimate.specs.Table.{both, both-left, both-right, allBelow, all-below}
+use Rattle.estimate.specs.Exponential.{expUnder, expOver, expNegUnder, expNegOver, partialSum, sumWithTail, sumNum, termNum, termDen}
+use Rattle.estimate.specs.ExponentialBounds.{exp-under-≤-over, exp-neg-under-≤-over}
+use Rattle.bracket.specs.declared.Bracket.{Bracket}
+use Rattle.bracket.specs.Bracket.{RelativeWidth, exponentialWidth, powerWidth, logarithmWidth}
+use Rattle.bracket.specs.WidthLaws.{in-parts}
+use Rattle.bracket.specs.Rounded.{roundedOutward, rounded-outward-stands}
 use Rattle.bracket.specs.Pieces.{Piece, Kept, AllKept, exactPiece, exact-kept, bounds, hasRoom, grown, absoluteMost}
-use Rattle.exponential.specs.Scale.{tenThousandths}
-use Rattle.exponential.specs.Exponential.{expBracket, expNegBracket, exponentialLimit, Promised}
-use Rattle.exponential.specs.ExponentialLaws.{exp-promised, exp-neg-promised}
-use Rattle.remainder.specs.Remainder.{Exponent}
-use Rattle.power.specs.Stored.{billion}
+use Rattle.exponential.specs.Exponential.{expBracket}
+use Rattle.exponential.specs.ExponentialLaws.{exp-promised}
+use Rattle.exponential.specs.ExponentialMost.{exp-below}
 use Rattle.power.specs.Power.{powerBracket}
-use Rattle.power.specs.PowerLaws.{power-standing}
+use Rattle.power.specs.PowerMost.{hundredths-standing, hundredths-below}
 use Rattle.driveways.specs.Driveways.{drivewaysOf}
 use Rattle.driveways.specs.DrivewayLaws.{driveways-stand, driveways-width, driveways-at-most-six}
 use Rattle.site.specs.declared.values.Site.{Site}
@@ -32,99 +34,124 @@ use Rattle.model.specs.Access.{twoWayLane, passing}
 use Rattle.model.specs.Crossings.{leftTurn, rightTurn, sight, majorExponent, minorExponent, skewExponent}
 use Rattle.model.specs.FactorBounds.{lane-within, shoulder-within, curve-within, superelevation-within, grade-first-within, grade-second-within, two-way-lane-within, passing-within, sight-within}
 use Rattle.model.specs.Parts.{Part, Term, power, exponential, exponentialNegative, hazard, driveways, number}
-use Rattle.prediction.specs.Pieces.{piece, hazardBracket, relatedMost, curvePieces, segmentPieces, majorMost, minorMost, crossingPieces}
+use Rattle.prediction.specs.Stored.{storedScale, storedDepth, storedBracket, storedWidth, basePart}
+use Rattle.prediction.specs.Pieces.{parts, shareOf, piece, storedPiece, relatedMost, curvePieces, segmentPieces, majorMost, minorMost, crossingPieces}
 use Rattle.prediction.specs.Pair.{unit}
-use Rattle.exponential.specs.ExponentialMost.{exp-below, exp-neg-below-one}
-use Rattle.power.specs.PowerMost.{power-below}
 use Rattle.prediction.specs.Numbers.{by-kind, by-crossing, CurveNumbers, SegmentNumbers, CrossingNumbers}
-
--- widths are counted in millionths
-abbrev pub parts : ℕ
-parts = 1000000
 
 -- a promise before others
 infixr 40 _∷ᵏ_
 _∷ᵏ_ : {A B : Type 0} → A → B → A × B
 k ∷ᵏ ks = (k, ks)
 
--- EXPONENTIALS
+-- A STATED WIDTH IN PARTS: each takes a whole number of them
+in-shares : {r : ℕ} {b : Bracket} (width : ℕ) → parts / width * width ≡ parts → RelativeWidth width r b → RelativeWidth parts (shareOf r width) b
+in-shares width whole w = rw whole at (in-parts (parts / width) w)
 
-kept-of-promise : (part : Part) (b : _) (most : Fraction) → Promised (part .under) (part .over) b
-    → b .«high_num» * most .den ≤ most .num * b .«high_den» → Kept parts (piece part b 1 most)
+power-shares : parts / powerWidth * powerWidth ≡ parts
+unfolding powerWidth
+power-shares = refl
+
+exponential-shares : parts / exponentialWidth * exponentialWidth ≡ parts
 unfolding exponentialWidth
-kept-of-promise part b most p h = record { stands = p .stands; narrow = p .width; bounded = h }
+exponential-shares = refl
 
-exp-kept : (x : ℕ) (most : Fraction) → x ≤ exponentialLimit → expBracket x .«high_num» * most .den ≤ most .num * expBracket x .«high_den»
-    → Kept parts (piece (exponential x) (expBracket x) 1 most)
-unfolding tenThousandths
-exp-kept x most within h = kept-of-promise (exponential x) (expBracket x) most (exp-promised x within) h
+logarithm-shares : parts / logarithmWidth * logarithmWidth ≡ parts
+unfolding logarithmWidth
+logarithm-shares = refl
 
-exp-neg-kept : (x : ℕ) (most : Fraction) → x ≤ exponentialLimit → expNegBracket x .«high_num» * most .den ≤ most .num * expNegBracket x .«high_den»
-    → Kept parts (piece (exponentialNegative x) (expNegBracket x) 1 most)
-unfolding tenThousandths
-exp-neg-kept x most within h = kept-of-promise (exponentialNegative x) (expNegBracket x) most (exp-neg-promised x within) h
+stored-shares : parts / storedWidth * storedWidth ≡ parts
+unfolding storedWidth
+stored-shares = refl
 
--- e^0.2672 is below 1.307, and e^(-x) at most 1
-rises : (rating : ℕ) → rating ≤ 7 → expBracket (668 * (rating - 3)) .«high_num» * (1308 // 1000) .den ≤ (1308 // 1000) .num * expBracket (668 * (rating - 3)) .«high_den»
-unfolding _//_ fraction sumWithTail sumNum termNum termDen tenThousandths
-rises rating to = exp-below (668 * (rating - 3)) 2672 1307 1308 1000 (omega arith) (lit≤ tt) (lit< tt) (lit≤ tt) (record { cross = lit≤ tt })
+-- STORED FACTORS stand, and a test shows their width and their bound
+abbrev pub InOrder : Part → Type 0
+InOrder part = (i j : ℕ) → part .under i ≤ᶠ part .over j
 
-falls : (x : ℕ) → x ≤ exponentialLimit → expNegBracket x .«high_num» * (1308 // 1000) .den ≤ (1308 // 1000) .num * expNegBracket x .«high_den»
-unfolding _//_ fraction
-falls x h = omega (arith, exp-neg-below-one x h)
+narrowly : Bracket → Bool
+narrowly b = leb (storedWidth * (b .«high_num» * b .«low_den»)) (storedWidth * (b .«low_num» * b .«high_den») + 1 * (b .«high_num» * b .«low_den»))
 
-hazard-kept : (rating : ℕ) → 1 ≤ rating → rating ≤ 7 → Kept parts (piece (hazard rating) (hazardBracket rating) 1 (1308 // 1000))
-hazard-kept rating from to = by (leb 3 rating) refl
+atMost : Fraction → Bracket → Bool
+atMost most b = leb (b .«high_num» * most .den) (most .num * b .«high_den»)
+
+unfoldable pub isKept : (most : Fraction) → Part → Bool
+unfolding narrowly atMost
+isKept most part = both (narrowly (storedBracket part)) (atMost most (storedBracket part))
+
+pub stored-kept : (part : Part) (most : Fraction) → InOrder part → T (isKept most part) → Kept parts (storedPiece part most)
+unfolding isKept narrowly atMost
+stored-kept part most order t =
+    let b = storedBracket part in
+    record {
+      stands = unfold storedBracket in rounded-outward-stands storedScale (lit< tt) storedDepth _ _ order;
+      narrow = in-shares storedWidth stored-shares (record { width = leb→le _ _ (both-left (narrowly b) (atMost most b) t) });
+      bounded = leb→le _ _ (both-right (narrowly b) (atMost most b) t);
+    }
+
+-- up to e^21 every under-estimate is at most every over-estimate
+within-tail-law : (x : ℕ) → x ≤ 210000 → tenThousandths x ≤ᶠ whole 21
+unfolding tenThousandths fraction whole
+within-tail-law x h = record { cross = omega arith }
+
+pub exponential-in-order : (x : ℕ) → x ≤ 210000 → InOrder (exponential x)
+exponential-in-order x h i j = exp-under-≤-over (tenThousandths x) (within-tail-law x h) i j
+
+pub negative-in-order : (x : ℕ) → x ≤ 210000 → InOrder (exponentialNegative x)
+negative-in-order x h i j = exp-neg-under-≤-over (tenThousandths x) (within-tail-law x h) i j
+
+-- e^0.2672 is below 1.308: one test over the ratings
+hazards-kept : T (allBelow (λ i. isKept (1308 // 1000) (hazard (suc i))) 7)
+unfolding allBelow isKept narrowly atMost storedWidth storedBracket roundedOutward expUnder expOver expNegUnder expNegOver inverse partialSum sumWithTail sumNum termNum termDen tenThousandths _//_ fraction
+hazards-kept = tt
+
+hazard-kept : (rating : ℕ) → 1 ≤ rating → rating ≤ 7 → Kept parts (storedPiece (hazard rating) (1308 // 1000))
+hazard-kept zero from to = absurd (omega arith)
+hazard-kept (suc i) from to =
+    stored-kept (hazard (suc i)) (1308 // 1000) (by (leb 3 (suc i))) (all-below (λ i. isKept (1308 // 1000) (hazard (suc i))) 7 hazards-kept i to)
   where
-    by : (b : Bool) → leb 3 rating ≡ b → Kept parts (piece (cond b (exponential (668 * (rating - 3))) (exponentialNegative (668 * (3 - rating))))
-        (cond b (expBracket (668 * (rating - 3))) (expNegBracket (668 * (3 - rating)))) 1 (1308 // 1000))
-    by true e = exp-kept (668 * (rating - 3)) (1308 // 1000) (omega arith) (rises rating to)
-    by false e = exp-neg-kept (668 * (3 - rating)) (1308 // 1000) (omega arith) (falls (668 * (3 - rating)) (omega arith))
+    by : (b : Bool) → InOrder (cond b (exponential (668 * (suc i - 3))) (exponentialNegative (668 * (3 - suc i))))
+    by true = exponential-in-order (668 * (suc i - 3)) (omega arith)
+    by false = negative-in-order (668 * (3 - suc i)) (omega arith)
 
 -- POWERS OF TRAFFIC, by kind: the five exponents are stored ones
 
-power-kept : (A p c : ℕ) → 1 ≤ A → A ≤ 20000 → Exponent p 100 → c ≤ 999999 → 20000 ^ p * billion ^ 100 ≤ (c * billion) ^ 100
-    → Kept parts (piece (power A p) (powerBracket A p 100) 1 (whole (c + 1)))
-unfolding powerWidth whole fraction
-power-kept A p c from to e room h =
-    let s = power-standing A p 100 from (omega arith) e in
-    record { stands = s .stands; narrow = s .narrow; bounded = power-below A p c from to e room h }
-
-hundredths : (p : ℕ) → p ≤ 100 → Exponent p 100
-hundredths p h = record { at-most-one = h; positive = lit< tt; few = omega arith }
+power-kept : (A p c : ℕ) → 1 ≤ A → A ≤ 20000 → p ≤ 100 → c < powerWidth → 20000 ^ p ≤ c ^ 100
+    → Kept parts (piece (power A p) (powerBracket A p 100) (shareOf 1 powerWidth) (whole (c + 1)))
+unfolding whole fraction
+power-kept A p c from to part few h =
+    let s = hundredths-standing A p from to part in
+    record { stands = s .stands; narrow = in-shares powerWidth power-shares (s .narrow); bounded = hundredths-below A p from to part c few h }
 
 major-kept : (kind A : ℕ) → 1 ≤ kind → kind ≤ 3 → 1 ≤ A → A ≤ 20000
-    → Kept parts (piece (power A (majorExponent kind)) (powerBracket A (majorExponent kind) 100) 1 (whole (majorMost kind)))
+    → Kept parts (piece (power A (majorExponent kind)) (powerBracket A (majorExponent kind) 100) (shareOf 1 powerWidth) (whole (majorMost kind)))
+unfolding powerWidth
 major-kept kind A l m from to =
-    by-crossing (λ kind. Kept parts (piece (power A (majorExponent kind)) (powerBracket A (majorExponent kind) 100) 1 (whole (majorMost kind))))
-    (power-kept A 79 2500 from to (hundredths 79 (lit≤ tt)) (lit≤ tt) (lit≤ tt))
-    (power-kept A 60 381 from to (hundredths 60 (lit≤ tt)) (lit≤ tt) (lit≤ tt))
-    (power-kept A 60 381 from to (hundredths 60 (lit≤ tt)) (lit≤ tt) (lit≤ tt))
+    by-crossing (λ kind. Kept parts (piece (power A (majorExponent kind)) (powerBracket A (majorExponent kind) 100) (shareOf 1 powerWidth) (whole (majorMost kind))))
+    (power-kept A 79 2500 from to (lit≤ tt) (lit< tt) (lit≤ tt))
+    (power-kept A 60 381 from to (lit≤ tt) (lit< tt) (lit≤ tt))
+    (power-kept A 60 381 from to (lit≤ tt) (lit< tt) (lit≤ tt))
     kind l m
 
 minor-kept : (kind B : ℕ) → 1 ≤ kind → kind ≤ 3 → 1 ≤ B → B ≤ 20000
-    → Kept parts (piece (power B (minorExponent kind)) (powerBracket B (minorExponent kind) 100) 1 (whole (minorMost kind)))
+    → Kept parts (piece (power B (minorExponent kind)) (powerBracket B (minorExponent kind) 100) (shareOf 1 powerWidth) (whole (minorMost kind)))
+unfolding powerWidth
 minor-kept kind B l m from to =
-    by-crossing (λ kind. Kept parts (piece (power B (minorExponent kind)) (powerBracket B (minorExponent kind) 100) 1 (whole (minorMost kind))))
-    (power-kept B 49 129 from to (hundredths 49 (lit≤ tt)) (lit≤ tt) (lit≤ tt))
-    (power-kept B 61 421 from to (hundredths 61 (lit≤ tt)) (lit≤ tt) (lit≤ tt))
-    (power-kept B 20 8 from to (hundredths 20 (lit≤ tt)) (lit≤ tt) (lit≤ tt))
+    by-crossing (λ kind. Kept parts (piece (power B (minorExponent kind)) (powerBracket B (minorExponent kind) 100) (shareOf 1 powerWidth) (whole (minorMost kind))))
+    (power-kept B 49 129 from to (lit≤ tt) (lit< tt) (lit≤ tt))
+    (power-kept B 61 421 from to (lit≤ tt) (lit< tt) (lit≤ tt))
+    (power-kept B 20 8 from to (lit≤ tt) (lit< tt) (lit≤ tt))
     kind l m
 
 -- e^0.324 is below 1.383
 pub skew-most : (kind degrees : ℕ) → kind ≤ 3 → degrees ≤ 60 → skewExponent kind * degrees ≤ 3240
 skew-most kind degrees l h = by-kind (λ kind. skewExponent kind * degrees ≤ 3240) (omega arith) (omega arith) (omega arith) (omega arith) kind l
 
-skew-kept : (kind degrees : ℕ) → kind ≤ 3 → degrees ≤ 60
-    → Kept parts (piece (exponential (skewExponent kind * degrees)) (expBracket (skewExponent kind * degrees)) 1 (1384 // 1000))
-skew-kept kind degrees l h =
-    let x = skewExponent kind * degrees in
-    let m = skew-most kind degrees l h in
-    exp-kept x (1384 // 1000) (omega (arith, m)) (turned x m)
+skew-kept : (x : ℕ) → x ≤ 3240 → Kept parts (piece (exponential x) (expBracket x) (shareOf 1 exponentialWidth) (1384 // 1000))
+skew-kept x h = let p = exp-promised x (omega arith) in record { stands = p .stands; narrow = in-shares exponentialWidth exponential-shares (p .width); bounded = below }
   where
-    turned : (x : ℕ) → x ≤ 3240 → expBracket x .«high_num» * (1384 // 1000) .den ≤ (1384 // 1000) .num * expBracket x .«high_den»
-    turned x m = unfold _//_ fraction sumWithTail sumNum termNum termDen tenThousandths in
-        exp-below x 3240 1383 1384 1000 m (lit≤ tt) (lit< tt) (lit≤ tt) (record { cross = lit≤ tt })
+    below : expBracket x .«high_num» * (1384 // 1000) .den ≤ (1384 // 1000) .num * expBracket x .«high_den»
+    below = unfold exponentialWidth _//_ fraction sumWithTail sumNum termNum termDen tenThousandths in
+        exp-below x 3240 1383 1384 1000 h (lit≤ tt) (lit< tt) (lit< tt) (lit≤ tt) (record { cross = lit≤ tt })
 
 -- WHAT AN EDITION MUST KEEP for its sites to be carried. The largest start of a segment is 10 years, 9.999, 20,000 vehicles and
 -- 20 miles
@@ -142,8 +169,9 @@ pub record Rated (k : Coefficients) : Type 0 where
   pub share-most : k .related-share ≤ 1000
   pub constant-least : 200 ≤ k .driveway-constant
   pub constant-most : k .driveway-constant ≤ 1000
-  pub base-within : (kind : ℕ) → kind ≤ 3 → k .base-exponent kind ≤ exponentialLimit
-  pub base-below : expNegBracket (k .base-exponent 0) .«high_num» * (615 // 1000) .den ≤ (615 // 1000) .num * expNegBracket (k .base-exponent 0) .«high_den»
+  -- the base factors, of a segment and of a crossing
+  pub base-kept : Kept parts (storedPiece (basePart k 0) (615 // 1000))
+  pub crossing-base-kept : (kind : ℕ) → 1 ≤ kind → kind ≤ 3 → Kept parts (storedPiece (basePart k kind) (whole 1))
   pub grade-is : (percent : ℕ) → gradeFirst percent *ᶠ gradeSecond percent =ᶠ k .grade percent
   pub left-most : (kind lanes : ℕ) → leftTurn k kind lanes ≤ᶠ whole 1
   pub right-most : (kind lanes : ℕ) → rightTurn k kind lanes ≤ᶠ whole 1
@@ -171,7 +199,7 @@ module _ (k : Coefficients) (rated : Rated k) (site : Site) (term : Term) where
   pub segment-kept : SegmentNumbers site → term .traffic ≡ number (site .traffic) → AllKept parts (segmentPieces k (site .«curve_length») site term)
   unfolding segmentPieces lane shoulder
   segment-kept n t =
-      exp-neg-kept (k .base-exponent 0) (615 // 1000) (rated .base-within 0 (lit≤ tt)) (rated .base-below)
+      rated .base-kept
       ∷ᵏ exact-kept parts _ (relatedMost k) (lane-within (k .related-share) _ (term .traffic) (rated .share-most) .at-most)
       ∷ᵏ exact-kept parts _ (relatedMost k) (shoulder-within (k .related-share) _ _ (term .traffic) (rated .share-most) (n .type-most) .at-most)
       ∷ᵏ exact-kept parts _ (onePercent ^ᶠ 6) (grade-first-within (number (site .grade)) .at-most)
@@ -183,13 +211,13 @@ module _ (k : Coefficients) (rated : Rated k) (site : Site) (term : Term) where
       ∷ᵏ curve-kept (site .«curve_length») (n .bend)
     where
       drives : Kept parts (piece (driveways k (number (site .driveways)) (term .traffic))
-          (drivewaysOf (k .driveway-constant) (k .fewest-driveways) (number (site .driveways)) (term .traffic)) 2 (whole 6))
+          (drivewaysOf (k .driveway-constant) (k .fewest-driveways) (number (site .driveways)) (term .traffic)) (shareOf 2 logarithmWidth) (whole 6))
       drives =
           let from : 1 ≤ term .traffic = omega (arith, n .traffic-least, t) in
           let to : term .traffic ≤ 20000 = omega (arith, n .traffic-most, t) in
           record {
             stands = driveways-stand k (number (site .driveways)) (term .traffic) from to (omega (arith, rated .constant-least));
-            narrow = driveways-width k (number (site .driveways)) (term .traffic) from to (rated .constant-least) (n .driveways-most);
+            narrow = in-shares logarithmWidth logarithm-shares (driveways-width k (number (site .driveways)) (term .traffic) from to (rated .constant-least) (n .driveways-most));
             bounded = unfold whole fraction in omega (arith, driveways-at-most-six k (number (site .driveways)) (term .traffic) from to (rated .constant-least) (n .driveways-most));
           }
 
@@ -202,12 +230,9 @@ module _ (k : Coefficients) (rated : Rated k) (site : Site) (term : Term) where
       ∷ᵏ exact-kept parts _ (whole 1) (rated .left-most (site .kind) (number (site .«left_lanes»)))
       ∷ᵏ exact-kept parts _ (whole 1) (rated .right-most (site .kind) (number (site .«right_lanes»)))
       ∷ᵏ exact-kept parts _ (6 // 5) (sight-within _ (n .sight-most) .at-most)
-      ∷ᵏ skew-kept (site .kind) (number (site .skew)) (n .kind-most) (n .skew-most)
-      ∷ᵏ exp-neg-kept (k .base-exponent (site .kind)) (whole 1) (rated .base-within (site .kind) (n .kind-most)) base
+      ∷ᵏ skew-kept (skewExponent (site .kind) * number (site .skew)) (skew-most (site .kind) (number (site .skew)) (n .kind-most) (n .skew-most))
+      ∷ᵏ rated .crossing-base-kept (site .kind) (n .kind-least) (n .kind-most)
       ∷ᵏ tt
-    where
-      base : expNegBracket (k .base-exponent (site .kind)) .«high_num» * whole 1 .den ≤ whole 1 .num * expNegBracket (k .base-exponent (site .kind)) .«high_den»
-      base = unfold whole fraction in exp-neg-below-one (k .base-exponent (site .kind)) (rated .base-within (site .kind) (n .kind-most))
 
 -- the room and the roundings of a crossing, by kind
 abbrev crossingBounds : ℕ → List Fraction

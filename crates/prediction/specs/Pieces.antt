@@ -1,12 +1,11 @@
--- A site's factors as pieces: what each stands for, its bracket, its share of the width in millionths, and a bound of it.
-use Prim.Native.Nat.{ℕ, _+_, _-_, _*_}
-use mathlib.Core.Bool.{cond}
+-- A site's factors as pieces: what each stands for, its bracket, its share of the width, and a bound of it.
+use Prim.Native.Nat.{ℕ, _+_, _*_, _/_, _^_}
 use mathlib.Core.List.{List, [], _∷_}
-use lib.Dec.{leb, eqb}
 use Rattle.estimate.specs.Fraction.{Fraction, _//_, whole, _^ᶠ_}
 use Rattle.bracket.specs.declared.Bracket.{Bracket}
+use Rattle.bracket.specs.Bracket.{powerWidth, exponentialWidth, logarithmWidth}
 use Rattle.bracket.specs.Pieces.{Piece, exactPiece}
-use Rattle.exponential.specs.Exponential.{expBracket, expNegBracket}
+use Rattle.exponential.specs.Exponential.{expBracket}
 use Rattle.power.specs.Power.{powerBracket}
 use Rattle.driveways.specs.Driveways.{drivewaysOf}
 use Rattle.site.specs.declared.values.Site.{Site}
@@ -18,14 +17,22 @@ use Rattle.model.specs.Alignment.{curve, superelevation}
 use Rattle.model.specs.Grade.{onePercent, gradeFirst, gradeSecond}
 use Rattle.model.specs.Access.{twoWayLane, passing}
 use Rattle.model.specs.Crossings.{leftTurn, rightTurn, sight, majorExponent, minorExponent, skewExponent}
-use Rattle.model.specs.Parts.{Part, Term, power, exponential, exponentialNegative, hazard, driveways, number}
+use Rattle.model.specs.Parts.{Part, Term, power, exponential, hazard, driveways, number}
+use Rattle.prediction.specs.Stored.{storedBracket, storedWidth, basePart}
 
 abbrev pub piece : Part → Bracket → (share : ℕ) → (most : Fraction) → Piece
 piece part bracket share most = record { under = part .under; over = part .over; bracket = bracket; share = share; most = most }
 
--- e^(0.0668(RHR − 3))
-abbrev pub hazardBracket : ℕ → Bracket
-hazardBracket rating = cond (leb 3 rating) (expBracket (668 * (rating - 3))) (expNegBracket (668 * (3 - rating)))
+-- SHARES are counted in parts of the high, of which each stated width takes a whole number
+abbrev pub parts : ℕ
+parts = 10 ^ 12
+
+-- r times a stated width of 1 / width
+abbrev pub shareOf : (r width : ℕ) → ℕ
+shareOf r width = parts / width * r
+
+abbrev pub storedPiece : Part → (most : Fraction) → Piece
+storedPiece part most = piece part (storedBracket part) (shareOf 1 storedWidth) most
 
 -- 1 + share / 2 bounds lane and shoulder
 abbrev pub relatedMost : Coefficients → Fraction
@@ -39,16 +46,16 @@ curvePieces (Number length) pieces = pieces
 -- a segment's, the grade in two; the base factor is a little below 0.615
 unfoldable pub segmentPieces : Coefficients → (bend : Slot) → Site → Term → List Piece
 segmentPieces k bend site term =
-    piece (exponentialNegative (k .base-exponent 0)) (expNegBracket (k .base-exponent 0)) 1 (615 // 1000)
+    storedPiece (basePart k 0) (615 // 1000)
     ∷ exactPiece (lane k (number (site .«lane_width»)) (term .traffic)) (relatedMost k)
     ∷ exactPiece (shoulder k (number (site .«shoulder_width»)) (number (site .«shoulder_type»)) (term .traffic)) (relatedMost k)
     ∷ exactPiece (gradeFirst (number (site .grade))) (onePercent ^ᶠ 6)
     ∷ exactPiece (gradeSecond (number (site .grade))) (onePercent ^ᶠ 6)
     ∷ exactPiece (twoWayLane (number (site .«two_way_lane»)) (number (site .driveways))) (whole 1)
     ∷ exactPiece (passing (number (site .passing))) (whole 1)
-    ∷ piece (hazard (number (site .«hazard_rating»))) (hazardBracket (number (site .«hazard_rating»))) 1 (1308 // 1000)
+    ∷ storedPiece (hazard (number (site .«hazard_rating»))) (1308 // 1000)
     ∷ piece (driveways k (number (site .driveways)) (term .traffic))
-    (drivewaysOf (k .driveway-constant) (k .fewest-driveways) (number (site .driveways)) (term .traffic)) 2 (whole 6)
+    (drivewaysOf (k .driveway-constant) (k .fewest-driveways) (number (site .driveways)) (term .traffic)) (shareOf 2 logarithmWidth) (whole 6)
     ∷ curvePieces bend
     (exactPiece (curve (number (site .«curve_length»)) (number (site .radius)) (number (site .«spiral_ends»))) (whole 519)
     ∷ exactPiece (superelevation (number (site .deficiency))) (13 // 10)
@@ -64,11 +71,14 @@ minorMost = byKind 1 130 422 9
 -- a crossing's
 unfoldable pub crossingPieces : Coefficients → Site → Term → List Piece
 crossingPieces k site term =
-    piece (power (term .traffic) (majorExponent (site .kind))) (powerBracket (term .traffic) (majorExponent (site .kind)) 100) 1 (whole (majorMost (site .kind)))
-    ∷ piece (power (term .minor) (minorExponent (site .kind))) (powerBracket (term .minor) (minorExponent (site .kind)) 100) 1 (whole (minorMost (site .kind)))
+    piece (power (term .traffic) (majorExponent (site .kind))) (powerBracket (term .traffic) (majorExponent (site .kind)) 100)
+    (shareOf 1 powerWidth) (whole (majorMost (site .kind)))
+    ∷ piece (power (term .minor) (minorExponent (site .kind))) (powerBracket (term .minor) (minorExponent (site .kind)) 100)
+    (shareOf 1 powerWidth) (whole (minorMost (site .kind)))
     ∷ exactPiece (leftTurn k (site .kind) (number (site .«left_lanes»))) (whole 1)
     ∷ exactPiece (rightTurn k (site .kind) (number (site .«right_lanes»))) (whole 1)
     ∷ exactPiece (sight (number (site .«limited_sight»))) (6 // 5)
-    ∷ piece (exponential (skewExponent (site .kind) * number (site .skew))) (expBracket (skewExponent (site .kind) * number (site .skew))) 1 (1384 // 1000)
-    ∷ piece (exponentialNegative (k .base-exponent (site .kind))) (expNegBracket (k .base-exponent (site .kind))) 1 (whole 1)
+    ∷ piece (exponential (skewExponent (site .kind) * number (site .skew))) (expBracket (skewExponent (site .kind) * number (site .skew)))
+    (shareOf 1 exponentialWidth) (1384 // 1000)
+    ∷ storedPiece (basePart k (site .kind)) (whole 1)
     ∷ []

@@ -13,6 +13,8 @@ use Rattle.estimate.specs.FractionLaws.{≤ᶠ-trans, =ᶠ-refl, =ᶠ-≤ᶠ, =
 use Rattle.estimate.specs.Standing.{LowRight, HighRight}
 use Rattle.wide.specs.Scaling.{floor, ceiling}
 use Rattle.wide.specs.Rounding.{Narrow, ceiling-≤}
+use Rattle.bracket.specs.Bracket.{powerWidth, exponentialWidth, logarithmWidth}
+use Rattle.bracket.specs.WidthLaws.{narrow-in}
 use Rattle.bracket.specs.Carry.{carried, relativePart}
 use Rattle.bracket.specs.Pieces.{Piece, AllKept, exactPiece, brackets, unders, overs, bounds, shares, product, grown, absoluteMost, Ends, carried-ends}
 use Rattle.site.specs.declared.values.Site.{Site}
@@ -23,10 +25,12 @@ use Rattle.model.specs.Coefficients.{Coefficients}
 use Rattle.model.specs.Alignment.{curve, superelevation}
 use Rattle.model.specs.Parts.{Part, Term, exact, number, onCurve, segmentParts, crossingParts, partsOf}
 use Rattle.model.specs.Predicted.{Header, termsOf, productUnder, productOver, sumUnder, sumOver, predictedUnder, predictedOver}
-use Rattle.prediction.specs.Pieces.{curvePieces, segmentPieces, crossingPieces}
+use Rattle.model.specs.StatedWidths.{widthParts, predictedEach}
+use Rattle.prediction.specs.Stored.{storedWidth}
+use Rattle.prediction.specs.Pieces.{parts, curvePieces, segmentPieces, crossingPieces}
 use Rattle.prediction.specs.Pair.{unit, segmentStart, crossingStart, startOf, piecesOf, outward, termPair, plus, sumPair, predictedPair}
 use Rattle.prediction.specs.Numbers.{SegmentNumbers, CrossingNumbers, segment-numbers, crossing-numbers}
-use Rattle.prediction.specs.Kept.{Rated, parts, segmentMost, crossingMost, carriedMost, segment-kept, crossing-kept, crossing-room, crossing-small, crossing-steps}
+use Rattle.prediction.specs.Kept.{Rated, segmentMost, crossingMost, carriedMost, segment-kept, crossing-kept, crossing-room, crossing-small, crossing-steps}
 use Rattle.prediction.specs.declared.Pair.{Pair}
 
 -- the header's numbers, none above its limit
@@ -41,12 +45,12 @@ pub record TermOf (site : Site) (term : Term) : Type 0 where
   pub traffic-is : term .traffic ≡ number (site .traffic)
   pub minor-is : term .minor ≡ number (site .«minor_traffic»)
 
--- WHAT IS SHOWN of a pair that stands for estimates: `count` terms of at most 4 millionths each
+-- WHAT IS SHOWN of a pair that stands for estimates, of `count` terms
 pub record PairStands (count : ℕ) (under over : ℕ → Fraction) (p : Pair) : Type 0 where
   pub low-right : LowRight (millionths (p .low)) over
   pub high-right : HighRight (millionths (p .high)) under
   pub in-order : p .low ≤ p .high
-  pub narrow : Narrow 100000 (4 * count) 1 (p .low) (p .high)
+  pub narrow : Narrow widthParts (predictedEach * count) 1 (p .low) (p .high)
   pub small : p .high ≤ 100000000000000 * count
 
 -- THE GRADE'S TWO PIECES make one part
@@ -101,7 +105,7 @@ module _ (k : Coefficients) (rated : Rated k) (site : Site) (term : Term) (calib
 
 -- FROM A CARRY TO A PAIR
 ends-stand : (start : Fraction) (ps : List Piece) (S H : ℕ) (under over : ℕ → Fraction) → Ends parts 1000000 unit start ps S H
-    → grown H (bounds ps) ≤ carriedMost → absoluteMost 0 (bounds ps) ≤ 2 * unit → relativePart 0 (shares ps) ≤ 10
+    → grown H (bounds ps) ≤ carriedMost → absoluteMost 0 (bounds ps) ≤ 2 * unit → widthParts * relativePart 0 (shares ps) ≤ parts
     → ((d : ℕ) → start *ᶠ product (unders d ps) =ᶠ under d) → ((d : ℕ) → start *ᶠ product (overs d ps) =ᶠ over d)
     → PairStands 1 under over (outward (carried S S (brackets ps)))
 unfolding millionths _//_ fraction
@@ -109,17 +113,21 @@ ends-stand start ps S H under over e small steps few u o = rw (e .is) (record {
   low-right = record { at = λ d l. ≤ᶠ-trans (record { cross = e .low-right d l }) (=ᶠ-≤ᶠ (o d)) };
   high-right = record { at = λ d l. ≤ᶠ-trans (=ᶠ-≥ᶠ (u d)) (record { cross = e .high-right d l }) };
   in-order = e .in-order;
-  narrow = record { width = omega (arith, e .narrow 2 steps .width, mul-le-mul-right (ceiling (e .high-end) 1 unit) few) };
+  narrow = narrow-in parts widthParts predictedEach _ _ _ (lit< tt) few (e .narrow 2 steps);
   small = ceiling-≤ (e .high-end) 1 unit 100000000000000 (lit< tt) (omega (arith, e .small, small));
 })
 
 product-most : (y c a l : ℕ) → y ≤ 10 → c ≤ 9999 → a ≤ 20000 → l ≤ 20000 → y * c * a * l * 73 ≤ segmentMost
 product-most y c a l hy hc ha hl = mul-le-mul-right 73 (mul-le-mul (mul-le-mul (mul-le-mul hy hc) ha) hl)
 
-segment-shares : (k : Coefficients) (bend : Slot) (site : Site) (term : Term) → relativePart 0 (shares (segmentPieces k bend site term)) ≤ 10
-unfolding segmentPieces
+segment-shares : (k : Coefficients) (bend : Slot) (site : Site) (term : Term) → widthParts * relativePart 0 (shares (segmentPieces k bend site term)) ≤ parts
+unfolding segmentPieces storedWidth logarithmWidth
 segment-shares k Absent site term = lit≤ tt
 segment-shares k (Number n) site term = lit≤ tt
+
+crossing-shares : (k : Coefficients) (site : Site) (term : Term) → widthParts * relativePart 0 (shares (crossingPieces k site term)) ≤ parts
+unfolding crossingPieces powerWidth exponentialWidth storedWidth
+crossing-shares k site term = lit≤ tt
 
 module _ (k : Coefficients) (rated : Rated k) (site : Site) (term : Term) (is : TermOf site term) (calibration : ℕ) (most : calibration ≤ 9999) where
   segment-stands : SegmentNumbers site
@@ -150,7 +158,7 @@ module _ (k : Coefficients) (rated : Rated k) (site : Site) (term : Term) (is : 
       ends-stand start ps (crossingStart calibration term) crossingMost _ _
       (carried-ends parts 1000000 unit start ps _ crossingMost (lit< tt) (crossing-kept k rated site term n (is .traffic-is) (is .minor-is))
       (mul-le-mul-right 200000000 (mul-le-mul (is .years-most) most)) (crossing-room (site .kind) (n .kind-least) (n .kind-most)) exact-start)
-      (crossing-small (site .kind) (n .kind-least) (n .kind-most)) (crossing-steps (site .kind) (n .kind-least) (n .kind-most)) (lit≤ tt)
+      (crossing-small (site .kind) (n .kind-least) (n .kind-most)) (crossing-steps (site .kind) (n .kind-least) (n .kind-most)) (crossing-shares k site term)
       (λ d. =ᶠ-refl _) (λ d. =ᶠ-refl _)
     where
       exact-start : crossingStart calibration term * ((term .years * calibration) // 1000) .den ≡ ((term .years * calibration) // 1000) .num * (unit * 1000000)

@@ -1,41 +1,64 @@
--- The powers of e that the code stores, at the exponential's scale, for the exponents of base and hazard: one computed test of a
--- table shows that its numbers are the exponential's ends.
-use Prim.Native.Nat.{ℕ, _+_, _*_, _<_}
-use mathlib.Core.Path.{_≡_, ap}
+-- The stored factors. Base and hazard are powers of e at a few exponents only, so their brackets are stored: each part's estimates
+-- at one depth, rounded outward. One computed test of a table shows that its numbers are those.
+use Prim.Native.Nat.{ℕ, suc, _+_, _*_, _^_, _<_}
+use mathlib.Core.Path.{_≡_}
 use mathlib.Core.List.{List}
 use lib.Dec.{T, eqb}
 use lib.ListN.{getD}
 use Rattle.estimate.specs.Table.{allBelow, agree-below}
-use Rattle.exponential.specs.Exponential.{expLow, expHigh, atScale, reciprocal, expBracket, expNegBracket}
-use Rattle.model.specs.Coefficients.{editionOne}
+use Rattle.bracket.specs.declared.Bracket.{Bracket}
+use Rattle.bracket.specs.Rounded.{roundedOutward}
+use Rattle.model.specs.Coefficients.{Coefficients, editionOne}
+use Rattle.model.specs.Parts.{Part, exponentialNegative, hazard}
 
--- the two ends of e^x side by side, for each of n exponents x
-pub record StoredEnds (n : ℕ) (x : ℕ → ℕ) (table : List ℕ) : Type 0 where
-  pub low : (i : ℕ) → i < n → getD table (2 * i) 0 ≡ expLow (x i)
-  pub high : (i : ℕ) → i < n → getD table (2 * i + 1) 0 ≡ expHigh (x i)
+-- a power of ten, by which a division is cheap
+abbrev pub storedScale : ℕ
+storedScale = 10 ^ 13
 
--- a kind's base factor is e^(-x) for this x
+-- the depth at which the estimates are taken
+abbrev pub storedDepth : ℕ
+storedDepth = 20
+
+-- THE STORED BRACKET of a part
+unfoldable pub storedBracket : Part → Bracket
+storedBracket part = roundedOutward storedScale storedDepth (part .under) (part .over)
+
+-- THE STATED WIDTH of a stored bracket, relative to its high
+unfoldable pub storedWidth : ℕ
+storedWidth = 10 ^ 8
+
+-- "e^(−0.4865)" of a segment, "e^(−10.9)" of a 3ST and so on, by kind
+abbrev pub basePart : Coefficients → (kind : ℕ) → Part
+basePart k kind = exponentialNegative (k .base-exponent kind)
+
+-- the two numerators of each of n parts side by side
+pub record StoredParts (n : ℕ) (part : ℕ → Part) (table : List ℕ) : Type 0 where
+  pub low : (i : ℕ) → i < n → getD table (2 * i) 0 ≡ storedBracket (part i) .«low_num»
+  pub high : (i : ℕ) → i < n → getD table (2 * i + 1) 0 ≡ storedBracket (part i) .«high_num»
+
+-- the base factors of edition 1, by kind
 abbrev pub StoredBases : List ℕ → Type 0
-StoredBases = StoredEnds 4 (λ kind. editionOne .base-exponent kind)
+StoredBases = StoredParts 4 (basePart editionOne)
 
--- a rating's is e^x for this x, by its distance from 3
+-- the hazard factors, by rating from 1 on
 abbrev pub StoredHazards : List ℕ → Type 0
-StoredHazards = StoredEnds 5 (λ distance. 668 * distance)
+StoredHazards = StoredParts 7 (λ i. hazard (suc i))
 
-pub ends-by-test : (n : ℕ) (x : ℕ → ℕ) (table : List ℕ)
-    → T (allBelow (λ i. eqb (getD table (2 * i) 0) (expLow (x i))) n) → T (allBelow (λ i. eqb (getD table (2 * i + 1) 0) (expHigh (x i))) n)
-    → StoredEnds n x table
-ends-by-test n x table low high = record {
-  low = agree-below (λ i. getD table (2 * i) 0) (λ i. expLow (x i)) n low;
-  high = agree-below (λ i. getD table (2 * i + 1) 0) (λ i. expHigh (x i)) n high;
+pub parts-by-test : (n : ℕ) (part : ℕ → Part) (table : List ℕ)
+    → T (allBelow (λ i. eqb (getD table (2 * i) 0) (storedBracket (part i) .«low_num»)) n)
+    → T (allBelow (λ i. eqb (getD table (2 * i + 1) 0) (storedBracket (part i) .«high_num»)) n)
+    → StoredParts n part table
+parts-by-test n part table low high = record {
+  low = agree-below (λ i. getD table (2 * i) 0) (λ i. storedBracket (part i) .«low_num») n low;
+  high = agree-below (λ i. getD table (2 * i + 1) 0) (λ i. storedBracket (part i) .«high_num») n high;
 }
 
--- AN ENTRY: the bracket of e^x, and its reciprocal
-module _ {n : ℕ} {x : ℕ → ℕ} {table : List ℕ} (stored : StoredEnds n x table) (i : ℕ) (h : i < n) where
-  pub entry-rises : atScale (getD table (2 * i) 0) (getD table (2 * i + 1) 0) ≡ expBracket (x i)
-  unfolding expBracket
-  entry-rises = rw (stored .low i h, stored .high i h)
+-- two numbers over the scale
+abbrev pub overScale : (low high : ℕ) → Bracket
+overScale low high = record { «low_num» = low; «low_den» = storedScale; «high_num» = high; «high_den» = storedScale }
 
-  pub entry-falls : reciprocal (atScale (getD table (2 * i) 0) (getD table (2 * i + 1) 0)) ≡ expNegBracket (x i)
-  unfolding expNegBracket
-  entry-falls = ap reciprocal entry-rises
+-- AN ENTRY of a table is its part's bracket
+pub entry-is : {n : ℕ} {part : ℕ → Part} {table : List ℕ} → StoredParts n part table → (i : ℕ) → i < n
+    → overScale (getD table (2 * i) 0) (getD table (2 * i + 1) 0) ≡ storedBracket (part i)
+unfolding storedBracket roundedOutward
+entry-is stored i h = rw (stored .low i h, stored .high i h)

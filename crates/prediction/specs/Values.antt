@@ -13,7 +13,7 @@ use Rattle.bracket.specs.declared.carry.CarryAnswer.the-variants.{Carried}
 use Rattle.bracket.specs.Carry.{carried, carriedOn}
 use Rattle.bracket.specs.CarryLaws.{carried-append}
 use Rattle.bracket.specs.Pieces.{brackets, exactly}
-use Rattle.exponential.specs.Exponential.{expBracket, expNegBracket}
+use Rattle.exponential.specs.Exponential.{expBracket}
 use Rattle.power.specs.Exponents.{exponentAt}
 use Rattle.power.specs.Power.{powerBracket}
 use Rattle.driveways.specs.Driveways.{drivewaysOf}
@@ -29,9 +29,10 @@ use Rattle.model.specs.Alignment.{curve, superelevation}
 use Rattle.model.specs.Grade.{gradeFirst, gradeSecond}
 use Rattle.model.specs.Access.{twoWayLane, passing}
 use Rattle.model.specs.Crossings.{leftTurn, rightTurn, sight, majorExponent, minorExponent, skewExponent}
-use Rattle.model.specs.Parts.{number}
+use Rattle.model.specs.Parts.{hazard, number}
 use Rattle.model.specs.Predicted.{termOf, termsOf}
-use Rattle.prediction.specs.Pieces.{hazardBracket, segmentPieces, crossingPieces}
+use Rattle.prediction.specs.Stored.{storedBracket, basePart}
+use Rattle.prediction.specs.Pieces.{segmentPieces, crossingPieces}
 use Rattle.model.specs.Predicted.{headerOf}
 use Rattle.prediction.specs.Pair.{exactBracket, outward, termPair, plus, sumPair, predictedPair}
 use Rattle.prediction.specs.Numbers.{SegmentNumbers, CrossingNumbers}
@@ -81,6 +82,7 @@ pub record SegmentSizes (v : Segment) : Type 0 where
   pub grade-most : v .grade ≤ 12
   pub driveways-most : v .driveways ≤ 50
   pub passing-most : v .passing ≤ 2
+  pub rating-least : 1 ≤ v .«hazard_rating»
   pub rating-most : v .«hazard_rating» ≤ 7
   -- a road that is not straight has a curve's numbers
   pub bend : v .curved ≡ true → CurveSizes v
@@ -94,6 +96,7 @@ segment-sizes site n = record {
   grade-most = n .grade-most;
   driveways-most = n .driveways-most;
   passing-most = n .passing-most;
+  rating-least = n .rating-least;
   rating-most = n .rating-most;
   bend = bend (site .«curve_length») refl;
 }
@@ -126,14 +129,14 @@ start-room y c a l = record { first = mul-le-mul y c; second = mul-le-mul (mul-l
 -- the nine factors of every road, and the two of a curve
 unfoldable pub straightBrackets : Segment → List Bracket
 straightBrackets v =
-    expNegBracket (editionOne .base-exponent 0)
+    storedBracket (basePart editionOne 0)
     ∷ exactly (lane editionOne (v .«lane_width») (v .traffic))
     ∷ exactly (shoulder editionOne (v .«shoulder_width») (v .«shoulder_type») (v .traffic))
     ∷ exactly (gradeFirst (v .grade))
     ∷ exactly (gradeSecond (v .grade))
     ∷ exactly (twoWayLane (v .«two_way_lane») (v .driveways))
     ∷ exactly (passing (v .passing))
-    ∷ hazardBracket (v .«hazard_rating»)
+    ∷ storedBracket (hazard (v .«hazard_rating»))
     ∷ drivewaysOf (editionOne .driveway-constant) (editionOne .fewest-driveways) (v .driveways) (v .traffic)
     ∷ []
 
@@ -243,7 +246,7 @@ crossingBrackets v =
     ∷ exactly (rightTurn editionOne (v .kind) (v .«right_lanes»))
     ∷ exactly (sight (v .«limited_sight»))
     ∷ expBracket (skewExponent (v .kind) * v .skew)
-    ∷ expNegBracket (editionOne .base-exponent (v .kind))
+    ∷ storedBracket (basePart editionOne (v .kind))
     ∷ []
 
 pub crossing-brackets : (years : ℕ) (site : Site) → crossingBrackets (crossingOf site) ≡ brackets (crossingPieces editionOne site (termOf years site))

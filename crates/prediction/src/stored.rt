@@ -1,37 +1,43 @@
-// The factors that are a power of e at a few exponents only: the ends of the exponential are stored, and proved to be its ends.
+// The factors that are a power of e at a few exponents only: their brackets are stored, proved to be their estimates rounded
+// outward.
 ghost use mathlib.Core.Path.{_≡_};
 ghost use Prim.Native.Nat.{_≤_};
-ghost use Rattle.exponential.specs.Exponential.{atScale, reciprocal, expNegBracket};
 ghost use Rattle.model.specs.Coefficients.{editionOne};
-ghost use Rattle.prediction.specs.Pieces.{hazardBracket};
-ghost use Rattle.prediction.specs.Stored.{StoredBases, StoredHazards};
+ghost use Rattle.model.specs.Parts.{hazard};
+ghost use Rattle.prediction.specs.Stored.{StoredBases, StoredHazards, overScale, storedBracket, basePart};
 use bracket::Bracket;
-use exponential::SCALE;
 
-// By kind, the low and the high end of e^x for its base factor e^(-x): x is 0.4865, 10.9, 9.34, 5.73.
+// What a stored number is over.
+const SCALE: u64 = 10_000_000_000_000;
+
+// By kind, the low and the high of e^(-0.4865), e^(-10.9), e^(-9.34) and e^(-5.73).
 const BASES: [u64; 8] = [
-    1626613099464,
-    1626613099482,
-    54176363796611735,
-    54176363796876056,
-    11384408240144394,
-    11384408240282149,
-    307969268376352,
-    307969268379027,
+    6147743432822,
+    6147743432823,
+    184582339,
+    184582340,
+    878394360,
+    878394361,
+    32470772336,
+    32470772337,
 ];
 
-// By the distance of a hazard rating from 3, the two ends of e^(0.0668 distance).
-const HAZARDS: [u64; 10] = [
-    1000000000000,
-    1000000000001,
-    1069081640462,
-    1069081640480,
-    1142935553972,
-    1142935553990,
-    1221891416986,
-    1221891417003,
-    1306301680539,
-    1306301680557,
+// By hazard rating from 1 to 7, the low and the high of e^(0.0668 (rating - 3)).
+const HAZARDS: [u64; 14] = [
+    8749399706057,
+    8749399706058,
+    9353822590821,
+    9353822590822,
+    10000000000000,
+    10000000000000,
+    10690816404634,
+    10690816404635,
+    11429355539760,
+    11429355539761,
+    12218914169886,
+    12218914169887,
+    13063016805424,
+    13063016805425,
 ];
 
 fn stored_bases() -> [u64; 8]
@@ -40,15 +46,15 @@ fn stored_bases() -> [u64; 8]
     BASES
 }
 
-fn stored_hazards() -> [u64; 10]
+fn stored_hazards() -> [u64; 14]
     ensures { λ r. ⌜ StoredHazards r ⌝ }
 {
     HAZARDS
 }
 
-// The bracket of e^x from its stored ends.
-fn rising(low: u64, high: u64) -> Bracket
-    ensures { λ r. ⌜ r ≡ atScale low high ⌝ }
+// The bracket of two stored numbers.
+fn over_scale(low: u64, high: u64) -> Bracket
+    ensures { λ r. ⌜ r ≡ overScale low high ⌝ }
 {
     Bracket {
         low_num: low,
@@ -58,38 +64,22 @@ fn rising(low: u64, high: u64) -> Bracket
     }
 }
 
-// That of e^(-x): the reciprocals, exchanged.
-fn falling(low: u64, high: u64) -> Bracket
-    ensures { λ r. ⌜ r ≡ reciprocal (atScale low high) ⌝ }
-{
-    Bracket {
-        low_num: SCALE,
-        low_den: high,
-        high_num: SCALE,
-        high_den: low,
-    }
-}
-
 // The base factor of a kind, e^(-0.4865) for a segment.
 pub fn base_factor(kind: u8) -> Bracket
     requires { ⌜ kind ≤ 3 ⌝ }
-    ensures { λ r. ⌜ r ≡ expNegBracket (editionOne .base-exponent kind) ⌝ }
+    ensures { λ r. ⌜ r ≡ storedBracket (basePart editionOne kind) ⌝ }
 {
     let ends = stored_bases();
     let at = 2 * (kind as usize);
-    falling(ends[at], ends[at + 1])
+    over_scale(ends[at], ends[at + 1])
 }
 
-// e^(0.0668 (rating - 3)): below 3 the exponent is negative.
+// e^(0.0668 (rating - 3)).
 pub fn hazard_factor(rating: u64) -> Bracket
-    requires { ⌜ rating ≤ 7 ⌝ }
-    ensures { λ r. ⌜ r ≡ hazardBracket rating ⌝ }
+    requires { ⌜ (1 ≤ rating) × (rating ≤ 7) ⌝ }
+    ensures { λ r. ⌜ r ≡ storedBracket (hazard rating) ⌝ }
 {
     let ends = stored_hazards();
-    if 3 <= rating {
-        let at = 2 * ((rating - 3) as usize);
-        return rising(ends[at], ends[at + 1]);
-    }
-    let at = 2 * ((3 - rating) as usize);
-    falling(ends[at], ends[at + 1])
+    let at = 2 * ((rating - 1) as usize);
+    over_scale(ends[at], ends[at + 1])
 }

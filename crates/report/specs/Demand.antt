@@ -14,7 +14,8 @@ use Rattle.model.specs.Parts.{number}
 use Rattle.model.specs.Predicted.{Header, predictedUnder, predictedOver}
 use Rattle.model.specs.Expected.{expectedUnder, expectedOver}
 use Rattle.line.specs.declared.Line.{Line}
-use Rattle.line.specs.Stands.{LineStands, widthParts, predictedEach, expectedEach}
+use Rattle.model.specs.StatedWidths.{widthParts, predictedEach, expectedEach}
+use Rattle.line.specs.Stands.{LineStands}
 use Rattle.project.specs.File.{headerIn, countIn, sitesIn}
 use Rattle.project.specs.Causes.{reportLength, NoCause, FirstCause}
 use Rattle.report.specs.Report.{answerNumber, answerValue}

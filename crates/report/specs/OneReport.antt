@@ -4,7 +4,7 @@ use Prim.Native.Nat.{ℕ}
 use mathlib.Core.Path.{_≡_, refl}
 use mathlib.Core.List.{List, [], _∷_}
 use lib.Dec.{lit<, lit≤}
-use Rattle.estimate.specs.Fraction.{fraction, _//_, whole, millionths, decimal, inverse, _<ᶠ_, _+ᶠ_, _*ᶠ_}
+use Rattle.estimate.specs.Fraction.{fraction, _//_, whole, tenThousandths, millionths, decimal, inverse, _<ᶠ_, _+ᶠ_, _*ᶠ_}
 use Rattle.estimate.specs.Power.{powerLargest, powerUnder, powerOver, power-largest-value}
 use Rattle.estimate.specs.Exponential.{termNum, termDen, sumNum, partialSum, sumWithTail, expUnder, expOver, expNegUnder, expNegOver}
 use Rattle.site.specs.Known.{signal, signal-read}
@@ -33,11 +33,11 @@ minor = power-largest-value 1 1000 20 100 _ (lit< tt) (lit≤ tt) (lit< tt)
 
 -- under 0.004 crashes, and over 200
 few : predictedOver editionOne (headerOf 1 1 1) signal 1 <ᶠ millionths 4000
-unfolding predictedOver sumOver termsOf productOver crossingParts editionOne powerOver decimal expOver expNegOver expUnder partialSum sumWithTail sumNum termNum termDen inverse leftTurn rightTurn sight _*ᶠ_ _+ᶠ_ whole fraction _//_ millionths signal
+unfolding predictedOver sumOver termsOf productOver crossingParts editionOne powerOver decimal expOver expNegOver expUnder partialSum sumWithTail sumNum termNum termDen inverse leftTurn rightTurn sight _*ᶠ_ _+ᶠ_ whole tenThousandths fraction _//_ millionths signal
 few = rw (major, minor) (record { cross = lit< tt })
 
 many : millionths 200000000 <ᶠ predictedUnder editionOne (headerOf 10 9999 9999) signal 1
-unfolding predictedUnder sumUnder termsOf productUnder crossingParts editionOne powerUnder decimal expUnder expNegUnder expOver partialSum sumWithTail sumNum termNum termDen inverse leftTurn rightTurn sight _*ᶠ_ _+ᶠ_ whole fraction _//_ millionths signal
+unfolding predictedUnder sumUnder termsOf productUnder crossingParts editionOne powerUnder decimal expUnder expNegUnder expOver partialSum sumWithTail sumNum termNum termDen inverse leftTurn rightTurn sight _*ᶠ_ _+ᶠ_ whole tenThousandths fraction _//_ millionths signal
 many = rw (major, minor) (record { cross = lit< tt })
 
 pub one-report-for-all : (report : List ℕ) → Demand (signalProject 1 0 1) report → Demand (signalProject 10 39 15) report → ⊥

@@ -50,7 +50,9 @@ through-requires-7 : tie.Need-through-requires-7
 through-requires-7 c κs = search needs
 
 hazard-factor-requires : tie.Need-hazard-factor-requires
-hazard-factor-requires c κs = c .before .before .before .before .before .before .before .before .before .before .before .before .before .before .pre .1 .rating-most
+hazard-factor-requires c κs =
+    let sizes = c .before .before .before .before .before .before .before .before .before .before .before .before .before .before .pre .1 in
+    (sizes .rating-least, sizes .rating-most)
 
 through-requires-8 : tie.Need-through-requires-8
 through-requires-8 c κs = search needs

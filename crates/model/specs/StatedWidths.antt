@@ -1,0 +1,15 @@
+-- THE STATED WIDTHS of a line and of the totals, each once: at most a part of the high, and so many millionths for each site and
+-- each observed crash.
+use Prim.Native.Nat.{ℕ}
+
+-- a hundred-thousandth of the high
+abbrev pub widthParts : ℕ
+widthParts = 100000
+
+-- of a predicted pair, for each site
+abbrev pub predictedEach : ℕ
+predictedEach = 4
+
+-- of an expected pair, for each site and each observed crash
+abbrev pub expectedEach : ℕ
+expectedEach = 8
