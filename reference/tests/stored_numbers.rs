@@ -1,8 +1,6 @@
 //! The numbers in the engine's sources and stored output are those that the
 //! estimates give.
 
-use reference::estimates::exponential;
-use reference::rational::Rational;
 use reference::{figures, stored};
 
 /// A file of the engine's crates.
@@ -41,27 +39,11 @@ fn logarithms() {
     assert_eq!(found, stored::logarithms());
 }
 
-/// Each pair of a table's numbers, over 10^12, has e^x between them at depth 20
-/// for its x in ten-thousandths, and is narrow.
-fn assert_ends(table: &[u64], exponents: &[u64]) {
-    assert_eq!(table.len(), 2 * exponents.len());
-    for (ends, x) in table.chunks(2).zip(exponents) {
-        let exact = exponential(&Rational::of(*x, 10_000), 20);
-        let [low, high] = [ends[0], ends[1]].map(|end| Rational::of(end, 1_000_000_000_000));
-        assert!(low <= exact.under && exact.over <= high, "e^{x}");
-        assert!((ends[1] - ends[0]).saturating_mul(50_000_000_000) < ends[1]);
-    }
-}
-
 #[test]
 fn base_and_hazard_factors() {
     let source = "prediction/src/stored.rt";
-    assert_ends(
-        &array_in(source, "BASES"),
-        &[4_865, 109_000, 93_400, 57_300],
-    );
-    let distances = [0, 668, 2 * 668, 3 * 668, 4 * 668];
-    assert_ends(&array_in(source, "HAZARDS"), &distances);
+    assert_eq!(array_in(source, "BASES"), stored::bases());
+    assert_eq!(array_in(source, "HAZARDS"), stored::hazards());
 }
 
 #[test]
