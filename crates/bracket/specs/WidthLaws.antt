@@ -14,7 +14,7 @@ in-parts s w = record { width = omega (arith, mul-le-mul-left s (w .width)) }
 -- a width of r / R is one of 1 / W, where W r is at most R
 pub narrow-in : (R W a r l h : ℕ) → 0 < R → W * r ≤ R → Narrow R a r l h → Narrow W a 1 l h
 narrow-in R W a r l h positive few n = record {
-  width = le-of-mul-le-mul-right {k = R} (omega (arith, mul-le-mul-left W (n .width), mul-le-mul-right h few)) positive
+  width = le-of-mul-le-mul-right {k = R} (omega (arith, mul-le-mul-left W (n .width), mul-le-mul-right h few)) positive;
 }
 
 -- R a + b ≤ R b + a is (R - 1) a ≤ (R - 1) b

@@ -36,7 +36,7 @@ pub fn exponential_with(stored: &[u64; 15], x: u64) -> Bracket
 }
 
 // e^(-x / 10000), with the stored numbers lent: the reciprocals, exchanged.
-pub fn exponential_negative_with(stored: &[u64; 15], x: u64) -> Bracket
+fn exponential_negative_with(stored: &[u64; 15], x: u64) -> Bracket
     requires { ⌜ StoredExponentials (now stored) × (x ≤ exponentialLimit) ⌝ }
     ensures { λ r. ⌜ r ≡ expNegBracket x ⌝ }
 {

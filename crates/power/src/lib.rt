@@ -25,7 +25,7 @@ const BILLION: u64 = 1_000_000_000;
 const SCALE: u64 = 1_000_000_000_000;
 
 // The low end, in billionths, for the exponent at a place below 5.
-pub fn power_low_with(stored: &[u64; 2560], base: u64, exponent: u64) -> u64
+fn power_low_with(stored: &[u64; 2560], base: u64, exponent: u64) -> u64
     requires { ⌜ StoredPowers (now stored) × (1 ≤ base) × (base ≤ 20000) × (exponent < 5) ⌝ }
     ensures { λ r. ⌜ r ≡ powerLow base (exponentAt exponent) 100 ⌝ }
 {
@@ -37,7 +37,7 @@ pub fn power_low_with(stored: &[u64; 2560], base: u64, exponent: u64) -> u64
 }
 
 // The high end.
-pub fn power_high_with(stored: &[u64; 2560], base: u64, exponent: u64) -> u64
+fn power_high_with(stored: &[u64; 2560], base: u64, exponent: u64) -> u64
     requires { ⌜ StoredPowers (now stored) × (1 ≤ base) × (base ≤ 20000) × (exponent < 5) ⌝ }
     ensures { λ r. ⌜ r ≡ powerHigh base (exponentAt exponent) 100 ⌝ }
 {
