@@ -36,6 +36,13 @@ fn stored(name: &str) -> Vec<u8> {
     fs::read(root().join(name)).expect("a stored file")
 }
 
+/// A file of the tests' own.
+fn stored_in(name: &str, bytes: &[u8]) -> PathBuf {
+    let path = PathBuf::from(env!("CARGO_TARGET_TMPDIR")).join(name);
+    fs::write(&path, bytes).expect("a file is written");
+    path
+}
+
 /// Runs the program on given files, apart from any pipe.
 fn run_on(input: File, output: Stdio) -> Output {
     Command::new(CRASH_REPORT)
@@ -125,12 +132,31 @@ fn failed_write_is_told() {
     assert_eq!(output.stderr, b"crash_report: writing failed\n");
 }
 
+/// A program that writes once is refused here alone: the file takes a part of
+/// the report, and the rest is tried and fails.
+#[test]
+fn report_that_a_file_takes_in_part_is_told() {
+    let input = stored_in("partly_written.project", &full_project(MOST_SITES));
+    let report = input.with_extension("report");
+    let output = Command::new("sh")
+        .args([
+            "-c",
+            "trap '' XFSZ; ulimit -f 8; exec \"$0\" >\"$1\"",
+            CRASH_REPORT,
+        ])
+        .arg(&report)
+        .stdin(File::open(&input).expect("the file"))
+        .output()
+        .expect("the program runs");
+    assert!(fs::metadata(&report).expect("a part of the report").len() > 0);
+    assert_eq!(output.stderr, b"crash_report: writing failed\n");
+}
+
 #[test]
 fn slow_reader_gets_the_whole_report() {
     let file = full_project(MOST_SITES);
     let whole = printed(&file);
-    let path = PathBuf::from(env!("CARGO_TARGET_TMPDIR")).join("longest.project");
-    fs::write(&path, &file).expect("a file is written");
+    let path = stored_in("longest.project", &file);
     let mut child = Command::new(CRASH_REPORT)
         .stdin(File::open(&path).expect("the file"))
         .stdout(Stdio::piped())
