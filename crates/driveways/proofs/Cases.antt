@@ -4,7 +4,7 @@ use mathlib.Core.Path.{_≡_, sym}
 use native.Mathlib.Omega.{arith}
 use Rattle.bracket.specs.declared.Bracket.{Bracket}
 use Rattle.logarithm.specs.Logarithm.{logarithmBracket}
-use Rattle.logarithm.specs.LogarithmLaws.{logarithm-in-order, logarithm-high-small}
+use Rattle.logarithm.specs.LogarithmLaws.{logarithm-standing, logarithm-sizes}
 use Rattle.model.specs.Access.{drivewayAt}
 use Rattle.driveways.specs.Driveways.{valueOf, between, lowEnd, highEnd, drivewayBracket}
 use Rattle.driveways.specs.DrivewayLaws.{bracket-rising, bracket-falling}
@@ -16,10 +16,10 @@ Fits num den = (0 < den) × (den ≤ 1000000000000) × (num ≤ 10 * den)
 
 module _ (a : ℕ) (from : 1 ≤ a) (to : a ≤ 20000) {ln : Bracket} (is : ln ≡ logarithmBracket a) where
   pub low-fits : Fits (ln .«low_num») (ln .«low_den»)
-  low-fits = rw is (omega arith, omega arith, omega (arith, logarithm-in-order a from to, logarithm-high-small a from to))
+  low-fits = let n = logarithm-sizes a from to in rw is (logarithm-standing a from to .stands .low-den, n .low-den-most, n .low-most)
 
   pub high-fits : Fits (ln .«high_num») (ln .«high_den»)
-  high-fits = rw is (omega arith, omega arith, omega (arith, logarithm-high-small a from to))
+  high-fits = let n = logarithm-sizes a from to in rw is (logarithm-standing a from to .stands .high-den, n .high-den-most, n .high-most)
 
 module _ (constant fewest count : ℕ) {ln known : Bracket} {at-low at-high : Value}
     (is : known ≡ ln) (low-is : at-low ≡ valueOf (drivewayAt constant count (lowEnd known))) (high-is : at-high ≡ valueOf (drivewayAt constant count (highEnd known))) (l : fewest ≤ count) where

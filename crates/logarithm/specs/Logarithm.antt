@@ -21,7 +21,7 @@ logarithmLow a = storedLow (firstFactor a) + storedLow (secondFactor a) + logLow
 unfoldable pub logarithmHigh : ℕ → ℕ
 logarithmHigh a = storedHigh (firstFactor a) + storedHigh (secondFactor a) + logHigh (firstFactor a * secondFactor a) (restOf a)
 
-abbrev pub logarithmBracket : ℕ → Bracket
+unfoldable pub logarithmBracket : ℕ → Bracket
 logarithmBracket a = record { «low_num» = logarithmLow a; «low_den» = scale; «high_num» = logarithmHigh a; «high_den» = scale }
 
 -- THE PUBLIC CALL

@@ -12,6 +12,7 @@ use Rattle.estimate.specs.Logarithm.{lnUnder, lnOver, ln-smallest-is}
 use Rattle.estimate.specs.LogarithmLaws.{ln-low-stands, ln-high-stands, below-ln-over, ln-over-mono}
 use Rattle.estimate.specs.Remainder.{ratio}
 use Rattle.bracket.specs.Bracket.{Stands, AbsoluteWidth, logarithmWidth}
+use Rattle.bracket.specs.declared.Bracket.{Bracket}
 use Rattle.remainder.specs.Split.{firstFactor, secondFactor, restOf, Splits, split-is}
 use Rattle.remainder.specs.Remainder.{logLow, logHigh}
 use Rattle.remainder.specs.LogarithmBounds.{log-low-at-least, log-high-at-most, log-in-order, log-near}
@@ -39,6 +40,13 @@ module _ {A B : Fraction} (d s t : ℕ) where
 split-product : (a n m r : ℕ) (h : 0 < n * m) → n * m + r ≡ a → whole n *ᶠ whole m *ᶠ ratio (n * m) r h =ᶠ whole a
 unfolding whole fraction _*ᶠ_ ratio
 split-product a n m r h e = record { cross = omega (arith, ap (λ z. n * m * z) e) }
+
+-- how large the numbers of a bracket's ends are
+pub record EndSizes (b : Bracket) : Type 0 where
+  pub low-den-most : b .«low_den» ≤ 1000000000000
+  pub high-den-most : b .«high_den» ≤ 1000000000000
+  pub low-most : b .«low_num» ≤ 10 * b .«low_den»
+  pub high-most : b .«high_num» ≤ 10 * b .«high_den»
 
 module _ (a : ℕ) (from : 1 ≤ a) (to : a ≤ 20000) where
   parts : Splits a (firstFactor a) (secondFactor a) (restOf a)
@@ -111,7 +119,7 @@ module _ (a : ℕ) (from : 1 ≤ a) (to : a ≤ 20000) where
 
   -- AT EVERY DEPTH
   pub logarithm-stands : Stands (logarithmBracket a) (λ d. lnUnder d (whole a)) (λ d. lnOver d (whole a))
-  unfolding decimal
+  unfolding decimal logarithmBracket
   logarithm-stands = record {
     low-den = one-le-pow 12 10 (lit< tt);
     high-den = one-le-pow 12 10 (lit< tt);
@@ -124,12 +132,22 @@ module _ (a : ℕ) (from : 1 ≤ a) (to : a ≤ 20000) where
       high-within = unfold decimal whole fraction in omega (arith, logarithm-high-small)
 
   pub logarithm-shown-width : AbsoluteWidth shownWidth (logarithmBracket a)
-  unfolding shownWidth
+  unfolding shownWidth logarithmBracket
   logarithm-shown-width = record { width = omega (arith, logarithm-near) }
 
   pub logarithm-width : AbsoluteWidth logarithmWidth (logarithmBracket a)
   unfolding shownWidth logarithmWidth
   logarithm-width = let w = logarithm-shown-width in record { width = omega (arith, w .width) }
+
+  -- an end is at most 10, over at most 10^12
+  pub logarithm-sizes : EndSizes (logarithmBracket a)
+  unfolding logarithmBracket
+  logarithm-sizes = record {
+    low-den-most = lit≤ tt;
+    high-den-most = lit≤ tt;
+    low-most = omega (arith, logarithm-in-order, logarithm-high-small);
+    high-most = omega (arith, logarithm-high-small);
+  }
 
   pub logarithm-standing : StandingLogarithm a (logarithmBracket a)
   logarithm-standing = record { stands = logarithm-stands; narrow = logarithm-width }

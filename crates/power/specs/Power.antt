@@ -27,7 +27,7 @@ powerHigh A p q =
     ceiling (ceiling (storedHigh (firstFactor A) p q) (storedHigh (secondFactor A) p q) billion)
     (remainderHigh (firstFactor A * secondFactor A) (restOf A) p q) scale
 
-abbrev pub powerBracket : (A p q : ℕ) → Bracket
+unfoldable pub powerBracket : (A p q : ℕ) → Bracket
 powerBracket A p q = record { «low_num» = powerLow A p q; «low_den» = billion; «high_num» = powerHigh A p q; «high_den» = billion }
 
 -- THE PUBLIC CALL

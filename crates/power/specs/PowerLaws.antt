@@ -61,6 +61,7 @@ module _ (A p q : ℕ) (from : 1 ≤ A) (to : A ≤ 65536) (e : Exponent p q) wh
 
   -- AT EVERY DEPTH
   pub power-stands : Stands (powerBracket A p q) (λ d. powerUnder d A p q) (λ d. powerOver d A p q)
+  unfolding powerBracket
   power-stands = record {
     low-den = lit< tt;
     high-den = lit< tt;
@@ -110,7 +111,7 @@ module _ (A p q : ℕ) (from : 1 ≤ A) (to : A ≤ 65536) (e : Exponent p q) wh
   ends-any = ends 7583 6021 (remainder-near _ _ p q (parts .rest) e) roundings-any
 
   pub power-width : RelativeWidth powerWidth 1 (powerBracket A p q)
-  unfolding powerWidth
+  unfolding powerWidth powerBracket
   power-width = let w = ends-any in record { width = omega (arith, w .near, w .first-≤, power-in-order) }
 
   pub power-standing : StandingPower A p q (powerBracket A p q)
@@ -127,7 +128,7 @@ module _ (A p q : ℕ) (from : 1 ≤ A) (to : A ≤ 65536) (e : Exponent p q) wh
         roundings-from-two billion _ _ (lit≤ tt) (mul-le-mul-left 100 n) (mul-le-mul-left 100 m)
 
     narrow : (c : ℕ) → c ≤ 10000 → Near c → RelativeWidth shownWidth 1 (powerBracket A p q)
-    unfolding shownWidth
+    unfolding shownWidth powerBracket
     narrow c h w = record { width = omega (arith, w .near, mul-le-mul-right (w .first) h, w .first-≤, power-in-order) }
 
     pub power-shown-width : RelativeWidth shownWidth 1 (powerBracket A p q)
@@ -155,7 +156,7 @@ module _ (A p q : ℕ) (from : 1 ≤ A) (to : A ≤ 65536) (e : Exponent p q) wh
 -- AT A STORED EXPONENT: 20,000^0.79 is below 2,500, and the high end below 2,600
 
 pub power-high-small : (A p : ℕ) → 1 ≤ A → A ≤ 20000 → p ≤ 79 → powerHigh A p 100 ≤ 2600 * billion
-unfolding powerWidth
+unfolding powerWidth powerBracket
 power-high-small A p from to hp =
     let big : A ≤ 65536 = omega arith in
     let e : Exponent p 100 = record { at-most-one = omega arith; positive = omega arith } in

@@ -21,6 +21,7 @@ module _ (A p : ℕ) (from : 1 ≤ A) (to : A ≤ 20000) (part : p ≤ 100) wher
 
   -- A^(p/100) is at most c + 1, where 20,000^p is at most c^100
   pub hundredths-below : (c : ℕ) → c < powerWidth → 20000 ^ p ≤ c ^ 100 → powerBracket A p 100 .«high_num» * 1 ≤ (c + 1) * powerBracket A p 100 .«high_den»
+  unfolding powerBracket
   hundredths-below c few power =
       let scaled : 20000 ^ p * billion ^ 100 ≤ (c * billion) ^ 100 = rw (mul-pow c billion 100) (mul-le-mul-right (billion ^ 100) power) in
       let low = power-low-below A p 100 from (omega arith) exponent 20000 p (c * billion) to (le-refl p) (lit< tt) scaled in

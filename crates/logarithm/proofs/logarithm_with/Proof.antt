@@ -8,7 +8,7 @@ use Rattle.remainder.specs.Remainder.{logLow, logHigh}
 use Rattle.remainder.specs.LogarithmBounds.{log-low-small, log-high-small}
 use Rattle.remainder.specs.declared.LogBounds.{LogBounds}
 use Rattle.logarithm.specs.Stored.{scale, storedLow, storedHigh, stored-low-small, stored-high-small}
-use Rattle.logarithm.specs.Logarithm.{logarithmLow, logarithmHigh}
+use Rattle.logarithm.specs.Logarithm.{logarithmLow, logarithmHigh, logarithmBracket}
 use Rattle.logarithm.proofs.Ends.{end-is}
 use Rattle.logarithm.proofs.logarithm_with.Statement.{statement}
 use Rattle.logarithm.proofs.logarithm_with.Tie as tie
@@ -75,7 +75,7 @@ add-high-2 c =
     omega (arith, first-high-fits (h .before), second-high-fits h, rest-high-fits (h .before .before .before .before .before))
 
 returns : tie.Need-returns
-unfolding logarithmLow logarithmHigh
+unfolding logarithmBracket logarithmLow logarithmHigh
 returns c =
     let h = c .before in
     let l = h .before .before .before in

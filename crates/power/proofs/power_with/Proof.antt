@@ -1,4 +1,5 @@
 use borrow.Author.Needs.{needs}
+use Rattle.power.specs.Power.{powerBracket}
 use Rattle.power.proofs.power_with.Statement.{statement}
 use Rattle.power.proofs.power_with.Tie as tie
 
@@ -9,6 +10,7 @@ power-high-with-requires : tie.Need-power-high-with-requires
 power-high-with-requires c κs = search needs
 
 returns : tie.Need-returns
+unfolding powerBracket
 returns c = rw (c .before .power-low-with .ensures, c .power-high-with .ensures)
 
 pub power-with-spec : {M : Type 1} → statement M
