@@ -1,7 +1,8 @@
--- The answer of the public call: a line exactly where header and site are within their ranges, and it stands.
+-- The answer of the public call: a line exactly where header and site are within their ranges, and it stands; otherwise the
+-- first refusal.
 use Prim.Native.Nat.{ℕ, _≤_}
 use mathlib.Core.Path.{_≡_, refl, sym, ap, _∙_}
-use mathlib.Core.Bool.{Bool, true, false, cond, _&&_}
+use mathlib.Core.Bool.{Bool, true, false, _&&_}
 use lib.Dec.{leb}
 use borrow.Author.Tests.{leb-true}
 use Rattle.site.specs.declared.values.Site.{Site}
@@ -13,8 +14,8 @@ use Rattle.model.specs.Predicted.{Header, inLimits}
 use Rattle.prediction.specs.PredictedLaws.{HeaderMost}
 use Rattle.line.specs.declared.Line.{Line}
 use Rattle.line.specs.declared.LineAnswer.{LineAnswer}
-use Rattle.line.specs.declared.LineAnswer.the-variants.{Made, OutsideRange}
-use Rattle.line.specs.Line.{lineOf, lineAnswer}
+use Rattle.line.specs.declared.LineAnswer.the-variants.{Made, OutsideLimits, OutsideRange}
+use Rattle.line.specs.Line.{lineOf, lineNumber, lineRefusal, lineAnswer}
 use Rattle.line.specs.Stands.{LineStands, AnswerStands}
 use Rattle.line.specs.LineLaws.{edition-one-line}
 
@@ -35,39 +36,29 @@ limits-of header e =
     }
 
 module _ (header : Header) (site : Site) where
-  pub none-where-outside : (inLimits header && sound site) ≡ false → OutsideRange ≡ lineAnswer editionOne header site
-  unfolding lineAnswer
-  none-where-outside e = rw e refl
-
-  pub made-where-inside : inLimits header ≡ true → sound site ≡ true → Made (lineOf editionOne header site) ≡ lineAnswer editionOne header site
-  unfolding lineAnswer
-  made-where-inside e f = rw (e, f) refl
-
-  pub made-stands : inLimits header ≡ true → sound site ≡ true → LineStands editionOne header site (lineOf editionOne header site)
+  made-stands : inLimits header ≡ true → sound site ≡ true → LineStands editionOne header site (lineOf editionOne header site)
   made-stands e f = edition-one-line header (limits-of header e) site (record { is-sound = f })
 
-  -- an answer by its definition stands
-  pub answer-stands : (r : LineAnswer) → r ≡ lineAnswer editionOne header site → AnswerStands editionOne header site r
-  unfolding lineAnswer
-  answer-stands r e = rw e (by (inLimits header) (sound site) refl refl)
-    where
-      by : (a b : Bool) → inLimits header ≡ a → sound site ≡ b → AnswerStands editionOne header site (cond (a && b) (Made (lineOf editionOne header site)) OutsideRange)
-      by true true p q = made-stands p q
-      by true false p q = rw (p, q) refl
-      by false b p q = rw p refl
+  -- an answer is its definition's, has document 01's number, and stands
+  abbrev Answered : LineAnswer → Type 0
+  Answered r = (r ≡ lineAnswer editionOne header site) × ((lineNumber r ≡ lineRefusal header site) × AnswerStands editionOne header site r)
 
   -- each way of answering, by the two tests: a is whether the header, b whether the site is within its range
-  abbrev Answered : LineAnswer → Type 0
-  Answered r = (r ≡ lineAnswer editionOne header site) × AnswerStands editionOne header site r
-
-  answered : (r : LineAnswer) → r ≡ lineAnswer editionOne header site → Answered r
-  answered r e = (e, answer-stands r e)
-
-  pub header-outside : (a : Bool) → a ≡ inLimits header → a ≡ false → Answered OutsideRange
-  header-outside a e f = answered OutsideRange (none-where-outside (rw (← e, f) refl))
+  pub header-outside : (a : Bool) → a ≡ inLimits header → a ≡ false → Answered OutsideLimits
+  unfolding lineAnswer lineRefusal
+  header-outside a e f = let out = sym e ∙ f in (rw out refl, (rw out refl, out))
 
   pub site-outside : (a b : Bool) → a ≡ inLimits header → a ≡ true → b ≡ sound site → b ≡ false → Answered OutsideRange
-  site-outside a b e f g h = answered OutsideRange (none-where-outside (rw (← e, f, ← g, h) refl))
+  unfolding lineAnswer lineRefusal
+  site-outside a b e f g h =
+      let within = sym e ∙ f in
+      let out = sym g ∙ h in
+      (rw (within, out) refl, (rw (within, out) refl, (within, out)))
 
-  pub both-inside : (a b : Bool) (line : Line) → a ≡ inLimits header → a ≡ true → b ≡ sound site → b ≡ true → line ≡ lineOf editionOne header site → Answered (Made line)
-  both-inside a b line e f g h l = answered (Made line) (ap Made l ∙ made-where-inside (sym e ∙ f) (sym g ∙ h))
+  pub both-inside : (a b : Bool) (line : Line) → a ≡ inLimits header → a ≡ true → b ≡ sound site → b ≡ true
+      → line ≡ lineOf editionOne header site → Answered (Made line)
+  unfolding lineAnswer lineRefusal
+  both-inside a b line e f g h l =
+      let within = sym e ∙ f in
+      let valid = sym g ∙ h in
+      (rw (within, valid) (ap Made l), (rw (within, valid) refl, rw l (made-stands within valid)))

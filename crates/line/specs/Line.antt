@@ -1,7 +1,7 @@
 -- The line of a site, and the answer of the call that makes it.
 use Prim.Native.Nat.{ℕ, _+_, _*_, _≤_}
 use mathlib.Core.Path.{_≡_}
-use mathlib.Core.Bool.{Bool, cond, _&&_}
+use mathlib.Core.Bool.{Bool, cond}
 use Rattle.estimate.specs.Fraction.{Fraction}
 use Rattle.site.specs.declared.values.Site.{Site}
 use Rattle.site.specs.declared.values.Slot.{Slot}
@@ -14,7 +14,7 @@ use Rattle.prediction.specs.declared.Pair.{Pair}
 use Rattle.prediction.specs.Pair.{predictedPair}
 use Rattle.line.specs.declared.Line.{Line}
 use Rattle.line.specs.declared.LineAnswer.{LineAnswer}
-use Rattle.line.specs.declared.LineAnswer.the-variants.{Made, OutsideRange}
+use Rattle.line.specs.declared.LineAnswer.the-variants.{Made, OutsideLimits, OutsideRange}
 
 -- "Expected low is the formula at predicted low, rounded down; expected high at predicted high, rounded up; without history they
 -- are the predicted pair"
@@ -37,6 +37,16 @@ lineOf c header site =
     let p = predictedPair c header site in
     lineBy p (expectedPair (overdispersionOf c site) (site .observed) p)
 
--- a line, where nothing is outside its range
+-- document 01's number for each case: 0; "years, calibration or sites outside limits", 4; "field outside its range", 8
+abbrev pub lineNumber : LineAnswer → ℕ
+lineNumber (Made line) = 0
+lineNumber OutsideLimits = 4
+lineNumber OutsideRange = 8
+
+-- "one outside its limits is .. 4 .., tried first": the header, then the site
+unfoldable pub lineRefusal : Header → Site → ℕ
+lineRefusal header site = cond (inLimits header) (cond (sound site) 0 8) 4
+
+-- a line, or the first refusal
 unfoldable pub lineAnswer : Coefficients → Header → Site → LineAnswer
-lineAnswer c header site = cond (inLimits header && sound site) (Made (lineOf c header site)) OutsideRange
+lineAnswer c header site = cond (inLimits header) (cond (sound site) (Made (lineOf c header site)) OutsideRange) OutsideLimits

@@ -1,7 +1,7 @@
 -- What is claimed of a site's line, whatever makes it: right at every depth, in order, narrow, and between prediction and history.
 use Prim.Native.Nat.{ℕ, _+_, _*_, _≤_, min, max}
 use mathlib.Core.Path.{_≡_}
-use mathlib.Core.Bool.{false, _&&_}
+use mathlib.Core.Bool.{true, false}
 use Rattle.estimate.specs.Fraction.{Fraction, millionths}
 use Rattle.estimate.specs.Standing.{Between}
 use Rattle.wide.specs.Rounding.{Narrow}
@@ -16,7 +16,7 @@ use Rattle.model.specs.Expected.{expectedUnder, expectedOver}
 use Rattle.model.specs.StatedWidths.{widthParts, predictedEach, expectedEach}
 use Rattle.line.specs.declared.Line.{Line}
 use Rattle.line.specs.declared.LineAnswer.{LineAnswer}
-use Rattle.line.specs.declared.LineAnswer.the-variants.{Made, OutsideRange}
+use Rattle.line.specs.declared.LineAnswer.the-variants.{Made, OutsideLimits, OutsideRange}
 
 -- a number lies from the lesser to the greater of two
 pub record Amid (x y n : ℕ) : Type 0 where
@@ -39,7 +39,9 @@ pub record LineStands (c : Coefficients) (header : Header) (site : Site) (line :
   pub low-amid : (observed : ℕ) → site .observed ≡ Number observed → Amid (line .«predicted_low») (observed * 1000000) (line .«expected_low»)
   pub high-amid : (observed : ℕ) → site .observed ≡ Number observed → Amid (line .«predicted_high») (observed * 1000000) (line .«expected_high»)
 
--- an answer: its line stands, and none is answered only where the header or the site is outside its range
+-- an answer: its line stands; the header is refused only where it is outside its limits, and the site only where it is outside
+-- its range and the header is not
 abbrev pub AnswerStands : Coefficients → Header → Site → LineAnswer → Type 0
 AnswerStands c header site (Made line) = LineStands c header site line
-AnswerStands c header site OutsideRange = (inLimits header && sound site) ≡ false
+AnswerStands c header site OutsideLimits = inLimits header ≡ false
+AnswerStands c header site OutsideRange = (inLimits header ≡ true) × (sound site ≡ false)

@@ -9,7 +9,7 @@ ghost use Rattle.power.specs.Stored.{StoredPowers};
 ghost use Rattle.site.specs.Writing.{Valid};
 ghost use Rattle.model.specs.Coefficients.{editionOne};
 ghost use Rattle.model.specs.Predicted.{headerOf};
-ghost use Rattle.line.specs.Line.{lineOf, lineAnswer};
+ghost use Rattle.line.specs.Line.{lineOf, lineAnswer, lineNumber, lineRefusal};
 ghost use Rattle.line.specs.Stands.{AnswerStands};
 use crate::expected::weigh;
 use exponential::stored::stored_exponentials;
@@ -28,9 +28,10 @@ pub struct Line {
     pub expected_high: u64,
 }
 
-// A site's line, or that the header's values or the site's are outside their range.
+// A site's line, or that a header value is outside its limits, or that the site is outside its range.
 pub enum LineAnswer {
     Made(Line),
+    OutsideLimits,
     OutsideRange,
 }
 
@@ -69,13 +70,15 @@ pub fn line_with(
     }
 }
 
-// The line of a site, or that a header value or the site is outside its range.
+// The line of a site over a header's years and calibrations, or the first refusal: a header value outside its limits, tried
+// before the site outside its range.
 pub fn line_of(years: u64, segments: u64, crossings: u64, site: Site) -> LineAnswer
     ensures { λ r. ⌜ r ≡ lineAnswer editionOne (headerOf years segments crossings) site ⌝ }
+    ensures number { λ r. ⌜ lineNumber r ≡ lineRefusal (headerOf years segments crossings) site ⌝ }
     ensures stands { λ r. ⌜ AnswerStands editionOne (headerOf years segments crossings) site r ⌝ }
 {
     if !header::is_in_limits(years, segments, crossings) {
-        return LineAnswer::OutsideRange;
+        return LineAnswer::OutsideLimits;
     }
     if !site_writer::is_sound(site) {
         return LineAnswer::OutsideRange;

@@ -1,12 +1,12 @@
--- Four numbers stored one after the other at the start of a run.
+-- What is left in a lent run: nothing of a refusal, and four numbers stored one after the other at the start.
 use Prim.Native.Nat.{ℕ, _≤_, _<_}
 use mathlib.Core.Path.{_≡_, refl}
-use mathlib.Core.Bool.{cond}
 use mathlib.Core.List.{List, [], _∷_}
 use native.Mathlib.Omega.{arith}
 use lib.ListN.{length, set, drop}
-use lib.Dec.{ltb}
-use borrow.Author.Tests.{lt-ltb, le-ltb}
+use borrow.Author.Tests.{lt-leb, le-leb}
+use Rattle.site.specs.Lent.{laid}
+use Rattle.unit.specs.Lent.{numberWithin}
 
 four-stored : (run : List ℕ) (a b c d : ℕ) → 4 ≤ length run → set (set (set (set run 0 a) 1 b) 2 c) 3 d ≡ a ∷ b ∷ c ∷ d ∷ drop 4 run
 four-stored [] a b c d h = absurd (omega arith)
@@ -15,14 +15,18 @@ four-stored (v ∷ w ∷ []) a b c d h = absurd (omega arith)
 four-stored (v ∷ w ∷ x ∷ []) a b c d h = absurd (omega arith)
 four-stored (v ∷ w ∷ x ∷ y ∷ run) a b c d h = refl
 
--- four numbers, without and with space for them: the call's number, and the run afterwards
-module _ (run : List ℕ) (a b c d : ℕ) where
-  abbrev afterwards : List ℕ
-  afterwards = cond (ltb (length run) 4) run (a ∷ b ∷ c ∷ d ∷ drop 4 run)
+-- values lent with a number: what a call answers, and the run afterwards
+abbrev pub Told : (number : ℕ) (values : List ℕ) (answered : ℕ) (run afterwards : List ℕ) → Type 0
+Told number values answered run afterwards = (answered ≡ numberWithin number values (length run)) × (afterwards ≡ laid values run)
 
-  pub no-space : length run < 4 → (_≡_ {A = ℕ} 10 (cond (ltb (length run) 4) 10 0)) × (run ≡ afterwards)
-  no-space h = rw (lt-ltb (length run) 4 h) (refl, refl)
+-- a refusal; four numbers, without and with space for them
+module _ (run : List ℕ) where
+  pub refused : (number : ℕ) → Told number [] number run run
+  refused number = rw (le-leb 0 (length run) (omega arith)) (refl, refl)
 
-  pub lent : 4 ≤ length run
-      → (_≡_ {A = ℕ} 0 (cond (ltb (length run) 4) 10 0)) × (set (set (set (set run 0 a) 1 b) 2 c) 3 d ≡ afterwards)
-  lent h = rw (le-ltb (length run) 4 h) (refl, four-stored run a b c d h)
+  module _ (a b c d : ℕ) where
+    pub no-space : length run < 4 → Told 0 (a ∷ b ∷ c ∷ d ∷ []) 10 run run
+    no-space h = rw (lt-leb 4 (length run) h) (refl, refl)
+
+    pub lent : 4 ≤ length run → Told 0 (a ∷ b ∷ c ∷ d ∷ []) 0 run (set (set (set (set run 0 a) 1 b) 2 c) 3 d)
+    lent h = rw (le-leb 4 (length run) h) (refl, four-stored run a b c d h)

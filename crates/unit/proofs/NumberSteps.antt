@@ -6,7 +6,7 @@ use Prim.Native.Nat.{ℕ, suc, _+_, _<_, _≤_}
 use native.Mathlib.Omega.{arith}
 use lib.ListN.{length, getD, drop, set}
 use lib.Dec.{leb}
-use borrow.Author.Tests.{lt-leb, le-leb, eq-eqb, ne-eqb}
+use borrow.Author.Tests.{lt-leb, le-leb}
 use lib.Seq.{sets, sets-eq}
 use Rattle.site.specs.declared.values.Slot.{Slot}
 use Rattle.site.specs.declared.values.Site.{Site}
@@ -16,19 +16,22 @@ use Rattle.site.specs.Rules.{slotCount}
 use Rattle.site.specs.declared.values.WriteAnswer.{WriteAnswer}
 use Rattle.site.specs.declared.values.WriteAnswer.the-variants.{Written, Unwritten}
 use Rattle.site.specs.Record.{siteOf, readSite}
-use Rattle.site.specs.Writing.{slotsOf}
-use Rattle.unit.specs.SiteNumbers.{code, readValues, siteFrom, siteNumbers, answerNumbers, answerFrom, intoFrom}
+use Rattle.site.specs.Writing.{slotsOf, writeAnswer, writeInto}
+use Rattle.unit.specs.SiteNumbers.{code, readValues, slotFrom, kindFrom, slotNumbers, siteFrom, siteNumbers, answerNumbers}
 use Rattle.site.specs.Promises.{WritesSite}
 use Rattle.unit.specs.SiteNumbers.{ReadsNumbers, WritesNumbers}
 use Rattle.site.proofs.Walk.{next, at-end, sets-append}
 
 -- a loop that stores f of each element, from one place past its index
-module _ {A : Type 0} (f : A → ℕ) (xs : List A) (i : ℕ) (l whole : List ℕ) (count : length xs ≡ slotCount) (inv : sets l (1 + i) (map f (drop i xs)) ≡ whole) where
+module _ {A : Type 0} (f : A → ℕ) (xs : List A) (i : ℕ) (l whole : List ℕ) (count : length xs ≡ slotCount)
+    (inv : sets l (1 + i) (map f (drop i xs)) ≡ whole) where
   pub store-more : (d : A) (x : ℕ) → i < slotCount → x ≡ f (getD xs i d)
       → sets (set l (1 + i) x) (1 + (i + 1)) (map f (drop (i + 1) xs)) ≡ whole
   store-more d x h ex =
       let w : i < length xs = omega arith in
-      let s : sets (set l (1 + i) (f (getD xs i d))) (suc (1 + i)) (map f (drop (i + 1) xs)) ≡ whole = ap (λ (r : List A). sets l (1 + i) (map f r)) (sym (next xs i d w)) ∙ inv in
+      let s : sets (set l (1 + i) (f (getD xs i d))) (suc (1 + i)) (map f (drop (i + 1) xs)) ≡ whole =
+      ap (λ (r : List A). sets l (1 + i) (map f r)) (sym (next xs i d w)) ∙ inv
+      in
       let j : 1 + (i + 1) ≡ suc (1 + i) = omega arith in
       rw (ex, j) s
 
@@ -63,33 +66,32 @@ module _ (part before : List ℕ) (answer : SiteAnswer) (ea : answer ≡ readSit
         let l : leb answerNumbers (length before) ≡ true = le-leb answerNumbers (length before) h in
         record { number-is = rw (q, l); values-are = rw (q, l) (es ∙ sets-eq (readValues (Read site n)) before 0 (omega arith)) }
 
--- a site by its parts
-pub same-site : (kind other : ℕ) (slots others : List Slot) → kind ≡ other → slots ≡ others
-    → siteOf kind slots ≡ siteOf other others
-same-site kind other slots others p q = ap (λ (k : ℕ). siteOf k slots) p ∙ ap (siteOf other) q
+-- the site of a run of numbers, too few or enough
+module _ (numbers : List ℕ) where
+  pub few-numbers : length numbers < siteNumbers → siteOf 255 [] ≡ siteFrom numbers
+  unfolding siteFrom
+  few-numbers h = rw (lt-leb siteNumbers (length numbers) h)
 
-module _ (numbers before : List ℕ) where
-  pub no-numbers : (n : ℕ) → (length numbers ≡ siteNumbers → ⊥) → WritesNumbers numbers before before n n 8
-  unfolding answerFrom intoFrom
-  no-numbers n h =
-      let e = ne-eqb (length numbers) siteNumbers h in
-      record { number-is = rw e; buffer-is = rw e; length-is = rw e }
+  pub enough-numbers : siteNumbers ≤ length numbers → (kind : ℕ) (slots : List Slot) → kind ≡ kindFrom (getD numbers 0 0)
+      → slots ≡ map slotFrom (slotNumbers numbers) → siteOf kind slots ≡ siteFrom numbers
+  unfolding siteFrom
+  enough-numbers h kind slots p q = rw (le-leb siteNumbers (length numbers) h, p, q)
 
-  module _ (afterwards : List ℕ) (n : ℕ) (h : length numbers ≡ siteNumbers) (site : Site) (es : site ≡ siteFrom numbers) (answer : WriteAnswer) (w : WritesSite site before afterwards answer) where
-    answer-from : answerFrom numbers (length before) ≡ answer
-    unfolding answerFrom
-    answer-from = rw (eq-eqb (length numbers) siteNumbers h, ← es) (sym (w .answer-is))
+-- the writer's answer for that site, told by its number and its length
+module _ (numbers before afterwards : List ℕ) (n : ℕ) (site : Site) (es : site ≡ siteFrom numbers) (answer : WriteAnswer)
+    (w : WritesSite site before afterwards answer) where
+  answer-from : writeAnswer (siteFrom numbers) (length before) ≡ answer
+  answer-from = rw (← es) (sym (w .answer-is))
 
-    into-from : intoFrom numbers before ≡ afterwards
-    unfolding intoFrom
-    into-from = rw (eq-eqb (length numbers) siteNumbers h, ← es) (sym (w .buffer-is))
+  into-from : afterwards ≡ writeInto (siteFrom numbers) before
+  into-from = rw (← es) (w .buffer-is)
 
-    pub unwritten-numbers : (number : ℕ) → answer ≡ Unwritten number → WritesNumbers numbers before afterwards n n number
-    unwritten-numbers number e =
-        let a : answerFrom numbers (length before) ≡ Unwritten number = answer-from ∙ e in
-        record { number-is = rw a; buffer-is = sym into-from; length-is = rw a }
+  pub unwritten-numbers : (number : ℕ) → answer ≡ Unwritten number → WritesNumbers numbers before afterwards n n number
+  unwritten-numbers number e =
+      let a : writeAnswer (siteFrom numbers) (length before) ≡ Unwritten number = answer-from ∙ e in
+      record { number-is = rw a; buffer-is = into-from; length-is = rw a }
 
-    pub written-numbers : (m : ℕ) → answer ≡ Written m → WritesNumbers numbers before afterwards n m 0
-    written-numbers m e =
-        let a : answerFrom numbers (length before) ≡ Written m = answer-from ∙ e in
-        record { number-is = rw a; buffer-is = sym into-from; length-is = rw a }
+  pub written-numbers : (m : ℕ) → answer ≡ Written m → WritesNumbers numbers before afterwards n m 0
+  written-numbers m e =
+      let a : writeAnswer (siteFrom numbers) (length before) ≡ Written m = answer-from ∙ e in
+      record { number-is = rw a; buffer-is = into-from; length-is = rw a }

@@ -1,6 +1,7 @@
 -- What the exported calls leave in lent runs of numbers.
 pub mod Lent
 pub mod SiteNumbers
-pub mod Malformed
+pub mod Coding
 pub mod LineNumbers
 pub mod ProjectNumbers
+pub mod Malformed

@@ -2,21 +2,27 @@
 use Prim.Native.Nat.{ℕ}
 use mathlib.Core.Path.{_≡_}
 use mathlib.Core.Bool.{cond}
-use mathlib.Core.List.{List, [], _∷_, _++_}
-use lib.ListN.{length, getD, drop}
-use lib.Dec.{ltb, eqb}
+use mathlib.Core.List.{List, [], _∷_}
+use lib.ListN.{length, getD}
+use lib.Dec.{leb}
+use Rattle.site.specs.declared.values.Site.{Site}
+use Rattle.site.specs.Lent.{laid}
+use Rattle.site.specs.Writing.{sound}
 use Rattle.model.specs.Coefficients.{editionOne}
-use Rattle.model.specs.Predicted.{Header}
+use Rattle.model.specs.Predicted.{Header, inLimits}
 use Rattle.line.specs.declared.Line.{Line}
 use Rattle.line.specs.declared.LineAnswer.{LineAnswer}
-use Rattle.line.specs.declared.LineAnswer.the-variants.{Made, OutsideRange}
-use Rattle.line.specs.Line.{lineAnswer}
+use Rattle.line.specs.declared.LineAnswer.the-variants.{Made, OutsideLimits, OutsideRange}
+use Rattle.line.specs.Line.{lineAnswer, lineNumber}
 use Rattle.line.specs.Stands.{LineStands}
-use Rattle.unit.specs.SiteNumbers.{siteFrom, siteNumbers}
+use Rattle.unit.specs.Lent.{numberWithin}
+use Rattle.unit.specs.SiteNumbers.{siteFrom}
 
--- "predicted low, predicted high, expected low, expected high"
-abbrev pub lineNumbers : Line → List ℕ
-lineNumbers line = line .«predicted_low» ∷ line .«predicted_high» ∷ line .«expected_low» ∷ line .«expected_high» ∷ []
+-- the values of an answer: "predicted low, predicted high, expected low, expected high"; a refusal has none
+abbrev pub lineValues : LineAnswer → List ℕ
+lineValues (Made line) = line .«predicted_low» ∷ line .«predicted_high» ∷ line .«expected_low» ∷ line .«expected_high» ∷ []
+lineValues OutsideLimits = []
+lineValues OutsideRange = []
 
 -- the line that a run starts with
 abbrev pub lineAt : List ℕ → Line
@@ -27,28 +33,18 @@ lineAt run = record {
   «expected_high» = getD run 3 0;
 }
 
--- a header value or a site outside its range: 8; too little space is 10, tried after it
-abbrev pub lineNumber : LineAnswer → ℕ → ℕ
-lineNumber OutsideRange room = 8
-lineNumber (Made line) room = cond (ltb room 4) 10 0
-
--- the run afterwards: "Lent memory that a call doesn't write stays as it was"
-abbrev pub lineInto : LineAnswer → List ℕ → List ℕ
-lineInto OutsideRange run = run
-lineInto (Made line) run = cond (ltb (length run) 4) run (lineNumbers line ++ drop 4 run)
-
--- an answer lent
+-- an answer lent: the number, and the run afterwards
 pub record LendsLine (answer : LineAnswer) (before afterwards : List ℕ) (number : ℕ) : Type 0 where
-  pub number-is : number ≡ lineNumber answer (length before)
-  pub run-is : afterwards ≡ lineInto answer before
+  pub number-is : number ≡ numberWithin (lineNumber answer) (lineValues answer) (length before)
+  pub run-is : afterwards ≡ laid (lineValues answer) before
 
--- edition 1's answer for a site as numbers: any other count than kind and slots is outside its range
-unfoldable pub lineFrom : Header → List ℕ → LineAnswer
-lineFrom header numbers = cond (eqb (length numbers) siteNumbers) (lineAnswer editionOne header (siteFrom numbers)) OutsideRange
+-- THE ORDER of the call's numbers: a header value outside its limits, 4; the site outside its range, 8; too little space, 10
+unfoldable pub lineOrder : Header → Site → ℕ → ℕ
+lineOrder header site room = cond (inLimits header) (cond (sound site) (cond (leb 4 room) 0 10) 8) 4
 
--- a site's line made from a lent run of numbers: the number, and the other run afterwards; where the number is 0, the line that
--- it starts with is right at every depth, in order, narrow, and between prediction and history
+-- a site's line made from a lent run of numbers: edition 1's answer lent, in that order; where the number is 0, the line that the
+-- other run starts with afterwards is right at every depth, in order, narrow, and between prediction and history
 pub record LinesNumbers (header : Header) (numbers before afterwards : List ℕ) (number : ℕ) : Type 0 where
-  pub number-is : number ≡ lineNumber (lineFrom header numbers) (length before)
-  pub line-is : afterwards ≡ lineInto (lineFrom header numbers) before
+  pub lends : LendsLine (lineAnswer editionOne header (siteFrom numbers)) before afterwards number
+  pub in-order : number ≡ lineOrder header (siteFrom numbers) (length before)
   pub stands : number ≡ 0 → LineStands editionOne header (siteFrom numbers) (lineAt afterwards)

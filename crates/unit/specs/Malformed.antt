@@ -1,71 +1,53 @@
--- Numbers that are no site are outside their range: the writer refuses them with 8.
-use mathlib.Core.Path.{_≡_, refl, _∙_}
+-- Numbers that are no site are outside their range: the calls that take a site refuse them with 8.
+use mathlib.Core.Path.{_≡_, refl, sym, _∙_}
 use mathlib.Core.Bool.{Bool, true, false}
-use mathlib.Core.List.{List, [], _∷_, map}
-use Prim.Native.Nat.{ℕ, zero, suc, _<_, _≤_}
+use mathlib.Core.List.{List}
+use Prim.Native.Nat.{ℕ, _+_, _<_, _≤_}
 use native.Mathlib.Omega.{arith}
-use lib.ListN.{length, getD, drop, length-drop, length-map, List·getD-map}
-use lib.Dec.{leb, ltb}
-use borrow.Author.Tests.{ltb-true, le-ltb, ne-eqb, leb-true}
-use Rattle.site.specs.declared.rules.Rule.{Rule}
-use Rattle.site.specs.declared.rules.Rule.the-variants.{Lacking}
-use Rattle.site.specs.declared.values.Slot.{Slot}
-use Rattle.site.specs.declared.values.Slot.the-variants.{Number}
-use Rattle.site.specs.Rules.{entriesOf, lastKind, slotCount, allows}
-use Rattle.site.specs.Writing.{curveHeld, rulesHeld, fits, allFit, sound}
-use Rattle.unit.specs.SiteNumbers.{slotFrom, kindFrom, siteFrom, siteNumbers}
-use Rattle.site.specs.Truth.{and-left, and-right}
-use Rattle.site.specs.Tested.{top, topsLow, allows-top, tested-rules}
-use Rattle.site.specs.ReadWrite.{slots-of-site}
+use lib.ListN.{length, getD, drop}
+use lib.Seq.{getD-take, getD-drop}
+use Rattle.site.specs.Rules.{slotCount}
+use Rattle.site.specs.Writing.{sound, writeRefusal}
+use Rattle.site.specs.Promises.{number-written}
+use Rattle.model.specs.Predicted.{Header, inLimits}
+use Rattle.unit.specs.SiteNumbers.{slotNumbers, siteFrom, siteNumbers, WritesNumbers}
+use Rattle.unit.specs.LineNumbers.{lineOrder, LinesNumbers}
+use Rattle.unit.specs.Coding.{enough, kind-small, slots-small}
 
-fit-at : (rules : List Rule) (slots : List Slot) (i : ℕ) (d : Slot) → allFit rules slots ≡ true → i < length rules
-    → i < length slots → fits (getD rules i Lacking) (getD slots i d) ≡ true
-unfolding allFit
-fit-at [] slots i d e h k = let z : ⊥ = omega arith in absurd z
-fit-at (rule ∷ rules) [] i d e h k = let z : ⊥ = omega arith in absurd z
-fit-at (rule ∷ rules) (slot ∷ slots) zero d e h k = and-left (fits rule slot) (allFit rules slots) e
-fit-at (rule ∷ rules) (slot ∷ slots) (suc i) d e h k =
-    fit-at rules slots i d (and-right (fits rule slot) (allFit rules slots) e) (omega arith) (omega arith)
-
-top-at : (rules : List Rule) (i : ℕ) → topsLow rules ≡ true → top (getD rules i Lacking) < 65535
-unfolding topsLow
-top-at [] i e = omega arith
-top-at (rule ∷ rules) zero e = ltb-true (top rule) 65535 (and-left (ltb (top rule) 65535) (topsLow rules) e)
-top-at (rule ∷ rules) (suc i) e = top-at rules i (and-right (ltb (top rule) 65535) (topsLow rules) e)
-
-too-large : (number : ℕ) → 65536 < number → slotFrom number ≡ Number 65535
-too-large number h = rw (le-ltb number 65536 (omega arith), ne-eqb number 65536 (λ e. omega arith))
-
-module _ (numbers : List ℕ) (count : length numbers ≡ siteNumbers) (i : ℕ) (h : i < slotCount) (large : 65536 < getD (drop 1 numbers) i 0) where
-  slots-count : length (map slotFrom (drop 1 numbers)) ≡ slotCount
-  slots-count = length-map (drop 1 numbers) slotFrom ∙ omega (arith, length-drop 1 numbers)
-
-  held : getD (map slotFrom (drop 1 numbers)) i (slotFrom 0) ≡ Number 65535
-  held = List·getD-map slotFrom (drop 1 numbers) i 0 ∙ too-large (getD (drop 1 numbers) i 0) large
-
-  never : sound (siteFrom numbers) ≡ true → ⊥
-  unfolding sound
-  never e =
-      let kind = kindFrom (getD numbers 0 0) in
-      let slots = map slotFrom (drop 1 numbers) in
-      let rules = rulesHeld kind slots in
-      let hk : kind ≤ lastKind = leb-true kind lastKind (and-left (leb kind lastKind) _ e) in
-      let fit : allFit rules slots ≡ true = rw (slots-of-site kind slots slots-count) at (and-right (leb kind lastKind) _ e) in
-      let s = tested-rules kind (curveHeld (entriesOf kind) slots) hk in
-      let inside : i < length rules = rw (s .count) h in
-      let among : i < length slots = rw slots-count h in
-      let f : allows (getD rules i Lacking) 65535 ≡ true = rw held at (fit-at rules slots i (slotFrom 0) fit inside among) in
-      omega (arith, allows-top (getD rules i Lacking) 65535 f, top-at rules i (s .tops-low))
-
-  -- a slot above 65,536
-  pub slot-outside : sound (siteFrom numbers) ≡ false
-  slot-outside = by (sound (siteFrom numbers)) refl
+module _ (numbers : List ℕ) where
+  unsound : (sound (siteFrom numbers) ≡ true → ⊥) → sound (siteFrom numbers) ≡ false
+  unsound never = by (sound (siteFrom numbers)) refl
     where
       by : (b : Bool) → sound (siteFrom numbers) ≡ b → b ≡ false
       by true e = absurd (never e)
       by false e = refl
 
--- a kind above 255
-pub kind-outside : (numbers : List ℕ) → 255 < getD numbers 0 0 → sound (siteFrom numbers) ≡ false
-unfolding sound
-kind-outside numbers h = rw (le-ltb (getD numbers 0 0) 256 h)
+  -- fewer numbers than a kind and twenty slots
+  pub few-outside : length numbers < siteNumbers → sound (siteFrom numbers) ≡ false
+  few-outside h = unsound (λ e. omega (arith, enough numbers e))
+
+  -- a kind above 255
+  pub kind-outside : 255 < getD numbers 0 0 → sound (siteFrom numbers) ≡ false
+  kind-outside h = unsound (λ e. omega (arith, kind-small numbers e))
+
+  -- a slot above 65,536
+  pub slot-outside : (i : ℕ) → i < slotCount → 65536 < getD numbers (1 + i) 0 → sound (siteFrom numbers) ≡ false
+  slot-outside i h large =
+      let at : getD (slotNumbers numbers) i 0 ≡ getD numbers (1 + i) 0 = getD-take slotCount (drop 1 numbers) i 0 h ∙ getD-drop 1 numbers i 0 in
+      unsound (λ e. omega (arith, at, slots-small numbers e i))
+
+  -- what the calls answer then: 8, of a line after the header's 4
+  module _ (before afterwards : List ℕ) (number : ℕ) where
+    pub eight-written : (length-before length-after : ℕ) → sound (siteFrom numbers) ≡ false
+        → WritesNumbers numbers before afterwards length-before length-after number → number ≡ 8
+    unfolding writeRefusal
+    eight-written length-before length-after e w = w .number-is ∙ number-written (siteFrom numbers) (length before) ∙ rw e refl
+
+    pub four-lined : (header : Header) → inLimits header ≡ false → LinesNumbers header numbers before afterwards number → number ≡ 4
+    unfolding lineOrder
+    four-lined header e l = l .in-order ∙ rw e refl
+
+    pub eight-lined : (header : Header) → inLimits header ≡ true → sound (siteFrom numbers) ≡ false
+        → LinesNumbers header numbers before afterwards number → number ≡ 8
+    unfolding lineOrder
+    eight-lined header e f l = l .in-order ∙ rw (e, f) refl

@@ -3,20 +3,19 @@ use Prim.Native.Nat.{ℕ, _+_}
 use mathlib.Core.Path.{_≡_}
 use mathlib.Core.Bool.{cond}
 use mathlib.Core.List.{List, [], _∷_, _++_, map}
-use lib.ListN.{length, getD, drop}
+use lib.ListN.{length, getD, take, drop}
 use lib.Dec.{leb, ltb, eqb}
 use Rattle.site.specs.declared.values.Slot.{Slot}
 use Rattle.site.specs.declared.values.Slot.the-variants.{Absent, Number}
 use Rattle.site.specs.declared.values.Site.{Site}
 use Rattle.site.specs.declared.values.SiteAnswer.{SiteAnswer}
 use Rattle.site.specs.declared.values.SiteAnswer.the-variants.{Read, Refused}
-use Rattle.site.specs.declared.values.WriteAnswer.{WriteAnswer}
-use Rattle.site.specs.declared.values.WriteAnswer.the-variants.{Unwritten}
 use Rattle.site.specs.Rules.{slotCount}
 use Rattle.site.specs.Answers.{readNumber, writeNumber, writeLength}
 use Rattle.site.specs.Lent.{laid}
 use Rattle.site.specs.Record.{siteOf, readSite}
 use Rattle.site.specs.Writing.{slotsOf, writeAnswer, writeInto}
+use Rattle.unit.specs.Lent.{numberWithin}
 
 -- an absent slot is 65,536, which no two bytes hold
 abbrev pub code : Slot → ℕ
@@ -28,10 +27,6 @@ abbrev pub readValues : SiteAnswer → List ℕ
 readValues (Read site n) = site .kind ∷ (map code (slotsOf site) ++ (n ∷ []))
 readValues (Refused number) = []
 
--- the number for a lent run of so many numbers: 10 where an answer's values do not fit, tried last
-abbrev pub numberWithin : SiteAnswer → ℕ → ℕ
-numberWithin answer room = cond (leb (length (readValues answer)) room) (readNumber answer) 10
-
 -- a number that is no code stands for 65,535, which no rule allows, and one that is no byte for the kind 255
 abbrev pub slotFrom : ℕ → Slot
 slotFrom number = cond (ltb number 65536) (Number number) (cond (eqb number 65536) Absent (Number 65535))
@@ -39,10 +34,7 @@ slotFrom number = cond (ltb number 65536) (Number number) (cond (eqb number 6553
 abbrev pub kindFrom : ℕ → ℕ
 kindFrom number = cond (ltb number 256) number 255
 
-abbrev pub siteFrom : List ℕ → Site
-siteFrom numbers = siteOf (kindFrom (getD numbers 0 0)) (map slotFrom (drop 1 numbers))
-
--- kind and slots: any other count is outside its range
+-- kind and slots
 abbrev pub siteNumbers : ℕ
 siteNumbers = 1 + slotCount
 
@@ -50,19 +42,21 @@ siteNumbers = 1 + slotCount
 abbrev pub answerNumbers : ℕ
 answerNumbers = 1 + siteNumbers
 
-unfoldable pub answerFrom : List ℕ → ℕ → WriteAnswer
-answerFrom numbers room = cond (eqb (length numbers) siteNumbers) (writeAnswer (siteFrom numbers) room) (Unwritten 8)
+-- the site that a run of numbers starts with: what follows kind and slots bears on nothing. Fewer numbers stand for a site of the
+-- kind 255 too, which is outside its range
+abbrev pub slotNumbers : List ℕ → List ℕ
+slotNumbers numbers = take slotCount (drop 1 numbers)
 
-unfoldable pub intoFrom : List ℕ → List ℕ → List ℕ
-intoFrom numbers before = cond (eqb (length numbers) siteNumbers) (writeInto (siteFrom numbers) before) before
+unfoldable pub siteFrom : List ℕ → Site
+siteFrom numbers = cond (leb siteNumbers (length numbers)) (siteOf (kindFrom (getD numbers 0 0)) (map slotFrom (slotNumbers numbers))) (siteOf 255 [])
 
 -- a site read into a lent run of numbers: the number, and the run afterwards
 pub record ReadsNumbers (part before afterwards : List ℕ) (number : ℕ) : Type 0 where
-  pub number-is : number ≡ numberWithin (readSite part) (length before)
+  pub number-is : number ≡ numberWithin (readNumber (readSite part)) (readValues (readSite part)) (length before)
   pub values-are : afterwards ≡ laid (readValues (readSite part)) before
 
 -- a site written from a lent run of numbers: the number, the buffer and the record's length afterwards
 pub record WritesNumbers (numbers before afterwards : List ℕ) (length-before length-after number : ℕ) : Type 0 where
-  pub number-is : number ≡ writeNumber (answerFrom numbers (length before))
-  pub buffer-is : afterwards ≡ intoFrom numbers before
-  pub length-is : length-after ≡ writeLength (answerFrom numbers (length before)) length-before
+  pub number-is : number ≡ writeNumber (writeAnswer (siteFrom numbers) (length before))
+  pub buffer-is : afterwards ≡ writeInto (siteFrom numbers) before
+  pub length-is : length-after ≡ writeLength (writeAnswer (siteFrom numbers) (length before)) length-before

@@ -1,5 +1,6 @@
 // The site reader and the site writer for programs in other languages. A site is a run of numbers:
-// the kind, then its twenty slots in the order of the struct, an absent one coded as 65,536.
+// the kind, then its twenty slots in the order of the struct, an absent one coded as 65,536. The reader leaves the record's
+// length after them; the calls that take a site read the first 21 numbers, so that a run is handed on as it was left.
 ghost use mathlib.Core.Path.{_≡_};
 ghost use mathlib.Core.List.{map};
 ghost use Prim.Native.Nat.{_≤_};
@@ -17,7 +18,7 @@ use site::values::WriteAnswer;
 
 const ABSENT: u64 = 65536;
 
-pub const SITE_NUMBERS: usize = SLOTS + 1;
+const SITE_NUMBERS: usize = SLOTS + 1;
 
 const ANSWER_NUMBERS: usize = SLOTS + 2;
 
@@ -87,11 +88,13 @@ fn slot_from(number: u64) -> Slot
     }
 }
 
+const NO_KIND: u8 = 255;
+
 // A number that is no byte is taken for 255, which is no kind.
 fn kind_from(number: u64) -> u8
     ensures { λ r. ⌜ r ≡ kindFrom number ⌝ }
 {
-    if number < 256 { number as u8 } else { 255 }
+    if number < 256 { number as u8 } else { NO_KIND }
 }
 
 fn slots_from(numbers: &[u64]) -> [Slot; SLOTS]
@@ -108,24 +111,26 @@ fn slots_from(numbers: &[u64]) -> [Slot; SLOTS]
     slots
 }
 
+// The site of the first 21 numbers; fewer are taken for a site of the kind 255.
 pub fn site_from(values: &[u64]) -> Site
-    requires { ⌜ length (now values) ≡ siteNumbers ⌝ }
     ensures { λ r. ⌜ r ≡ siteFrom (now (values .entry)) ⌝ }
 {
+    if values.len() < SITE_NUMBERS {
+        let none = Slot::Absent;
+        return site_reader::site_of(NO_KIND, [none; SLOTS]);
+    }
     let kind = kind_from(values[0]);
-    site_reader::site_of(kind, slots_from(&values[1..]))
+    site_reader::site_of(kind, slots_from(&values[1..SITE_NUMBERS]))
 }
 
-// Writes the record of a site from the start of the buffer: 0, with the record's length in written;
-// or 8 or 10, and buffer and written as they were. Values that are not 21 numbers, the kind below
-// 256 and each slot at most 65,536, are outside their range: 8.
+// Writes the record of a site from the start of the buffer: 0, with the record's length in written and the rest of the buffer
+// as it was; or 8 where the site is outside its range, then 10 where the buffer is shorter than the record, and buffer and
+// written as they were. The site is the first 21 numbers of values, and what follows them bears on nothing; fewer numbers, a
+// kind above 255 or a slot above 65,536 are outside their range: 8.
 #[no_mangle]
 pub extern "C" fn crash_site_write(values: &[u64], buffer: &mut [u8], written: &mut u64) -> u64
     ensures { λ r. ⌜ WritesNumbers (now (values .entry)) (now (buffer .entry)) (now (buffer .exit)) (now (written .entry)) (now (written .exit)) r ⌝ }
 {
-    if values.len() != SITE_NUMBERS {
-        return 8;
-    }
     let answer = site_writer::write_site(site_from(values), buffer);
     match answer {
         WriteAnswer::Unwritten(number) => number as u64,

@@ -16,8 +16,9 @@ extern "C" {
     fn crash_exponential_negative(x: u64, ends: *mut u64, ends_len: usize) -> u64;
 }
 
-/// The numbers of a call that lends a bracket.
+/// The numbers of a call that lends a bracket or a line.
 pub const DONE: u64 = 0;
+pub const OUTSIDE_LIMITS: u64 = 4;
 pub const OUT_OF_RANGE: u64 = 8;
 pub const TOO_SHORT: u64 = 10;
 

@@ -2,8 +2,8 @@
 //! depths, on random and extreme sites, and its refusals.
 
 use engine::lines::{line, line_into, numbers_of_header};
-use engine::sites::numbers_of;
-use engine::{DONE, OUT_OF_RANGE, TOO_SHORT};
+use engine::sites::{numbers_of, read_into};
+use engine::{DONE, OUTSIDE_LIMITS, OUT_OF_RANGE, TOO_SHORT};
 use reference::checker::{site_line_faults, site_standing_faults, Wrong};
 use reference::generate::{self, Random};
 use reference::model::FIRST_EDITION;
@@ -244,19 +244,26 @@ fn refusal(header: [u64; 3], values: &[u64], room: usize) -> u64 {
     number
 }
 
+/// A header with one value outside its limits is 4, tried before the site and
+/// the room.
 #[test]
 fn headers_outside_limits() {
-    let wrong_years = [0, 11, 255, 257, u64::MAX];
-    let wrong_calibrations = [0, 10_000, 65_535, 66_536, (1 << 32) + 1, u64::MAX];
+    let mut wrong_headers = Vec::new();
+    for years in [0, 11, 255, 257, u64::MAX] {
+        wrong_headers.push([years, 1, 1]);
+    }
+    for calibration in [0, 10_000, 65_535, 66_536, (1 << 32) + 1, u64::MAX] {
+        wrong_headers.push([1, calibration, 1]);
+        wrong_headers.push([1, 1, calibration]);
+    }
     for kind in KINDS {
         let values = numbers_of(&Site::plain(kind, 1_000, 500));
-        for room in 0..=BEFORE.len() {
-            for years in wrong_years {
-                assert_eq!(refusal([years, 1, 1], &values, room), OUT_OF_RANGE);
-            }
-            for calibration in wrong_calibrations {
-                assert_eq!(refusal([1, calibration, 1], &values, room), OUT_OF_RANGE);
-                assert_eq!(refusal([1, 1, calibration], &values, room), OUT_OF_RANGE);
+        let outside = numbers_of(&Site::plain(kind, 20_001, 500));
+        for header in &wrong_headers {
+            for room in 0..=BEFORE.len() {
+                for values in [&values[..], &outside[..], &values[..20], &[]] {
+                    assert_eq!(refusal(*header, values, room), OUTSIDE_LIMITS);
+                }
             }
         }
         for header in [[1, 1, 9_999], [10, 9_999, 1]] {
@@ -292,14 +299,36 @@ fn sites_that_the_writer_refuses() {
 fn numbers_that_are_no_site() {
     let numbers = numbers_of(&Site::plain(0, 1_000, 500));
     let header = [5, 1_000, 1_000];
-    for wrong in [&numbers[..20], &[&numbers[..], &[0]].concat()[..], &[]] {
-        assert_eq!(refusal(header, wrong, 5), OUT_OF_RANGE);
+    for few in 0..numbers.len() {
+        for room in [0, 5] {
+            assert_eq!(refusal(header, &numbers[..few], room), OUT_OF_RANGE);
+        }
     }
     for place in 0..numbers.len() {
         for number in [65_537, 1 << 32, u64::MAX] {
             let mut wrong = numbers;
             wrong[place] = number;
             assert_eq!(refusal(header, &wrong, 5), OUT_OF_RANGE, "{place}");
+        }
+    }
+}
+
+/// The run that the reader left, its record's length and what follows it
+/// included, has the line of its first 21 numbers.
+#[test]
+fn a_read_site_is_handed_on_as_it_was_left() {
+    let mut random = Random::new(34);
+    for _ in 0..2_000 {
+        let header = generate::header(&mut random);
+        let site = generate::site(&mut random);
+        let record = write_site(&site, usize::MAX).expect("a generated site");
+        let mut values = [u64::MAX; 25];
+        assert_eq!(read_into(&record, &mut values), DONE);
+        let expected = made(&header, &site);
+        for count in 21..=25 {
+            let mut line = [0; 4];
+            let number = line_into(numbers_of_header(&header), &values[..count], &mut line);
+            assert_eq!((number, line), (DONE, expected), "{count} {site:?}");
         }
     }
 }

@@ -151,13 +151,37 @@ fn numbers_that_are_no_site() {
     let site = Site::plain(0, 1_000, 500);
     let numbers = engine::sites::numbers_of(&site);
     assert_eq!(write_numbers(&numbers, 40).map(|bytes| bytes.len()), Ok(7));
-    for wrong in [&numbers[..20], &[&numbers[..], &[0]].concat()[..], &[]] {
-        assert_eq!(write_numbers(wrong, 40), Err(cause::RANGE));
+    for few in 0..numbers.len() {
+        for room in [0, 40] {
+            assert_eq!(write_numbers(&numbers[..few], room), Err(cause::RANGE));
+        }
     }
     for place in 0..numbers.len() {
         let mut wrong = numbers;
         wrong[place] = u64::MAX;
         assert_eq!(write_numbers(&wrong, 40), Err(cause::RANGE), "{place}");
+    }
+}
+
+/// The run that the reader left, its record's length and what follows it
+/// included, is written as the record that was read.
+#[test]
+fn a_read_site_is_handed_on_as_it_was_left() {
+    let mut random = Random::new(14);
+    for _ in 0..20_000 {
+        let site = generate::site(&mut random);
+        let record = record::write_site(&site, usize::MAX).expect("a generated site");
+        let mut values = [u64::MAX; 25];
+        assert_eq!(engine::sites::read_into(&record, &mut values), 0);
+        assert_eq!(values[..21], engine::sites::numbers_of(&site));
+        assert_eq!(
+            values[21..],
+            [record.len() as u64, u64::MAX, u64::MAX, u64::MAX]
+        );
+        for count in 21..=25 {
+            let written = write_numbers(&values[..count], record.len() + 3);
+            assert_eq!(written.as_ref(), Ok(&record), "{count} {site:?}");
+        }
     }
 }
 

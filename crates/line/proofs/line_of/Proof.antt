@@ -16,7 +16,11 @@ is-sound-requires : tie.Need-is-sound-requires
 is-sound-requires c κs = search needs
 
 returns-2 : tie.Need-returns-2
-returns-2 c = site-outside _ _ (c .before .before .before .is-in-limits .result) (c .before .is-sound .result) (c .before .before .before .is-in-limits .ensures) (not-false _ (c .before .before .if1 .left)) (c .before .is-sound .ensures) (not-true _ (c .if2 .taken))
+returns-2 c =
+    let sound = c .before .is-sound in
+    let limits = c .before .before .before .is-in-limits in
+    let within = not-false _ (c .before .before .if1 .left) in
+    site-outside _ _ (limits .result) (sound .result) (limits .ensures) within (sound .ensures) (not-true _ (c .if2 .taken))
 
 stored-powers-requires : tie.Need-stored-powers-requires
 stored-powers-requires c κs = search needs
@@ -29,12 +33,29 @@ stored-exponentials-requires c κs = search needs
 
 line-with-requires : tie.Need-line-with-requires
 line-with-requires c κs =
-    let h = limits-of _ (sym (c .before .before .before .before .before .before .before .before .before .is-in-limits .ensures) ∙ not-false _ (c .before .before .before .before .before .before .before .before .if1 .left)) in
-    let sound = sym (c .before .before .before .before .before .before .before .is-sound .ensures) ∙ not-false _ (c .before .before .before .before .before .before .if2 .left) in
-    (c .before .before .before .before .before .stored-powers .ensures, c .before .before .before .before .stored-logarithms .ensures, c .before .before .before .stored-exponentials .ensures, h .years-most, h .segments-most, h .crossings-most, record { is-sound = sound })
+    let tables = c .before .before .before in
+    let site = tables .before .before .before in
+    let header = site .before .before in
+    let h = limits-of _ (sym (header .before .is-in-limits .ensures) ∙ not-false _ (header .if1 .left)) in
+    let valid = sym (site .before .is-sound .ensures) ∙ not-false _ (site .if2 .left) in (
+      tables .before .before .stored-powers .ensures,
+      tables .before .stored-logarithms .ensures,
+      tables .stored-exponentials .ensures,
+      h .years-most,
+      h .segments-most,
+      h .crossings-most,
+      record { is-sound = valid },
+    )
 
 returns-3 : tie.Need-returns-3
-returns-3 c = both-inside _ _ (c .before .before .before .before .before .before .before .before .before .before .is-in-limits .result) (c .before .before .before .before .before .before .before .before .is-sound .result) _ (c .before .before .before .before .before .before .before .before .before .before .is-in-limits .ensures) (not-false _ (c .before .before .before .before .before .before .before .before .before .if1 .left)) (c .before .before .before .before .before .before .before .before .is-sound .ensures) (not-false _ (c .before .before .before .before .before .before .before .if2 .left)) (c .line-with .ensures)
+returns-3 c =
+    let site = c .before .before .before .before .before .before .before in
+    let header = site .before .before in
+    let limits = header .before .is-in-limits in
+    let sound = site .before .is-sound in
+    let within = not-false _ (header .if1 .left) in
+    let valid = not-false _ (site .if2 .left) in
+    both-inside _ _ (limits .result) (sound .result) _ (limits .ensures) within (sound .ensures) valid (c .line-with .ensures)
 
 pub line-of-spec : {M : Type 1} → statement M
 line-of-spec =

@@ -2,7 +2,7 @@ use native.Mathlib.Omega.{arith}
 use borrow.Author.Needs.{needs}
 use denote.Ref.{now}
 use lib.ListN.{length-set}
-use Rattle.unit.proofs.Lending.{no-space, lent}
+use Rattle.unit.proofs.Lending.{refused, no-space, lent}
 use Rattle.unit.proofs.brackets.lend.Statement.{statement}
 use Rattle.unit.proofs.brackets.lend.Tie as tie
 
@@ -13,7 +13,9 @@ enum-told : tie.Need-enum-told
 enum-told c = search needs
 
 returns : tie.Need-returns
-returns c = search needs
+returns c =
+    let told = refused _ 8 in
+    rw (c .enum-told .given .1) (record { number-is = told .0; run-is = told .1 })
 
 returns-2 : tie.Need-returns-2
 returns-2 c =
@@ -39,7 +41,8 @@ returns-3 : tie.Need-returns-3
 returns-3 c =
     let answer = c .before .before .answer .given in
     let made = answer .0 .0 in
-    let told = lent (now (c .before .before .before .before .args .ends)) (made .«low_num») (made .«low_den») (made .«high_num») (made .«high_den») (c .if1 .left) in
+    let run = now (c .before .before .before .before .args .ends) in
+    let told = lent run (made .«low_num») (made .«low_den») (made .«high_num») (made .«high_den») (c .if1 .left) in
     rw (answer .1) (record { number-is = told .0; run-is = told .1 })
 
 pub lend-spec : {M : Type 1} → statement M

@@ -1,11 +1,8 @@
 -- `unit::lines::crash_line` meets its contract. The answer of the site's line, lent.
-use Rattle.unit.proofs.LineSteps.{no-numbers, lined}
+use Rattle.unit.proofs.LineSteps.{lined}
 use borrow.Author.Needs.{needs}
 use Rattle.unit.proofs.lines.crash_line.Statement.{statement}
 use Rattle.unit.proofs.lines.crash_line.Tie as tie
-
-returns : tie.Need-returns
-returns c = no-numbers _ _ _ (c .if1 .taken)
 
 site-from-requires : tie.Need-site-from-requires
 site-from-requires c κs = search needs
@@ -19,12 +16,12 @@ lend-line-requires c κs = search needs
 same-length : tie.Need-same-length
 same-length c = search needs
 
-returns-2 : tie.Need-returns-2
-returns-2 c =
+returns : tie.Need-returns
+returns c =
     let line = c .before .before .before .before in
-    lined _ _ _ _ _ (line .before .before .if1 .left) _ (line .before .site-from .ensures) _ (line .line-of .ensures .0) (line .line-of .ensures .1) (c .before .before .lend-line .ensures)
+    lined _ _ _ _ _ _ (line .before .site-from .ensures) _ (line .line-of .ensures .0) (line .line-of .ensures .1 .1) (c .before .before .lend-line .ensures)
 
 pub crash-line-spec : {M : Type 1} → statement M
 crash-line-spec =
     tie.close
-    (tie.spec returns site-from-requires line-of-requires lend-line-requires same-length returns-2)
+    (tie.spec site-from-requires line-of-requires lend-line-requires same-length returns)

@@ -30,8 +30,10 @@ same-length c = search needs
 
 returns-3 : tie.Need-returns-3
 returns-3 c =
-    let read = c .before .before .before .before .before .before .before .before .read-site .ensures .answer-is in
-    told _ _ _ read _ _ (c .before .before .before .before .before .before .answer2 .given .1) (c .before .before .before .before .if1 .left) _ (c .before .before .put-site .ensures)
+    let room = c .before .before .before .before in
+    let answer = room .before .before in
+    let read = answer .before .before .read-site .ensures .answer-is in
+    told _ _ _ read _ _ (answer .answer2 .given .1) (room .if1 .left) _ (c .before .before .put-site .ensures)
 
 pub crash-site-read-spec : {M : Type 1} → statement M
 crash-site-read-spec =

@@ -1,11 +1,8 @@
 -- `unit::sites::crash_site_write` meets its contract. The writer's answer, told by its number and its length.
-use Rattle.unit.proofs.NumberSteps.{no-numbers, unwritten-numbers, written-numbers}
+use Rattle.unit.proofs.NumberSteps.{unwritten-numbers, written-numbers}
 use borrow.Author.Needs.{needs}
 use Rattle.unit.proofs.sites.crash_site_write.Statement.{statement}
 use Rattle.unit.proofs.sites.crash_site_write.Tie as tie
-
-returns : tie.Need-returns
-returns c = no-numbers _ _ _ (c .if1 .taken)
 
 site-from-requires : tie.Need-site-from-requires
 site-from-requires c κs = search needs
@@ -25,32 +22,31 @@ enum-known-answer-2 c = search needs
 same-length : tie.Need-same-length
 same-length c = search needs
 
-returns-2 : tie.Need-returns-2
-returns-2 c =
+returns : tie.Need-returns
+returns c =
     let site = c .before .before .before .before .before .before .before in
     let written = c .before .before .before .before .before .write-site .ensures in
-    unwritten-numbers _ _ _ _ (site .before .if1 .left) _ (site .site-from .ensures) _ written _ (c .before .answer .given .1)
+    unwritten-numbers _ _ _ _ _ (site .site-from .ensures) _ written _ (c .before .answer .given .1)
 
 same-length-2 : tie.Need-same-length-2
 same-length-2 c = search needs
 
-returns-3 : tie.Need-returns-3
-returns-3 c =
+returns-2 : tie.Need-returns-2
+returns-2 c =
     let site = c .before .before .before .before .before .before .before in
     let written = c .before .before .before .before .before .write-site .ensures in
-    written-numbers _ _ _ _ (site .before .if1 .left) _ (site .site-from .ensures) _ written _ (c .before .answer2 .given .1)
+    written-numbers _ _ _ _ _ (site .site-from .ensures) _ written _ (c .before .answer2 .given .1)
 
 pub crash-site-write-spec : {M : Type 1} → statement M
 crash-site-write-spec =
     tie.close
     (tie.spec
-    returns
     site-from-requires
     write-site-requires
     enum-known-answer
     cast-result
     enum-known-answer-2
     same-length
-    returns-2
+    returns
     same-length-2
-    returns-3)
+    returns-2)

@@ -27,7 +27,10 @@ same-length : tie.Need-same-length
 same-length c = simp length-set (c .before .before .put-slots .kept .1 .0 ∙ simp length-set)
 
 returns : tie.Need-returns
-returns c = all-values (c .before .before .before .before .before .before .args .site) _ (now (c .before .before .before .before .before .before .args .values)) _ _ (c .before .before .before .before .slots-of .ensures) (c .before .before .put-slots .ensures)
+returns c =
+    let slots = c .before .before .before .before in
+    let args = slots .before .before .args in
+    all-values (args .site) _ (now (args .values)) _ _ (slots .slots-of .ensures) (c .before .before .put-slots .ensures)
 
 pub put-site-spec : {M : Type 1} → statement M
 put-site-spec =

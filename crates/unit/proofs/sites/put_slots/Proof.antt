@@ -48,10 +48,11 @@ loop-less c = omega arith
 
 loop-again : tie.Need-loop-again Inv-loop μ-loop
 loop-again c =
+    let count = c .before .before .before .before .before .pre .0 in
     let loop = c .before .before .before .loop in (
       omega arith,
       simp length-set (loop .inv .1),
-      store-more code _ _ _ _ (c .before .before .before .before .before .pre .0) (loop .inv .2) _ _ (c .before .before .loop-test .taken) (c .code-of .ensures),
+      store-more code _ _ _ _ count (loop .inv .2) _ _ (c .before .before .loop-test .taken) (c .code-of .ensures),
     )
 
 same-length : tie.Need-same-length Inv-loop μ-loop

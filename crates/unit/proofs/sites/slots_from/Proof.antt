@@ -46,10 +46,11 @@ loop-less c = omega arith
 
 loop-again : tie.Need-loop-again Inv-loop μ-loop
 loop-again c =
+    let count = c .before .before .before .before .before .pre in
     let loop = c .before .before .before .loop in (
       omega arith,
       simp length-set (loop .inv .1),
-      map-more slotFrom _ _ _ _ (c .before .before .before .before .before .pre) (loop .inv .2) _ _ (c .before .before .loop-test .taken) (c .slot-from .ensures),
+      map-more slotFrom _ _ _ _ count (loop .inv .2) _ _ (c .before .before .loop-test .taken) (c .slot-from .ensures),
     )
 
 returns : tie.Need-returns Inv-loop μ-loop
