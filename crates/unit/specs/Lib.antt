@@ -5,3 +5,4 @@ pub mod Coding
 pub mod LineNumbers
 pub mod ProjectNumbers
 pub mod Malformed
+pub mod RoundTrips
