@@ -1,64 +1,19 @@
 -- A file with its report is accepted exactly when none of document 01's causes is found in them, and otherwise has one first cause.
 use mathlib.Core.Path.{_≡_, refl, ap, sym, subst, _∙_}
-use mathlib.Core.Bool.{Bool, true, false, cond}
-use mathlib.Core.List.{List, [], _∷_}
+use mathlib.Core.Bool.{Bool, true, false}
+use mathlib.Core.List.{List}
 use mathlib.Core.Logic.{_↔_, _⊎_, inl, inr}
-use Prim.Native.Nat.{ℕ, _*_, _<_, _≤_}
+use Prim.Native.Nat.{ℕ, _<_, _≤_}
 use native.Mathlib.Omega.{arith}
 use lib.ListN.{length, drop}
-use lib.Dec.{ltb, eqb}
+use lib.Dec.{ltb}
 use borrow.Author.Tests.{ltb-true, ltb-false}
-use Rattle.site.specs.declared.rules.Rule.{Rule}
-use Rattle.site.specs.Rules.{lastKind, allows, absentOf, holds}
-use Rattle.site.specs.Record.{word, restOf, stands, words, lacks, misses, valueNumber, fieldNumber, after, fieldsNumber, kindIn, mapIn, rulesIn, recordNumber, refusalOf}
+use Rattle.site.specs.RecordCauses.{RecordCause, map-past, kind-above, bit-lacked, bit-missing, field-past, field-outside, field-spelled, cause-number, cause-not-zero}
 use Rattle.project.specs.declared.ScanAnswer.{ScanAnswer}
 use Rattle.project.specs.declared.ScanAnswer.the-variants.{Accepted, Refused}
 use Rattle.project.specs.File.{countIn, scanFile}
-use Rattle.project.specs.RecordCauses.{cause-number}
 use Rattle.project.specs.Causes.{Starts, RecordNumber, RunsPast, header-past, record-past, reportLength, NoCause, HeaderCause, header-cut, header-edition, header-limits, FirstInBytes, in-header, in-record, in-rest, Whole, FirstCause, in-bytes, in-report}
 use Rattle.project.specs.Scan.{same-place, earlier, refused-exactly, accepted-exactly}
-
--- the numbers that a record can have: none, or those of the table's rows on records
-pub data RecordRow : ℕ → Type 0 where
-  row-none : RecordRow 0
-  row-past : RecordRow 1
-  row-kind : RecordRow 5
-  row-lacked : RecordRow 6
-  row-missing : RecordRow 7
-  row-range : RecordRow 8
-  row-spelled : RecordRow 9
-
-value-row : (a d : Bool) → RecordRow (cond a (cond d 9 0) 8)
-value-row true true = row-spelled
-value-row true false = row-none
-value-row false d = row-range
-
-field-row : (b : Bool) (rule : Rule) (value : ℕ) → RecordRow (cond b (valueNumber rule value) 0)
-field-row true rule value = value-row (allows rule value) (holds (absentOf rule) value)
-field-row false rule value = row-none
-
-pick-row : (b : Bool) (x y : ℕ) → RecordRow x → RecordRow y → RecordRow (cond b x y)
-pick-row true x y p q = p
-pick-row false x y p q = q
-
-fields-row : (rules : List Rule) (map : ℕ) (s : List ℕ) → RecordRow (fieldsNumber rules map s)
-unfolding fieldsNumber
-fields-row [] map s = row-none
-fields-row (rule ∷ rules) map s =
-    pick-row (eqb (fieldNumber rule map s) 0) _ _ (fields-row rules (restOf rule map) (after rule map s)) (field-row (stands rule map) rule (word s))
-
-record-row : (rules : List Rule) (map : ℕ) (s : List ℕ) → RecordRow (recordNumber rules map s)
-unfolding recordNumber
-record-row rules map s =
-    pick-row (lacks rules map) _ _ row-lacked
-    (pick-row (misses rules map) _ _ row-missing
-    (pick-row (ltb (length s) (2 * words rules map)) _ _ row-past (fields-row rules map s)))
-
-pub refusal-row : (s : List ℕ) → RecordRow (refusalOf s)
-unfolding refusalOf
-refusal-row s =
-    pick-row (ltb (length s) 3) _ _ row-past
-    (pick-row (ltb lastKind (kindIn s)) _ _ row-kind (record-row (rulesIn s) (mapIn s) (drop 3 s)))
 
 counted : (s : List ℕ) (n : ℕ) → Whole s n → Whole s (countIn s)
 counted s n w =
@@ -71,19 +26,18 @@ module _ (s : List ℕ) (room : ℕ) where
   header-none none (header-edition l h) = none .edition-right 0 h
   header-none none (header-limits e h) = none .limits-kept 0 h
 
-  row-of-none : NoCause s room → {number : ℕ} → RecordRow number → (p : ℕ) → (number ≡ 0 → ⊥) → RecordNumber s number p → ⊥
-  row-of-none none row-none p ne r = ne refl
-  row-of-none none row-past p ne r = none .none-past p (record-past r)
-  row-of-none none row-kind p ne r = none .kinds-known p r
-  row-of-none none row-lacked p ne r = none .none-lacked p r
-  row-of-none none row-missing p ne r = none .none-missing p r
-  row-of-none none row-range p ne r = none .ranges-kept p r
-  row-of-none none row-spelled p ne r = none .none-spelled p r
+  record-none : NoCause s room → (p : ℕ) {number : ℕ} → RecordCause (drop p s) number → RecordNumber s number p → ⊥
+  record-none none p (map-past h) r = none .none-past p (record-past r)
+  record-none none p (kind-above h k) r = none .kinds-known p r
+  record-none none p (bit-lacked h b t l) r = none .none-lacked p r
+  record-none none p (bit-missing h l m) r = none .none-missing p r
+  record-none none p (field-past m h) r = none .none-past p (record-past r)
+  record-none none p (field-outside b k t o) r = none .ranges-kept p r
+  record-none none p (field-spelled b k t i d) r = none .none-spelled p r
 
   bytes-none : NoCause s room → {number p : ℕ} → FirstInBytes s number p → ⊥
   bytes-none none (in-header c) = header-none none c
-  bytes-none none (in-record {number} {p} header ne r) =
-      row-of-none none (subst RecordRow (cause-number (drop p s) (r .cause)) (refusal-row (drop p s))) p ne r
+  bytes-none none (in-record {number} {p} header r) = record-none none p (r .cause) r
   bytes-none none (in-rest {p} header r) = none .none-after p r
 
   pub first-is-cause : NoCause s room → {number p : ℕ} → FirstCause s room number p → ⊥
@@ -92,12 +46,12 @@ module _ (s : List ℕ) (room : ℕ) where
 
   -- no row of the table holds of a whole file whose report suffices
   module _ (w : Whole s (countIn s)) where
+    record-free : (number p : ℕ) → RecordNumber s number p → ⊥
+    record-free number p r = cause-not-zero (r .cause) (sym (cause-number (drop p s) (r .cause)) ∙ earlier s (w .ends) (r .starts) (r .counted))
+
     past-free : {p : ℕ} → RunsPast s p → ⊥
     past-free (header-past h) = let l = w .header .long in omega arith
-    past-free (record-past {p} r) = let z = earlier s (w .ends) (r .starts) (r .counted) in let q = cause-number (drop p s) (r .cause) in omega arith
-
-    record-free : (number p : ℕ) → (number ≡ 0 → ⊥) → RecordNumber s number p → ⊥
-    record-free number p ne r = ne (sym (cause-number (drop p s) (r .cause)) ∙ earlier s (w .ends) (r .starts) (r .counted))
+    past-free (record-past {p} r) = record-free 1 p r
 
     whole-none : reportLength (countIn s) ≤ room → NoCause s room
     whole-none h =
@@ -106,11 +60,11 @@ module _ (s : List ℕ) (room : ℕ) where
           none-after = λ p r. let e = same-place s (r .starts) (w .ends) in let m = r .more in omega arith;
           edition-right = λ p r. r .other (w .header .edition);
           limits-kept = λ p r. r .outside (w .header .limits, w .header .few);
-          kinds-known = λ p r. record-free 5 p (λ z. omega arith) r;
-          none-lacked = λ p r. record-free 6 p (λ z. omega arith) r;
-          none-missing = λ p r. record-free 7 p (λ z. omega arith) r;
-          ranges-kept = λ p r. record-free 8 p (λ z. omega arith) r;
-          none-spelled = λ p r. record-free 9 p (λ z. omega arith) r;
+          kinds-known = λ p r. record-free 5 p r;
+          none-lacked = λ p r. record-free 6 p r;
+          none-missing = λ p r. record-free 7 p r;
+          ranges-kept = λ p r. record-free 8 p r;
+          none-spelled = λ p r. record-free 9 p r;
           report-suffices = λ p r. let m = r .short in omega arith;
         }
 

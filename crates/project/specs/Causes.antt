@@ -7,10 +7,10 @@ use lib.ListN.{length, drop}
 use Rattle.site.specs.declared.values.Site.{Site}
 use Rattle.site.specs.declared.values.SiteAnswer.the-variants as site
 use Rattle.site.specs.Record.{readSite}
+use Rattle.site.specs.RecordCauses.{RecordCause}
 use Rattle.model.specs.Predicted.{inLimits}
 use Rattle.project.specs.File.{headerLength, editionIn, headerIn, countIn, mostSites}
 use Rattle.project.specs.Headed.{HeaderAccepted}
-use Rattle.project.specs.RecordCauses.{RecordCause}
 
 -- the record with an index starts at a place: the first after the header, each other after a record that can be read
 pub data Starts (s : List ℕ) : ℕ → ℕ → Type 0 where
@@ -98,7 +98,7 @@ pub data HeaderCause (s : List ℕ) : ℕ → Type 0 where
 -- so the record that has a number is the first
 pub data FirstInBytes (s : List ℕ) : ℕ → ℕ → Type 0 where
   in-header : {number : ℕ} → HeaderCause s number → FirstInBytes s number 0
-  in-record : {number p : ℕ} → HeaderAccepted s → (number ≡ 0 → ⊥) → RecordNumber s number p → FirstInBytes s number p
+  in-record : {number p : ℕ} → HeaderAccepted s → RecordNumber s number p → FirstInBytes s number p
   in-rest : {p : ℕ} → HeaderAccepted s → BytesAfter s p → FirstInBytes s 2 p
 
 -- the bytes are a header and as many records as it says

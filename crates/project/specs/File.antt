@@ -7,6 +7,7 @@ use lib.Dec.{ltb, leb, eqb}
 use Rattle.site.specs.declared.values.Site.{Site}
 use Rattle.site.specs.declared.values.SiteAnswer.{SiteAnswer}
 use Rattle.site.specs.declared.values.SiteAnswer.the-variants as site
+use Rattle.site.specs.Answers.{readPlace}
 use Rattle.site.specs.Record.{word, readSite}
 use Rattle.model.specs.Predicted.{Header, inLimits}
 use Rattle.project.specs.declared.ScanAnswer.{ScanAnswer}
@@ -40,7 +41,7 @@ headerNumber s =
 -- "Each record is handed to the site reader as the part that starts at its kind byte .. the project reader adds the part's
 -- start to the place": what follows the record at a place
 abbrev pub onward : (at : ℕ) → SiteAnswer → (ℕ → ScanAnswer) → ScanAnswer
-onward at (site.Refused number) k = Refused number at
+onward at (site.Refused number) k = Refused number (at + readPlace (site.Refused number))
 onward at (site.Read site n) k = k (at + n)
 
 -- "each record in turn .. last 2": the records that are left, from a place on, and then "bytes after the last record"

@@ -2,7 +2,6 @@
 pub mod File
 pub mod Fields
 pub mod Headed
-pub mod RecordCauses
 pub mod Causes
 pub mod Scan
 pub mod Promise

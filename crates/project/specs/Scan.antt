@@ -4,6 +4,7 @@ use mathlib.Core.Bool.{Bool, true, false, cond, _&&_, true≢false}
 use mathlib.Core.List.{List}
 use mathlib.Core.Logic.{_↔_}
 use Prim.Native.Nat.{ℕ, zero, suc, _+_, _-_, _<_, _≤_}
+use native.Mathlib.Nat.{add-zero}
 use native.Mathlib.Omega.{arith}
 use lib.ListN.{length, drop, length-drop}
 use lib.Dec.{ltb, leb, eqb}
@@ -13,6 +14,7 @@ use Rattle.site.specs.declared.values.SiteAnswer.{SiteAnswer}
 use Rattle.site.specs.declared.values.SiteAnswer.the-variants as site
 use Rattle.site.specs.Answers.{readNumber}
 use Rattle.site.specs.Record.{refusalOf, readSite}
+use Rattle.site.specs.RecordCauses.{cause-number, cause-not-zero, record-cause-exactly}
 use Rattle.site.specs.Accepted.{accepted, accept, number-read}
 use Rattle.site.specs.Theorems.{read-length}
 use Rattle.model.specs.Predicted.{inLimits}
@@ -20,7 +22,6 @@ use Rattle.project.specs.declared.ScanAnswer.{ScanAnswer}
 use Rattle.project.specs.declared.ScanAnswer.the-variants.{Accepted, Refused}
 use Rattle.project.specs.File.{headerLength, editionIn, headerIn, countIn, mostSites, headerNumber, onward, scanRecords, scanFile}
 use Rattle.project.specs.Headed.{HeaderAccepted, header-accepted, accepted-header}
-use Rattle.project.specs.RecordCauses.{cause-number, record-cause-exactly}
 use Rattle.project.specs.Causes.{Starts, first, next, RecordNumber, BytesAfter, HeaderCause, header-cut, header-edition, header-limits, FirstInBytes, in-header, in-record, in-rest, Whole}
 
 -- a part that the site reader refuses has that number, which is not 0
@@ -77,7 +78,7 @@ module _ (s : List ℕ) where
   step-refused : (sites left p number : ℕ) → readSite (drop p s) ≡ site.Refused number
       → scanRecords sites (suc left) p s ≡ Refused number p
   unfolding scanRecords
-  step-refused sites left p number e = rw e
+  step-refused sites left p number e = rw (e, add-zero p)
 
   step-after : (sites p : ℕ) → p < length s → scanRecords sites zero p s ≡ Refused 2 p
   unfolding scanRecords
@@ -100,7 +101,7 @@ module _ (s : List ℕ) where
 -- what a scan of the records tells
 data Scanned (s : List ℕ) : ScanAnswer → Type 0 where
   to-end : Starts s (countIn s) (length s) → Scanned s (Accepted (countIn s))
-  at-record : {number p : ℕ} → (number ≡ 0 → ⊥) → RecordNumber s number p → Scanned s (Refused number p)
+  at-record : {number p : ℕ} → RecordNumber s number p → Scanned s (Refused number p)
   at-rest : {p : ℕ} → BytesAfter s p → Scanned s (Refused 2 p)
 
 module _ (s : List ℕ) (long : headerLength ≤ length s) where
@@ -117,7 +118,7 @@ module _ (s : List ℕ) (long : headerLength ≤ length s) where
       → Scanned s (onward p answer (λ next. scanRecords (countIn s) left next s))
   scanned-step left i p st h later (site.Refused number) e =
       let r = refused-part (drop p s) number e in
-      at-record (r .not-zero) (record { index = i; counted = h; starts = st; cause = record-cause-exactly _ _ .0 (r .number-is) })
+      rw (add-zero p) (at-record (record { index = i; counted = h; starts = st; cause = record-cause-exactly _ _ .0 (r .number-is, r .not-zero) }))
   scanned-step left i p st h later (site.Read value n) e = later n (next st e)
 
   scanned-from : (left i p : ℕ) → Starts s i p → i + left ≡ countIn s → Scanned s (scanRecords (countIn s) left p s)
@@ -167,10 +168,10 @@ module _ (s : List ℕ) where
       rw (le-ltb (length s) headerLength (h .there), eq-eqb (editionIn s) 1 e)
       (limits-by (inLimits (headerIn s)) (leb (countIn s) mostSites) refl refl (h .outside))
 
-  cause-not-zero : {number : ℕ} → HeaderCause s number → number ≡ 0 → ⊥
-  cause-not-zero (header-cut h) e = omega arith
-  cause-not-zero (header-edition l h) e = omega arith
-  cause-not-zero (header-limits q h) e = omega arith
+  header-not-zero : {number : ℕ} → HeaderCause s number → number ≡ 0 → ⊥
+  header-not-zero (header-cut h) e = omega arith
+  header-not-zero (header-edition l h) e = omega arith
+  header-not-zero (header-limits q h) e = omega arith
 
 -- where the header is accepted, a scan of the file is one of its records
 pub scan-past-header : (s : List ℕ) → headerNumber s ≡ 0 → scanFile s ≡ scanRecords (countIn s) (countIn s) headerLength s
@@ -185,10 +186,10 @@ scan-header s ne = rw (ne-eqb (headerNumber s) 0 ne)
 module _ (s : List ℕ) where
   told : HeaderAccepted s → (number p : ℕ) (answer : ScanAnswer) → Scanned s answer → answer ≡ Refused number p → FirstInBytes s number p
   told header number p (Accepted n) (to-end st) e = let z : _≡_ {A = ℕ} 0 1 = cc in absurd (omega arith)
-  told header number p (Refused m q) (at-record ne r) e =
+  told header number p (Refused m q) (at-record r) e =
       let a : m ≡ number = cc in
       let b : q ≡ p = cc in
-      rw (← a, ← b) (in-record header ne r)
+      rw (← a, ← b) (in-record header r)
   told header number p (Refused m q) (at-rest r) e =
       let a : 2 ≡ number = cc in
       let b : q ≡ p = cc in
@@ -209,12 +210,12 @@ module _ (s : List ℕ) where
   first-refused : {number p : ℕ} → FirstInBytes s number p → scanFile s ≡ Refused number p
   first-refused (in-header c) =
       let h = cause-header s c in
-      let ne : headerNumber s ≡ 0 → ⊥ = λ z. cause-not-zero s c (sym h ∙ z) in
+      let ne : headerNumber s ≡ 0 → ⊥ = λ z. header-not-zero s c (sym h ∙ z) in
       scan-header s ne ∙ ap (λ (m : ℕ). Refused m 0) h
-  first-refused (in-record {number} {p} header ne r) =
+  first-refused (in-record {number} {p} header r) =
       let m : r .index + suc (countIn s - suc (r .index)) ≡ countIn s = let h = r .counted in omega arith in
       scan-past-header s (accepted-header s header) ∙ reach s (countIn s) (r .index) p (suc (countIn s - suc (r .index))) (r .starts) m
-      ∙ step-refused s (countIn s) (countIn s - suc (r .index)) p number (part-refused (drop p s) number (record { number-is = cause-number (drop p s) (r .cause); not-zero = ne }))
+      ∙ step-refused s (countIn s) (countIn s - suc (r .index)) p number (part-refused (drop p s) number (record { number-is = cause-number (drop p s) (r .cause); not-zero = cause-not-zero (r .cause) }))
   first-refused (in-rest {p} header r) =
       scan-past-header s (accepted-header s header) ∙ reach s (countIn s) (countIn s) p 0 (r .starts) (omega arith) ∙ step-after s (countIn s) p (r .more)
 
@@ -226,7 +227,7 @@ module _ (s : List ℕ) where
   ended header n (Accepted m) (to-end st) e =
       let a : countIn s ≡ n = cc in
       record { header = header; count-is = sym a; ends = subst (λ (k : ℕ). Starts s k (length s)) a st }
-  ended header n (Refused m q) (at-record ne r) e = let z : _≡_ {A = ℕ} 0 1 = cc in absurd (omega arith)
+  ended header n (Refused m q) (at-record r) e = let z : _≡_ {A = ℕ} 0 1 = cc in absurd (omega arith)
   ended header n (Refused m q) (at-rest r) e = let z : _≡_ {A = ℕ} 0 1 = cc in absurd (omega arith)
 
   accepted-by : (n : ℕ) → scanFile s ≡ Accepted n → (b : Bool) → eqb (headerNumber s) 0 ≡ b → Whole s n

@@ -2,17 +2,14 @@
 -- with them".
 use mathlib.Core.Path.{_≡_, refl, sym, _∙_}
 use mathlib.Core.Bool.{Bool, true, false, cond, _&&_, _||_, not, Bool·beq, true≢false}
-use Prim.Native.Nat.{ℕ, zero, suc, _/_, _%_, _≤_}
+use Prim.Native.Nat.{ℕ, zero, suc, _/_, _≤_}
 use native.Mathlib.Omega.{arith}
 use native.Mathlib.Nat.{div-one}
-use lib.Dec.{eqb}
+use borrow.Author.Tests.{not-false}
 use Rattle.site.specs.Rules.{entriesOf, lastKind, segment, settle}
 use Rattle.site.specs.Record.{anyField, misses, curved, rulesRead}
-
--- bit 0 is the lowest
-abbrev pub bitAt : ℕ → ℕ → Bool
-bitAt zero map = eqb (map % 2) 1
-bitAt (suc i) map = bitAt i (map / 2)
+use Rattle.site.specs.Fields.{bitAt, roadCurves}
+use Rattle.site.specs.Truth.{and-right}
 
 -- 6 and 7 stand together, and 8 and 9 only with them
 abbrev pub matched : Bool → Bool → Bool → Bool → Bool
@@ -45,7 +42,7 @@ by-bits true true true true false true true e = refl
 by-bits true true true true true nine true e = refl
 by-bits true true true true eight nine false e = absurd (true≢false e)
 
-curve-bits : (map : ℕ) → curved segment map ≡ (bitAt 6 map || (bitAt 7 map || (bitAt 8 map || (bitAt 9 map || false))))
+pub curve-bits : (map : ℕ) → curved segment map ≡ (bitAt 6 map || (bitAt 7 map || (bitAt 8 map || (bitAt 9 map || false))))
 unfolding anyField
 curve-bits map = rw (div-one (map / 2 / 2))
 
@@ -80,3 +77,30 @@ crossing-misses (suc zero) map h k = rw (div-one (map / 2)) (two (bitAt 0 map) (
 crossing-misses (suc (suc zero)) map h k = rw (div-one (map / 2)) (two (bitAt 0 map) (bitAt 1 map))
 crossing-misses (suc (suc (suc zero))) map h k = rw (div-one (map / 2)) (two (bitAt 0 map) (bitAt 1 map))
 crossing-misses (suc (suc (suc (suc kind)))) map h k = let z : ⊥ = omega arith in absurd z
+
+-- "Bits 0 and 1 always stand. Bits 6 and 7 of a segment stand together, and 8 and 9 only with them"
+abbrev pub mapMatched : ℕ → ℕ → Bool
+mapMatched zero map = bitAt 0 map && (bitAt 1 map && matched (bitAt 6 map) (bitAt 7 map) (bitAt 8 map) (bitAt 9 map))
+mapMatched (suc kind) map = bitAt 0 map && bitAt 1 map
+
+pub misses-by-bits : (kind map : ℕ) → kind ≤ lastKind → misses (rulesRead kind map) map ≡ not (mapMatched kind map)
+misses-by-bits zero map h = segment-misses map
+misses-by-bits (suc kind) map h = crossing-misses (suc kind) map (omega arith) h
+
+-- where no bit is missing, bit 6 tells the curve
+matched-six : (six seven eight nine : Bool) → matched six seven eight nine ≡ true → (six || (seven || (eight || (nine || false)))) ≡ six
+matched-six true seven eight nine e = refl
+matched-six false true eight nine e = absurd (true≢false (sym e))
+matched-six false false true nine e = absurd (true≢false (sym e))
+matched-six false false false true e = absurd (true≢false (sym e))
+matched-six false false false false e = refl
+
+pub curved-by-six : (kind map : ℕ) → kind ≤ lastKind → misses (rulesRead kind map) map ≡ false → curved (entriesOf kind) map ≡ roadCurves kind map
+unfolding anyField entriesOf
+curved-by-six zero map h e =
+    let m = not-false (mapMatched 0 map) (sym (segment-misses map) ∙ e) in
+    curve-bits map ∙ matched-six (bitAt 6 map) (bitAt 7 map) (bitAt 8 map) (bitAt 9 map) (and-right (bitAt 1 map) _ (and-right (bitAt 0 map) _ m))
+curved-by-six (suc zero) map h e = refl
+curved-by-six (suc (suc zero)) map h e = refl
+curved-by-six (suc (suc (suc zero))) map h e = refl
+curved-by-six (suc (suc (suc (suc kind)))) map h e = let z : ⊥ = omega arith in absurd z

@@ -1,8 +1,9 @@
--- What a reader of the site crate must believe (Rules, Answers, Record, Lent, Writing), what is proved of it, and last
--- what the public calls promise.
+-- What a reader of the site crate must believe (Rules, Answers, Record, Lent, Writing), document 01's bits by number beside it
+-- (Fields), what is proved of them, and last what the public calls promise.
 pub mod Rules
 pub mod Answers
 pub mod Record
+pub mod Fields
 pub mod Lent
 pub mod Writing
 pub mod Truth
@@ -14,7 +15,10 @@ pub mod WriteRead
 pub mod ReadWrite
 pub mod Bytes
 pub mod BytesRead
+pub mod BitLaws
 pub mod Curve
+pub mod FieldsRead
+pub mod RecordCauses
 pub mod Theorems
 pub mod Known
 pub mod Promises

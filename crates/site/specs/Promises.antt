@@ -13,9 +13,11 @@ use Rattle.site.specs.declared.values.WriteAnswer.{WriteAnswer}
 use Rattle.site.specs.declared.values.WriteAnswer.the-variants.{Written, Unwritten}
 use Rattle.site.specs.Answers.{readNumber, readPlace, writeNumber, writePlace, wroteAnswer}
 use Rattle.site.specs.Record.{refusalOf, readSite}
+use Rattle.site.specs.Fields.{FieldsRead}
 use Rattle.site.specs.Writing.{recordOf, Valid, writeRefusal, writeAnswer, writeInto}
 use Rattle.site.specs.Accepted.{number-read}
 use Rattle.site.specs.ReadWrite.{read-valid}
+use Rattle.site.specs.FieldsRead.{fields-read}
 use Rattle.site.specs.Theorems.{RecordLength, read-length}
 
 -- the site reader: its answer, document 01's number for it, and what is so of a site that it reads
@@ -25,6 +27,7 @@ pub record ReadsSite (part : List ℕ) (answer : SiteAnswer) : Type 0 where
   pub place-is : readPlace answer ≡ 0
   pub valid : (site : Site) (n : ℕ) → answer ≡ Read site n → Valid site
   pub bounds : (site : Site) (n : ℕ) → answer ≡ Read site n → RecordLength part n
+  pub fields : (site : Site) (n : ℕ) → answer ≡ Read site n → FieldsRead part site n
 
 pub reads-site : (part : List ℕ) (answer : SiteAnswer) → answer ≡ readSite part → ReadsSite part answer
 reads-site part answer e =
@@ -34,6 +37,7 @@ reads-site part answer e =
       place-is = refl;
       valid = λ site n q. read-valid part site n (sym e ∙ q);
       bounds = λ site n q. read-length part site n (sym e ∙ q);
+      fields = λ site n q. fields-read part site n (sym e ∙ q);
     }
 
 -- the site writer: its answer, document 01's number for it, and the buffer afterwards, byte for byte

@@ -157,7 +157,7 @@ module _ (s : List ℕ) (a : Accepted s) where
   fields =
       rewritten-fields (rulesIn s) (mapIn s) (drop 3 s) (tested-rules _ _ (a .known) .rights) (a .full) (a .lack) (a .miss) (a .no-field-refused)
 
-  slots-again : slotsOf (siteIn s) ≡ fieldsValues (rulesIn s) (mapIn s) (drop 3 s)
+  pub slots-again : slotsOf (siteIn s) ≡ fieldsValues (rulesIn s) (mapIn s) (drop 3 s)
   slots-again = slots-of-site (kindIn s) _ (fields .count ∙ tested-rules _ _ (a .known) .count)
 
   rules-again : rulesHeld (kindIn s) (fieldsValues (rulesIn s) (mapIn s) (drop 3 s)) ≡ rulesIn s

@@ -1,25 +1,28 @@
--- What other crates cite of the site reader and the site writer. The round trips themselves are `write-read` of WriteRead and
--- `read-write` of ReadWrite; `past-nothing`, `same-for-any` and `one-exactly` of BytesRead say which bytes bear on an answer.
-use mathlib.Core.Path.{_≡_, refl}
+-- What other crates cite of the site reader and the site writer. The round trips, over the writer's own answer and buffer, are
+-- `written-reads-back` and `read-writes-back`; `past-nothing`, `same-for-any` and `one-exactly` of BytesRead say which bytes bear
+-- on an answer.
+use mathlib.Core.Path.{_≡_, refl, ap, _∙_}
 use mathlib.Core.Bool.{Bool, true, false, cond, _||_, not, true≢false}
 use mathlib.Core.List.{List, [], _∷_, _++_}
 use mathlib.Core.Logic.{_↔_}
 use Prim.Native.Nat.{ℕ, zero, suc, _+_, _/_, _%_, _<_, _≤_}
 use native.Mathlib.Omega.{arith}
-use lib.ListN.{length, drop, length-drop}
+use lib.ListN.{length, take, drop, length-drop}
+use lib.Seq.{length-take-le}
 use lib.Dec.{leb, eqb}
 use borrow.Author.Tests.{leb-true, leb-false, le-leb, lt-leb, eqb-true}
 use Rattle.site.specs.declared.rules.Rule.{Rule}
 use Rattle.site.specs.declared.values.Site.{Site}
 use Rattle.site.specs.declared.values.SiteAnswer.the-variants.{Read}
+use Rattle.site.specs.declared.values.WriteAnswer.the-variants.{Written}
 use Rattle.site.specs.Rules.{entriesOf, lastKind, bits}
 use Rattle.site.specs.Record.{anyField, misses, curved, rulesRead, restOf, words, kindIn, mapIn, rulesIn, readSite}
-use Rattle.site.specs.Writing.{recordOf, sound, Valid, writeRefusal, writeInto}
+use Rattle.site.specs.Writing.{recordOf, sound, Valid, writeRefusal, writeAnswer, writeInto}
 use Rattle.site.specs.Digits.{Bytes, digit-most}
 use Rattle.site.specs.Tested.{bitCount, tested-rules}
 use Rattle.site.specs.Accepted.{reading}
 use Rattle.site.specs.WriteRead.{write-read}
-use Rattle.site.specs.ReadWrite.{read-valid}
+use Rattle.site.specs.ReadWrite.{read-valid, read-write}
 use Rattle.site.specs.Bytes.{record-bytes, bytes-append, bytes-nil}
 
 -- a record has no more fields than its rules have bits
@@ -133,3 +136,15 @@ module _ (site : Site) where
       by true true never = absurd (never refl)
       by true false never = refl
       by false b never = refl
+
+-- every accepted record is written back as the same bytes: the writer answers its length, and leaves it at the start of the buffer
+pub read-writes-back : (s : List ℕ) (site : Site) (n : ℕ) (before : List ℕ) → Bytes s → readSite s ≡ Read site n → n ≤ length before
+    → (writeAnswer site (length before) ≡ Written n) × (writeInto site before ≡ take n s ++ drop n before)
+unfolding writeAnswer writeInto
+read-writes-back s site n before bytes e h =
+    let record-is = read-write s site n bytes e in
+    let long : length (recordOf site) ≡ n = ap length record-is ∙ length-take-le n s (read-length s site n e .within) in
+    let room : length (recordOf site) ≤ length before = omega arith in
+    let v = read-valid s site n e in
+    let fits = le-leb (length (recordOf site)) (length before) room in
+    (rw (zero-exactly site (length before) .1 (v, room), long), rw (v .is-sound, fits, long, record-is))

@@ -1,0 +1,263 @@
+-- The walk over a kind's rules, told by bit number: a rule with no bit drops out, and the b-th of the others is that of bit b.
+use mathlib.Core.Path.{_≡_, refl, ap, sym, _∙_}
+use mathlib.Core.Bool.{Bool, true, false, cond, _&&_, _||_, not, or-true, and-false}
+use mathlib.Core.List.{List, [], _∷_}
+use Prim.Native.Nat.{ℕ, zero, suc, _+_, _*_, _/_, _%_, _^_, _<_, _≤_}
+use native.Mathlib.Nat.{div-one, mod-one, div-div-eq-div-mul, zero-add}
+use native.Mathlib.Omega.{arith}
+use lib.ListN.{getD, drop}
+use lib.Seq.{drop-drop}
+use lib.Pow.{pow-add}
+use lib.Dec.{eqb}
+use borrow.Author.Tests.{ltb-true, lt-ltb, eqb-true, eqb-false, eq-eqb, ne-eqb, not-false}
+use mathlib.Core.Logic.{_⊎_, inl, inr, ⊎-elim}
+use Rattle.site.specs.declared.rules.Rule.{Rule}
+use Rattle.site.specs.declared.rules.Rule.the-variants.{Foreign, Lacking, Needed, Optional, Default}
+use Rattle.site.specs.declared.rules.Entry.{Entry}
+use Rattle.site.specs.declared.rules.Entry.the-variants.{Always, OnCurve}
+use Rattle.site.specs.declared.values.Slot.{Slot}
+use Rattle.site.specs.declared.values.Slot.the-variants.{Absent, Number}
+use Rattle.site.specs.Rules.{absentOf, needed, lacking, bits, settle}
+use Rattle.site.specs.Record.{word, restOf, stands, anyField, neededBitAbsent, lacks, misses, curved, words, valueNumber, fieldNumber, after, fieldsNumber, fieldsValues}
+use Rattle.site.specs.Fields.{bitAt, standing}
+use Rattle.site.specs.Truth.{and-left, and-right, or-left, or-right, both-zero}
+use Rattle.site.specs.Tested.{right, entryRight, entriesRight}
+
+-- a bit of a map is its digit by powers of 2
+pub bit-by-power : (b map : ℕ) → bitAt b map ≡ eqb (map / 2 ^ b % 2) 1
+bit-by-power zero map = rw (div-one map)
+bit-by-power (suc b) map =
+    let e : suc b ≡ 1 + b = omega arith in
+    let d : map / 2 / 2 ^ b ≡ map / 2 ^ suc b = div-div-eq-div-mul map 2 (2 ^ b) ∙ rw (e, pow-add 2 1 b) in
+    bit-by-power b (map / 2) ∙ ap (λ (m : ℕ). eqb (m % 2) 1) d
+
+-- the rules that have a bit, and the slots of these
+unfoldable pub bitRules : List Rule → List Rule
+bitRules [] = []
+bitRules (rule ∷ rules) = cond (eqb (bits rule) 0) (bitRules rules) (rule ∷ bitRules rules)
+
+unfoldable pub bitSlots : List Rule → List Slot → List Slot
+bitSlots [] slots = []
+bitSlots (rule ∷ rules) [] = []
+bitSlots (rule ∷ rules) (slot ∷ slots) = cond (eqb (bits rule) 0) (bitSlots rules slots) (slot ∷ bitSlots rules slots)
+
+pub record WithBits (rules : List Rule) (map : ℕ) (s : List ℕ) : Type 0 where
+  pub lack : lacks rules map ≡ lacks (bitRules rules) map
+  pub miss : misses rules map ≡ misses (bitRules rules) map
+  pub count : words rules map ≡ words (bitRules rules) map
+  pub number : fieldsNumber rules map s ≡ fieldsNumber (bitRules rules) map s
+  pub values : bitSlots rules (fieldsValues rules map s) ≡ fieldsValues (bitRules rules) map s
+
+with-bit : (rule : Rule) (rules : List Rule) (map : ℕ) (s : List ℕ) → bits rule ≡ 1
+    → WithBits rules (restOf rule map) (after rule map s) → WithBits (rule ∷ rules) map s
+unfolding bitRules bitSlots anyField words fieldsNumber fieldsValues
+with-bit rule rules map s e w =
+    record {
+      lack = rw (w .lack, e, e);
+      miss = rw (w .miss, e, e);
+      count = rw (w .count, e, e);
+      number = rw (w .number, e, e);
+      values = rw (w .values, e, e);
+    }
+
+without-bit : (rules : List Rule) (map : ℕ) (s : List ℕ) → WithBits rules map s → WithBits (Foreign ∷ rules) map s
+unfolding bitRules bitSlots anyField words fieldsNumber fieldsValues
+without-bit rules map s w =
+    record {
+      lack = rw (div-one map) (w .lack);
+      miss = rw (div-one map) (w .miss);
+      count = rw (div-one map, mod-one map, zero-add) (w .count);
+      number = rw (div-one map, mod-one map) (w .number);
+      values = rw (div-one map, mod-one map) (w .values);
+    }
+
+pub with-bits : (rules : List Rule) (map : ℕ) (s : List ℕ) → WithBits rules map s
+unfolding bitRules bitSlots anyField words fieldsNumber fieldsValues
+with-bits [] map s = record { lack = refl; miss = refl; count = refl; number = refl; values = refl }
+with-bits (Foreign ∷ rules) map s = without-bit rules map s (with-bits rules map s)
+with-bits (Lacking ∷ rules) map s = with-bit Lacking rules map s refl (with-bits rules _ _)
+with-bits (Needed low high ∷ rules) map s = with-bit (Needed low high) rules map s refl (with-bits rules _ _)
+with-bits (Optional low high ∷ rules) map s = with-bit (Optional low high) rules map s refl (with-bits rules _ _)
+with-bits (Default low high usual ∷ rules) map s = with-bit (Default low high usual) rules map s refl (with-bits rules _ _)
+
+-- the rules of the first n bits
+unfoldable pub listed : (ℕ → Rule) → ℕ → List Rule
+listed g zero = []
+listed g (suc n) = g 0 ∷ listed (λ b. g (suc b)) n
+
+abbrev pub EachHasBit : (ℕ → Rule) → Type 0
+EachHasBit g = (b : ℕ) → bits (g b) ≡ 1
+
+-- the number of a bit in what follows the map, and its refusal or 0
+abbrev pub wordAt : ℕ → ℕ → List ℕ → ℕ
+wordAt b map s = word (drop (2 * standing b map) s)
+
+abbrev pub bitNumber : (ℕ → Rule) → ℕ → ℕ → List ℕ → ℕ
+bitNumber g b map s = cond (bitAt b map) (valueNumber (g b) (wordAt b map s)) 0
+
+word-after : (b map : ℕ) (s : List ℕ) → wordAt (suc b) map s ≡ wordAt b (map / 2) (drop (2 * (map % 2)) s)
+unfolding standing
+word-after b map s =
+    let e : 2 * (map % 2 + standing b (map / 2)) ≡ 2 * (map % 2) + 2 * standing b (map / 2) = omega arith in
+    ap word (ap (λ (k : ℕ). drop k s) e ∙ sym (drop-drop (2 * standing b (map / 2)) (2 * (map % 2)) s))
+
+pub words-listed : (n : ℕ) (g : ℕ → Rule) (map : ℕ) → EachHasBit g → words (listed g n) map ≡ standing n map
+unfolding listed words standing
+words-listed zero g map one = refl
+words-listed (suc n) g map one = rw (one 0, words-listed n (λ b. g (suc b)) (map / 2) (λ b. one (suc b)))
+
+-- the slot of a bit
+pub value-at : (n : ℕ) (g : ℕ → Rule) (map : ℕ) (s : List ℕ) → EachHasBit g → (b : ℕ) → b < n
+    → getD (fieldsValues (listed g n) map s) b Absent ≡ cond (bitAt b map) (Number (wordAt b map s)) (absentOf (g b))
+unfolding listed fieldsValues standing
+value-at zero g map s one b h = let z : ⊥ = omega arith in absurd z
+value-at (suc n) g map s one zero h = rw (one 0)
+value-at (suc n) g map s one (suc b) h =
+    rw (one 0, word-after b map s) (value-at n (λ k. g (suc k)) (map / 2) (drop (2 * (map % 2)) s) (λ k. one (suc k)) b (omega arith))
+
+-- no needed bit is absent
+pub needed-stands : (n : ℕ) (g : ℕ → Rule) (map : ℕ) → EachHasBit g → misses (listed g n) map ≡ false
+    → (b : ℕ) → b < n → needed (g b) ≡ true → bitAt b map ≡ true
+unfolding listed anyField
+needed-stands zero g map one e b h k = let z : ⊥ = omega arith in absurd z
+needed-stands (suc n) g map one e zero h k =
+    let q : (true && not (eqb (map % 2) 1)) ≡ false = rw (k, one 0) at (or-left (neededBitAbsent (g 0) map) _ e) in not-false (eqb (map % 2) 1) q
+needed-stands (suc n) g map one e (suc b) h k =
+    let q : misses (listed (λ j. g (suc j)) n) (map / 2) ≡ false = rw (one 0) at (or-right (neededBitAbsent (g 0) map) _ e) in
+    needed-stands n (λ j. g (suc j)) (map / 2) (λ j. one (suc j)) q b (omega arith) k
+
+-- fields without refusal: each bit that stands has a right number
+pub all-right : (n : ℕ) (g : ℕ → Rule) (map : ℕ) (s : List ℕ) → EachHasBit g → fieldsNumber (listed g n) map s ≡ 0
+    → (b : ℕ) → b < n → bitNumber g b map s ≡ 0
+unfolding listed fieldsNumber standing
+all-right zero g map s one e b h = let z : ⊥ = omega arith in absurd z
+all-right (suc n) g map s one e b h =
+    let p = both-zero (fieldNumber (g 0) map s) _ _ refl e in
+    by b h (rw (one 0) at (p .0)) (all-right n (λ j. g (suc j)) (map / 2) (drop (2 * (map % 2)) s) (λ j. one (suc j)) (rw (one 0) at (p .1)))
+  where
+    by : (b : ℕ) → b < suc n → bitNumber g 0 map s ≡ 0
+        → ((c : ℕ) → c < n → bitNumber (λ j. g (suc j)) c (map / 2) (drop (2 * (map % 2)) s) ≡ 0) → bitNumber g b map s ≡ 0
+    by zero h first later = first
+    by (suc c) h first later = rw (word-after c map s) (later c (omega arith))
+
+-- the first bit whose number is refused: those below it are not
+pub record FirstRefused (n : ℕ) (g : ℕ → Rule) (map : ℕ) (s : List ℕ) (number : ℕ) : Type 0 where
+  pub at : ℕ
+  pub among : at < n
+  pub number-is : bitNumber g at map s ≡ number
+  pub below : (c : ℕ) → c < at → bitNumber g c map s ≡ 0
+
+pub first-refused : (n : ℕ) (g : ℕ → Rule) (map : ℕ) (s : List ℕ) (number : ℕ) → EachHasBit g → (number ≡ 0 → ⊥)
+    → fieldsNumber (listed g n) map s ≡ number → FirstRefused n g map s number
+unfolding listed fieldsNumber standing
+first-refused zero g map s number one ne e = absurd (ne (sym e))
+first-refused (suc n) g map s number one ne e =
+    by (eqb (fieldNumber (g 0) map s) 0) refl e
+    (λ q. first-refused n (λ j. g (suc j)) (map / 2) (drop (2 * (map % 2)) s) number (λ j. one (suc j)) ne (rw (one 0) at q))
+  where
+    below-by : (r : FirstRefused n (λ j. g (suc j)) (map / 2) (drop (2 * (map % 2)) s) number) → bitNumber g 0 map s ≡ 0
+        → (c : ℕ) → c < suc (r .at) → bitNumber g c map s ≡ 0
+    below-by r z zero h = z
+    below-by r z (suc c) h = rw (word-after c map s) (r .below c (omega arith))
+
+    by : (b : Bool) → eqb (fieldNumber (g 0) map s) 0 ≡ b
+        → cond b (fieldsNumber (listed (λ j. g (suc j)) n) (restOf (g 0) map) (after (g 0) map s)) (fieldNumber (g 0) map s) ≡ number
+        → (fieldsNumber (listed (λ j. g (suc j)) n) (restOf (g 0) map) (after (g 0) map s) ≡ number
+        → FirstRefused n (λ j. g (suc j)) (map / 2) (drop (2 * (map % 2)) s) number)
+        → FirstRefused (suc n) g map s number
+    by true t q later =
+        let r = later q in
+        let z : bitNumber g 0 map s ≡ 0 = rw (one 0) at (eqb-true (fieldNumber (g 0) map s) 0 t) in
+        record { at = suc (r .at); among = let h = r .among in omega arith; number-is = rw (word-after (r .at) map s) (r .number-is); below = below-by r z }
+    by false t q later =
+        record { at = 0; among = omega arith; number-is = rw (one 0) at q; below = λ c h. absurd (omega arith) }
+
+pub refused-first : (n : ℕ) (g : ℕ → Rule) (map : ℕ) (s : List ℕ) (number b : ℕ) → EachHasBit g → (number ≡ 0 → ⊥)
+    → b < n → bitNumber g b map s ≡ number → ((c : ℕ) → c < b → bitNumber g c map s ≡ 0) → fieldsNumber (listed g n) map s ≡ number
+unfolding listed fieldsNumber standing
+refused-first zero g map s number b one ne h e below = let z : ⊥ = omega arith in absurd z
+refused-first (suc n) g map s number zero one ne h e below =
+    let q : eqb (bitNumber g 0 map s) 0 ≡ false = rw e (ne-eqb number 0 ne) in
+    rw (one 0, q) e
+refused-first (suc n) g map s number (suc b) one ne h e below =
+    let q : eqb (bitNumber g 0 map s) 0 ≡ true = eq-eqb _ 0 (below 0 (omega arith)) in
+    rw (one 0, q)
+    (refused-first n (λ j. g (suc j)) (map / 2) (drop (2 * (map % 2)) s) number b (λ j. one (suc j)) ne (omega arith) (rw (word-after b map s) at e)
+    (λ c k. rw (word-after c map s) at (below (suc c) (omega arith))))
+
+-- a map that is not 0 has a bit that stands, and only such a map
+pub record StandingBit (map : ℕ) (Holds : ℕ → Type 0) : Type 0 where
+  pub at : ℕ
+  pub stands : bitAt at map ≡ true
+  pub holds : Holds at
+
+some-bit : (most map : ℕ) → map ≤ most → 0 < map → StandingBit map (λ b. Unit)
+some-bit zero map h k = let z : ⊥ = omega arith in absurd z
+some-bit (suc most) map h k = by (eqb (map % 2) 1) refl (λ q. some-bit most (map / 2) (omega arith) q)
+  where
+    by : (b : Bool) → eqb (map % 2) 1 ≡ b → (0 < map / 2 → StandingBit (map / 2) (λ b. Unit)) → StandingBit map (λ b. Unit)
+    by true t later = record { at = 0; stands = t; holds = tt }
+    by false t later = let r = later (omega (arith, eqb-false (map % 2) 1 t)) in record { at = suc (r .at); stands = r .stands; holds = tt }
+
+not-zero : (b map : ℕ) → bitAt b map ≡ true → 0 < map
+not-zero zero map e = omega (arith, eqb-true (map % 2) 1 e)
+not-zero (suc b) map e = omega (arith, not-zero b (map / 2) e)
+
+-- a bit stands that the rules lack, or one past them
+abbrev pub Past : ℕ → (ℕ → Rule) → ℕ → Type 0
+Past n g b = (lacking (g b) ≡ true) ⊎ (n ≤ b)
+
+pub lacked-found : (n : ℕ) (g : ℕ → Rule) (map : ℕ) → EachHasBit g → lacks (listed g n) map ≡ true → StandingBit map (Past n g)
+unfolding listed anyField
+lacked-found zero g map one e =
+    let r = some-bit map map (omega arith) (ltb-true 0 map e) in record { at = r .at; stands = r .stands; holds = inr (omega arith) }
+lacked-found (suc n) g map one e =
+    by (lacking (g 0)) (eqb (map % 2) 1) refl refl (rw (one 0) at e) (λ q. lacked-found n (λ j. g (suc j)) (map / 2) (λ j. one (suc j)) q)
+  where
+    one-up : StandingBit (map / 2) (Past n (λ j. g (suc j))) → StandingBit map (Past (suc n) g)
+    one-up r = record { at = suc (r .at); stands = r .stands; holds = ⊎-elim (λ x. inl x) (λ x. inr (omega arith)) (r .holds) }
+
+    by : (a b : Bool) → lacking (g 0) ≡ a → eqb (map % 2) 1 ≡ b → ((a && b) || lacks (listed (λ j. g (suc j)) n) (map / 2)) ≡ true
+        → (lacks (listed (λ j. g (suc j)) n) (map / 2) ≡ true → StandingBit (map / 2) (Past n (λ j. g (suc j)))) → StandingBit map (Past (suc n) g)
+    by true true p t q later = record { at = 0; stands = t; holds = inl p }
+    by true false p t q later = one-up (later q)
+    by false b p t q later = one-up (later q)
+
+pub lacked-told : (n : ℕ) (g : ℕ → Rule) (map b : ℕ) → EachHasBit g → bitAt b map ≡ true → Past n g b → lacks (listed g n) map ≡ true
+unfolding listed anyField
+lacked-told zero g map b one e p = lt-ltb 0 map (not-zero b map e)
+lacked-told (suc n) g map zero one e (inl p) = rw (p, one 0, e)
+lacked-told (suc n) g map zero one e (inr h) = let z : ⊥ = omega arith in absurd z
+lacked-told (suc n) g map (suc b) one e (inl p) =
+    rw (one 0, lacked-told n (λ j. g (suc j)) (map / 2) b (λ j. one (suc j)) e (inl p)) (or-true (lacking (g 0) && eqb (map % 2) 1))
+lacked-told (suc n) g map (suc b) one e (inr h) =
+    rw (one 0, lacked-told n (λ j. g (suc j)) (map / 2) b (λ j. one (suc j)) e (inr (omega arith))) (or-true (lacking (g 0) && eqb (map % 2) 1))
+
+-- a map with no bit past the first n has no more standing bits than these
+pub standing-past : (n m map : ℕ) → n ≤ m → ((b : ℕ) → n ≤ b → bitAt b map ≡ false) → standing m map ≡ standing n map
+unfolding standing
+standing-past zero zero map h none = refl
+standing-past (suc n) zero map h none = let z : ⊥ = omega arith in absurd z
+standing-past zero (suc m) map h none =
+    omega (arith, eqb-false (map % 2) 1 (none 0 (omega arith)), standing-past zero m (map / 2) (omega arith) (λ b k. none (suc b) (omega arith)))
+standing-past (suc n) (suc m) map h none = rw (standing-past n m (map / 2) (omega arith) (λ b k. none (suc b) (omega arith)))
+
+-- where no bit of the curve stands, a straight road's rules refuse what a curve's do
+pub record SameStraight (entries : List Entry) (map : ℕ) (s : List ℕ) : Type 0 where
+  pub lack : lacks (settle false entries) map ≡ lacks (settle true entries) map
+  pub count : words (settle false entries) map ≡ words (settle true entries) map
+  pub number : fieldsNumber (settle false entries) map s ≡ fieldsNumber (settle true entries) map s
+
+pub same-straight : (entries : List Entry) (map : ℕ) (s : List ℕ) → entriesRight entries ≡ true → curved entries map ≡ false
+    → SameStraight entries map s
+unfolding anyField words fieldsNumber entriesRight
+same-straight [] map s r e = record { lack = refl; count = refl; number = refl }
+same-straight (Always rule ∷ entries) map s r e =
+    let w = same-straight entries (restOf rule map) (after rule map s) (and-right (entryRight (Always rule)) _ r) e in
+    record { lack = rw (w .lack); count = rw (w .count); number = rw (w .number) }
+same-straight (OnCurve rule ∷ entries) map s r e =
+    let one : bits rule ≡ 1 = eqb-true (bits rule) 1 (and-right (right rule) _ (and-left _ _ r)) in
+    let e′ : (eqb (map % 2) 1 || curved entries (map / 2)) ≡ false = rw one at e in
+    let off = or-left (eqb (map % 2) 1) (curved entries (map / 2)) e′ in
+    let w = same-straight entries (map / 2) (drop (2 * (map % 2)) s) (and-right (entryRight (OnCurve rule)) _ r) (or-right (eqb (map % 2) 1) _ e′) in
+    record { lack = rw (one, off, and-false (lacking rule)) (w .lack); count = rw (one, w .count); number = rw (one, off) (w .number) }

@@ -1,0 +1,372 @@
+-- The rows of document 01 are the table of rules, bit by bit; so a record that is read has the values that they say.
+use mathlib.Core.Path.{_≡_, refl, ap, sym, _∙_}
+use mathlib.Core.Bool.{Bool, true, false, cond, _&&_, true≢false}
+use mathlib.Core.List.{List, [], _∷_}
+use mathlib.Core.Logic.{_↔_, inl, inr}
+use Prim.Native.Nat.{ℕ, zero, suc, _+_, _*_, _%_, _<_, _≤_}
+use native.Mathlib.Nat.{mod-one}
+use native.Mathlib.Omega.{arith}
+use lib.ListN.{getD, drop}
+use lib.Seq.{drop-drop}
+use lib.Dec.{ltb, leb, eqb}
+use borrow.Author.Tests.{ltb-true, ltb-false, leb-true, eqb-true, ne-eqb}
+use Rattle.site.specs.declared.rules.Rule.{Rule}
+use Rattle.site.specs.declared.rules.Rule.the-variants.{Foreign, Lacking, Needed, Optional, Default}
+use Rattle.site.specs.declared.rules.Entry.{Entry}
+use Rattle.site.specs.declared.rules.Entry.the-variants.{Always, OnCurve}
+use Rattle.site.specs.declared.values.Slot.{Slot}
+use Rattle.site.specs.declared.values.Slot.the-variants.{Absent, Number}
+use Rattle.site.specs.declared.values.Site.{Site}
+use Rattle.site.specs.declared.values.SiteAnswer.the-variants.{Read}
+use Rattle.site.specs.Rules.{entriesOf, lastKind, inside, allows, absentOf, needed, lacking, bits, settled, settle, holds}
+use Rattle.site.specs.Record.{anyField, lackedBitStands, lacks, misses, curved, rulesRead, word, words, valueNumber, fieldsNumber, fieldsValues, kindIn, mapIn, rulesIn, lengthIn, siteIn, readSite}
+use Rattle.site.specs.Fields.{Absence, never, no-number, usual, on-curve, Field, lacked, field, Row, bit, rowsOf, fieldAt, mapBits, lackedFrom, lackedBits, fieldIn, othersOf, bitAt, standing, numberAt, inRange, isUsual, spellsDefault, AbsentAs, FieldRead, BitRead, AllAbsent, FieldsRead}
+use Rattle.site.specs.Writing.{slotsOf}
+use Rattle.site.specs.Truth.{and-left, and-right, or-left, or-right, not-both}
+use Rattle.site.specs.Tested.{tested-rules}
+use Rattle.site.specs.Accepted.{Accepted, reading}
+use Rattle.site.specs.ReadWrite.{slots-again}
+use Rattle.site.specs.BitLaws.{bitRules, bitSlots, with-bits, listed, EachHasBit, wordAt, words-listed, value-at, needed-stands, all-right, StandingBit, Past, lacked-found, lacked-told, standing-past, same-straight}
+use Rattle.site.specs.Curve.{curved-by-six}
+
+-- the rule that a field has in the table of rules, on a curve or not
+abbrev pub ruleFor : (low high : ℕ) → Absence → Bool → Rule
+ruleFor low high never curve = Needed low high
+ruleFor low high no-number curve = Optional low high
+ruleFor low high (usual d) curve = Default low high d
+ruleFor low high (on-curve absence) curve = cond curve (ruleFor low high absence curve) Lacking
+
+abbrev pub ruleAt : Bool → Field → Rule
+ruleAt curve lacked = Lacking
+ruleAt curve (field value low high absence) = ruleFor low high absence curve
+
+-- the rules of a kind by bit number, and how many bits it has
+abbrev pub rulesAt : ℕ → Bool → ℕ → Rule
+rulesAt kind curve b = ruleAt curve (fieldAt (rowsOf kind) b)
+
+abbrev pub bitsHeld : ℕ → ℕ
+bitsHeld zero = 15
+bitsHeld (suc kind) = 7
+
+few-bits : (kind : ℕ) → bitsHeld kind ≤ mapBits
+few-bits zero = omega arith
+few-bits (suc kind) = omega arith
+
+rule-for-bit : (low high : ℕ) (absence : Absence) (curve : Bool) → bits (ruleFor low high absence curve) ≡ 1
+rule-for-bit low high never curve = refl
+rule-for-bit low high no-number curve = refl
+rule-for-bit low high (usual d) curve = refl
+rule-for-bit low high (on-curve absence) true = rule-for-bit low high absence true
+rule-for-bit low high (on-curve absence) false = refl
+
+rule-at-bit : (curve : Bool) (x : Field) → bits (ruleAt curve x) ≡ 1
+rule-at-bit curve lacked = refl
+rule-at-bit curve (field value low high absence) = rule-for-bit low high absence curve
+
+pub each-has-bit : (kind : ℕ) (curve : Bool) → EachHasBit (rulesAt kind curve)
+each-has-bit kind curve b = rule-at-bit curve (fieldAt (rowsOf kind) b)
+
+-- THE TWO TABLES ARE ONE: by computation, for every kind, on a curve and on a straight road
+pub rules-by-bit : (kind : ℕ) → kind ≤ lastKind → (curve : Bool)
+    → bitRules (settle curve (entriesOf kind)) ≡ listed (rulesAt kind curve) (bitsHeld kind)
+unfolding entriesOf bitRules listed fieldAt
+rules-by-bit zero h true = refl
+rules-by-bit zero h false = refl
+rules-by-bit (suc zero) h true = refl
+rules-by-bit (suc zero) h false = refl
+rules-by-bit (suc (suc zero)) h true = refl
+rules-by-bit (suc (suc zero)) h false = refl
+rules-by-bit (suc (suc (suc zero))) h true = refl
+rules-by-bit (suc (suc (suc zero))) h false = refl
+rules-by-bit (suc (suc (suc (suc kind)))) h curve = let z : ⊥ = omega arith in absurd z
+
+-- each row names the slot of its bit: the slots by name, and by number
+unfoldable byName : List Row → Site → List Slot
+byName [] site = []
+byName (bit n lacked ∷ rows) site = byName rows site
+byName (bit n (field value low high absence) ∷ rows) site = value site ∷ byName rows site
+
+unfoldable byNumber : List Row → List Slot → List Slot
+byNumber [] slots = []
+byNumber (bit n lacked ∷ rows) slots = byNumber rows slots
+byNumber (bit n (field value low high absence) ∷ rows) slots = getD slots n Absent ∷ byNumber rows slots
+
+named : (kind : ℕ) → kind ≤ lastKind → (curve : Bool) (site : Site)
+    → byName (rowsOf kind) site ≡ byNumber (rowsOf kind) (bitSlots (settle curve (entriesOf kind)) (slotsOf site))
+unfolding entriesOf bitSlots byName byNumber
+named zero h true site = refl
+named zero h false site = refl
+named (suc zero) h curve site = refl
+named (suc (suc zero)) h curve site = refl
+named (suc (suc (suc zero))) h curve site = refl
+named (suc (suc (suc (suc kind)))) h curve site = let z : ⊥ = omega arith in absurd z
+
+abbrev NamedAt : List Slot → Site → ℕ → Field → Type 0
+NamedAt slots site b lacked = Unit
+NamedAt slots site b (field value low high absence) = value site ≡ getD slots b Absent
+
+named-at : (rows : List Row) (slots : List Slot) (site : Site) → byName rows site ≡ byNumber rows slots → (b : ℕ) → NamedAt slots site b (fieldAt rows b)
+unfolding fieldAt byName byNumber
+named-at [] slots site e b = tt
+named-at (bit n lacked ∷ rows) slots site e b = by (eqb b n) (named-at rows slots site e b)
+  where
+    by : (t : Bool) → NamedAt slots site b (fieldAt rows b) → NamedAt slots site b (cond t lacked (fieldAt rows b))
+    by true later = tt
+    by false later = later
+named-at (bit n (field value low high absence) ∷ rows) slots site e b = by (eqb b n) refl (named-at rows slots site (cc) b)
+  where
+    by : (t : Bool) → eqb b n ≡ t → NamedAt slots site b (fieldAt rows b) → NamedAt slots site b (cond t (field value low high absence) (fieldAt rows b))
+    by true t later = let p : value site ≡ getD slots n Absent = cc in rw (eqb-true b n t) p
+    by false t later = later
+
+-- a kind lacks every bit past its own
+unfoldable belowAll : ℕ → List Row → Bool
+belowAll most [] = true
+belowAll most (bit n x ∷ rows) = ltb n most && belowAll most rows
+
+past-all : (rows : List Row) (most b : ℕ) → belowAll most rows ≡ true → most ≤ b → fieldAt rows b ≡ lacked
+unfolding fieldAt belowAll
+past-all [] most b e h = refl
+past-all (bit n x ∷ rows) most b e h =
+    let l = ltb-true n most (and-left (ltb n most) _ e) in
+    rw (ne-eqb b n (λ q. omega arith)) (past-all rows most b (and-right (ltb n most) _ e) h)
+
+pub lacked-past : (kind b : ℕ) → bitsHeld kind ≤ b → fieldAt (rowsOf kind) b ≡ lacked
+unfolding belowAll
+lacked-past zero b h = past-all (rowsOf 0) 15 b refl h
+lacked-past (suc zero) b h = past-all (rowsOf 1) 7 b refl h
+lacked-past (suc (suc zero)) b h = past-all (rowsOf 2) 7 b refl h
+lacked-past (suc (suc (suc kind))) b h = past-all (rowsOf 3) 7 b refl h
+
+-- the rules of a kind and a map, told by bit number
+pub record ByBits (kind map : ℕ) (s : List ℕ) : Type 0 where
+  pub lack : lacks (rulesRead kind map) map ≡ lacks (listed (rulesAt kind true) (bitsHeld kind)) map
+  pub count : words (rulesRead kind map) map ≡ words (listed (rulesAt kind true) (bitsHeld kind)) map
+  pub number : fieldsNumber (rulesRead kind map) map s ≡ fieldsNumber (listed (rulesAt kind true) (bitsHeld kind)) map s
+
+pub by-bits : (kind map : ℕ) (s : List ℕ) → kind ≤ lastKind → ByBits kind map s
+by-bits kind map s h = by (curved (entriesOf kind) map) refl
+  where
+    by : (c : Bool) → curved (entriesOf kind) map ≡ c → ByBits kind map s
+    by true e =
+        let w = with-bits (settle true (entriesOf kind)) map s in
+        let r = rules-by-bit kind h true in
+        record { lack = rw e (rw r at (w .lack)); count = rw e (rw r at (w .count)); number = rw e (rw r at (w .number)) }
+    by false e =
+        let w = with-bits (settle true (entriesOf kind)) map s in
+        let r = rules-by-bit kind h true in
+        let q = same-straight (entriesOf kind) map s (tested-rules kind true h .entries-right) e in
+        record {
+          lack = rw e (q .lack ∙ (rw r at (w .lack)));
+          count = rw e (q .count ∙ (rw r at (w .count)));
+          number = rw e (q .number ∙ (rw r at (w .number)));
+        }
+
+pub lacked-bits : (kind : ℕ) → kind ≤ lastKind → lackedFrom (rowsOf kind) 0 mapBits ≡ lackedBits kind
+unfolding fieldAt lackedFrom
+lacked-bits zero h = refl
+lacked-bits (suc zero) h = refl
+lacked-bits (suc (suc zero)) h = refl
+lacked-bits (suc (suc (suc zero))) h = refl
+lacked-bits (suc (suc (suc (suc kind)))) h = let z : ⊥ = omega arith in absurd z
+
+-- 6 BY BIT NUMBER: the rules lack a bit that stands exactly where a bit stands that no row is for
+lacking-for : (low high : ℕ) (absence : Absence) → lacking (ruleFor low high absence true) ≡ true → ⊥
+lacking-for low high never e = true≢false (sym e)
+lacking-for low high no-number e = true≢false (sym e)
+lacking-for low high (usual d) e = true≢false (sym e)
+lacking-for low high (on-curve absence) e = lacking-for low high absence e
+
+lacking-at : (x : Field) → lacking (ruleAt true x) ≡ true → x ≡ lacked
+lacking-at lacked e = refl
+lacking-at (field value low high absence) e = absurd (lacking-for low high absence e)
+
+module _ (kind map : ℕ) (known : kind ≤ lastKind) where
+  past-lacked : (b : ℕ) → Past (bitsHeld kind) (rulesAt kind true) b → fieldAt (rowsOf kind) b ≡ lacked
+  past-lacked b (inl e) = lacking-at (fieldAt (rowsOf kind) b) e
+  past-lacked b (inr h) = lacked-past kind b h
+
+  pub lacks-exactly : (lacks (rulesRead kind map) map ≡ true) ↔ StandingBit map (λ b. fieldAt (rowsOf kind) b ≡ lacked)
+  lacks-exactly = (
+    λ e.
+        let r = lacked-found (bitsHeld kind) (rulesAt kind true) map (each-has-bit kind true) (sym (by-bits kind map [] known .lack) ∙ e) in
+        record { at = r .at; stands = r .stands; holds = past-lacked (r .at) (r .holds) },
+    λ r.
+        by-bits kind map [] known .lack
+        ∙ lacked-told (bitsHeld kind) (rulesAt kind true) map (r .at) (each-has-bit kind true) (r .stands) (inl (rw (r .holds))),
+  )
+
+-- where no such bit stands, the record has a two-byte number for each bit of the map that stands
+module _ (kind map : ℕ) (known : kind ≤ lastKind) (none : (b : ℕ) → bitAt b map ≡ true → fieldAt (rowsOf kind) b ≡ lacked → ⊥) where
+  unset-past : (b : ℕ) → bitsHeld kind ≤ b → bitAt b map ≡ false
+  unset-past b h = by (bitAt b map) refl
+    where
+      by : (t : Bool) → bitAt b map ≡ t → t ≡ false
+      by true t = absurd (none b t (lacked-past kind b h))
+      by false t = refl
+
+  pub words-standing : words (rulesRead kind map) map ≡ standing mapBits map
+  words-standing =
+      by-bits kind map [] known .count
+      ∙ words-listed (bitsHeld kind) (rulesAt kind true) map (each-has-bit kind true)
+      ∙ sym (standing-past (bitsHeld kind) mapBits map (few-bits kind) unset-past)
+
+-- a slot of another kind holds no number
+abbrev isOther : Entry → Bool
+isOther (Always Foreign) = true
+isOther (Always Lacking) = true
+isOther (Always (Needed low high)) = false
+isOther (Always (Optional low high)) = false
+isOther (Always (Default low high d)) = false
+isOther (OnCurve rule) = false
+
+unfoldable otherSlots : List Entry → List Slot → List Slot
+otherSlots [] slots = []
+otherSlots (entry ∷ entries) [] = []
+otherSlots (entry ∷ entries) (slot ∷ slots) = cond (isOther entry) (slot ∷ otherSlots entries slots) (otherSlots entries slots)
+
+others-absent : (curve : Bool) (entries : List Entry) (map : ℕ) (s : List ℕ) → lacks (settle curve entries) map ≡ false
+    → AllAbsent (otherSlots entries (fieldsValues (settle curve entries) map s))
+unfolding otherSlots anyField fieldsValues
+others-absent curve [] map s e = tt
+others-absent curve (Always Foreign ∷ entries) map s e = (rw (mod-one map), others-absent curve entries _ _ e)
+others-absent curve (Always Lacking ∷ entries) map s e = (rw (or-left (eqb (map % 2) 1) _ e), others-absent curve entries _ _ (or-right (eqb (map % 2) 1) _ e))
+others-absent curve (Always (Needed low high) ∷ entries) map s e = others-absent curve entries _ _ e
+others-absent curve (Always (Optional low high) ∷ entries) map s e = others-absent curve entries _ _ e
+others-absent curve (Always (Default low high d) ∷ entries) map s e = others-absent curve entries _ _ e
+others-absent curve (OnCurve rule ∷ entries) map s e = others-absent curve entries _ _ (or-right (lackedBitStands (settled curve (OnCurve rule)) map) _ e)
+
+others-are : (kind : ℕ) → kind ≤ lastKind → (site : Site) → othersOf kind site ≡ otherSlots (entriesOf kind) (slotsOf site)
+unfolding entriesOf otherSlots
+others-are zero h site = refl
+others-are (suc zero) h site = refl
+others-are (suc (suc zero)) h site = refl
+others-are (suc (suc (suc zero))) h site = refl
+others-are (suc (suc (suc (suc kind)))) h site = let z : ⊥ = omega arith in absurd z
+
+-- a number that a field's rule takes is in its range, and one that its absence says is the default
+allowed-for : (low high : ℕ) (absence : Absence) (number : ℕ) → allows (ruleFor low high absence true) number ≡ inside low high number
+allowed-for low high never number = refl
+allowed-for low high no-number number = refl
+allowed-for low high (usual d) number = refl
+allowed-for low high (on-curve absence) number = allowed-for low high absence number
+
+held-for : (low high : ℕ) (absence : Absence) (number : ℕ) → holds (absentOf (ruleFor low high absence true)) number ≡ isUsual absence number
+held-for low high never number = refl
+held-for low high no-number number = refl
+held-for low high (usual d) number = refl
+held-for low high (on-curve absence) number = held-for low high absence number
+
+-- the refusal of a number at a field: 8, then 9, or 0
+abbrev pub wrongNumber : Field → ℕ → ℕ
+wrongNumber x number = cond (inRange x number) (cond (spellsDefault x number) 9 0) 8
+
+pub wrong-number : (x : Field) (number : ℕ) → valueNumber (ruleAt true x) number ≡ wrongNumber x number
+wrong-number lacked number = refl
+wrong-number (field value low high absence) number = rw (allowed-for low high absence number, held-for low high absence number)
+
+-- what an absent field is read as
+absent-for : (low high : ℕ) (absence : Absence) (curve : Bool) → (needed (ruleFor low high absence curve) ≡ true → ⊥)
+    → AbsentAs absence curve (absentOf (ruleFor low high absence curve))
+absent-for low high never curve ne = ne refl
+absent-for low high no-number curve ne = refl
+absent-for low high (usual d) curve ne = refl
+absent-for low high (on-curve absence) true ne = absent-for low high absence true ne
+absent-for low high (on-curve absence) false ne = refl
+
+-- no refusal, so in its range and no default
+pub right-number : (a d : Bool) → _≡_ {A = ℕ} (cond a (cond d 9 0) 8) 0 → (a ≡ true) × (d ≡ false)
+right-number true true e = let z : ⊥ = omega arith in absurd z
+right-number true false e = (refl, refl)
+right-number false d e = let z : ⊥ = omega arith in absurd z
+
+pub number-of : (b : ℕ) (s : List ℕ) → wordAt b (mapIn s) (drop 3 s) ≡ numberAt b s
+number-of b s = ap word (drop-drop (2 * standing b (mapIn s)) 3 s)
+
+module _ (s : List ℕ) (a : Accepted s) where
+  slot-at : (b : ℕ) → b < bitsHeld (kindIn s)
+      → getD (bitSlots (rulesIn s) (slotsOf (siteIn s))) b Absent
+      ≡ cond (bitAt b (mapIn s)) (Number (numberAt b s)) (absentOf (rulesAt (kindIn s) (curved (entriesOf (kindIn s)) (mapIn s)) b))
+  slot-at b h =
+      let c = curved (entriesOf (kindIn s)) (mapIn s) in
+      let w = with-bits (rulesIn s) (mapIn s) (drop 3 s) in
+      ap (λ (l : List Slot). getD (bitSlots (rulesIn s) l) b Absent) (slots-again s a)
+      ∙ ap (λ (l : List Slot). getD l b Absent) (w .values ∙ ap (λ (l : List Rule). fieldsValues l (mapIn s) (drop 3 s)) (rules-by-bit (kindIn s) (a .known) c))
+      ∙ value-at (bitsHeld (kindIn s)) (rulesAt (kindIn s) c) (mapIn s) (drop 3 s) (each-has-bit (kindIn s) c) b h
+      ∙ ap (λ (k : ℕ). cond (bitAt b (mapIn s)) (Number k) (absentOf (rulesAt (kindIn s) c b))) (number-of b s)
+
+  number-at : (b : ℕ) → b < bitsHeld (kindIn s) → bitAt b (mapIn s) ≡ true → wrongNumber (fieldIn s b) (numberAt b s) ≡ 0
+  number-at b h e =
+      let n = all-right (bitsHeld (kindIn s)) (rulesAt (kindIn s) true) (mapIn s) (drop 3 s) (each-has-bit (kindIn s) true)
+      (sym (by-bits (kindIn s) (mapIn s) (drop 3 s) (a .known) .number) ∙ a .no-field-refused) b h in
+      sym (wrong-number (fieldIn s b) (numberAt b s)) ∙ (rw (e, number-of b s) at n)
+
+  never-absent : (b : ℕ) → b < bitsHeld (kindIn s) → bitAt b (mapIn s) ≡ false
+      → needed (rulesAt (kindIn s) (curved (entriesOf (kindIn s)) (mapIn s)) b) ≡ true → ⊥
+  never-absent b h e k =
+      let c = curved (entriesOf (kindIn s)) (mapIn s) in
+      let m = with-bits (rulesIn s) (mapIn s) (drop 3 s) .miss ∙ ap (λ (l : List Rule). misses l (mapIn s)) (rules-by-bit (kindIn s) (a .known) c) in
+      not-both (bitAt b (mapIn s)) (needed-stands (bitsHeld (kindIn s)) (rulesAt (kindIn s) c) (mapIn s) (each-has-bit (kindIn s) c) (sym m ∙ a .miss) b h k) e
+
+  lacked-unset : (b : ℕ) → fieldIn s b ≡ lacked → (stood : Bool) → bitAt b (mapIn s) ≡ stood → stood ≡ false
+  lacked-unset b e true t =
+      not-both (lacks (rulesIn s) (mapIn s)) (lacks-exactly (kindIn s) (mapIn s) (a .known) .1 (record { at = b; stands = t; holds = e })) (a .lack)
+  lacked-unset b e false t = refl
+
+  among : (b : ℕ) (value : Site → Slot) (low high : ℕ) (absence : Absence) → fieldIn s b ≡ field value low high absence
+      → (past : Bool) → ltb b (bitsHeld (kindIn s)) ≡ past → b < bitsHeld (kindIn s)
+  among b value low high absence e true t = ltb-true b (bitsHeld (kindIn s)) t
+  among b value low high absence e false t =
+      let l = lacked-past (kindIn s) b (ltb-false b (bitsHeld (kindIn s)) t) in let z : _≡_ {A = ℕ} 0 1 = cc in absurd (omega arith)
+
+  bit-read : (b : ℕ) (x : Field) → fieldIn s b ≡ x → NamedAt (bitSlots (rulesIn s) (slotsOf (siteIn s))) (siteIn s) b x → BitRead s (siteIn s) b x
+  bit-read b lacked e n = lacked-unset b e (bitAt b (mapIn s)) refl
+  bit-read b (field value low high absence) e n =
+      let c = curved (entriesOf (kindIn s)) (mapIn s) in
+      let h = among b value low high absence e (ltb b (bitsHeld (kindIn s))) refl in
+      let is = n ∙ slot-at b h in
+      let right : bitAt b (mapIn s) ≡ true → (inside low high (numberAt b s) ≡ true) × (isUsual absence (numberAt b s) ≡ false) =
+      λ t. right-number _ _ (rw e at (number-at b h t)) in
+      record {
+        standing-is = λ t. rw t at is;
+        at-least = λ t. leb-true low (numberAt b s) (and-left (leb low (numberAt b s)) _ (right t .0));
+        at-most = λ t. leb-true (numberAt b s) high (and-right (leb low (numberAt b s)) _ (right t .0));
+        not-spelled = λ t. right t .1;
+        absent-as = λ t.
+            let q : value (siteIn s) ≡ absentOf (ruleFor low high absence c) = rw (t, e) at is in
+            let ne : needed (ruleFor low high absence c) ≡ true → ⊥ = rw e at (never-absent b h t) in
+            let w = absent-for low high absence c ne in
+            rw (← curved-by-six (kindIn s) (mapIn s) (a .known) (a .miss), q) w;
+      }
+
+  fields-in : FieldsRead s (siteIn s) (lengthIn s)
+  fields-in =
+      let c = curved (entriesOf (kindIn s)) (mapIn s) in
+      let none : (b : ℕ) → bitAt b (mapIn s) ≡ true → fieldIn s b ≡ lacked → ⊥ = λ b t e. not-both _ t (lacked-unset b e _ refl) in
+      record {
+        kind-is = refl;
+        bits = λ b. bit-read b (fieldIn s b) refl (named-at (rowsOf (kindIn s)) _ (siteIn s) (named (kindIn s) (a .known) c (siteIn s)) b);
+        others = rw (others-are (kindIn s) (a .known) (siteIn s), slots-again s a) (others-absent c (entriesOf (kindIn s)) (mapIn s) (drop 3 s) (a .lack));
+        length-is = ap (λ (k : ℕ). 3 + 2 * k) (words-standing (kindIn s) (mapIn s) (a .known) none);
+      }
+
+-- A RECORD THAT IS READ HAS THE FIELDS OF DOCUMENT 01, bit by bit
+pub fields-read : (s : List ℕ) (site : Site) (n : ℕ) → readSite s ≡ Read site n → FieldsRead s site n
+fields-read s site n e = let r = reading s site n e in rw (← r .site-is, ← r .length-is) (fields-in s (r .accepts))
+
+-- "Without bit 2 there is no history; a standing 0 is a history of none", of every kind
+pub history-read : (s : List ℕ) (site : Site) (n : ℕ) → readSite s ≡ Read site n
+    → site .observed ≡ cond (bitAt 2 (mapIn s)) (Number (numberAt 2 s)) Absent
+unfolding fieldAt
+history-read s site n e = by (kindIn s) (fields-read s site n e .bits 2)
+  where
+    told : FieldRead s site 2 (λ x. x .observed) 0 500 no-number → (b : Bool) → bitAt 2 (mapIn s) ≡ b
+        → site .observed ≡ cond b (Number (numberAt 2 s)) Absent
+    told r true t = r .standing-is t
+    told r false t = r .absent-as t
+
+    by : (kind : ℕ) → BitRead s site 2 (fieldAt (rowsOf kind) 2) → site .observed ≡ cond (bitAt 2 (mapIn s)) (Number (numberAt 2 s)) Absent
+    by zero r = told r _ refl
+    by (suc zero) r = told r _ refl
+    by (suc (suc zero)) r = told r _ refl
+    by (suc (suc (suc kind))) r = told r _ refl
