@@ -10,7 +10,8 @@
 //! - the file: [`rules`], [`record`], [`project`], [`lines`]
 //! - the road model: [`model`], [`factors`], [`prediction`]
 //! - the report: [`report`], [`checker`]
-//! - the tables that FHWA-RD-99-207 prints: [`published`]
+//! - the tables that FHWA-RD-99-207 prints: [`published`]; figures worked by
+//!   hand from document 01: [`worked`]
 //! - generated inputs and programs: [`generate`], [`program`]
 
 #![forbid(unsafe_code)]
@@ -33,3 +34,4 @@ pub mod report;
 pub mod rules;
 pub mod stored;
 pub mod sum;
+pub mod worked;

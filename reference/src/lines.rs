@@ -61,7 +61,7 @@ fn header_number(line: Option<&str>, name: &str) -> Result<u16, String> {
 
 /// Reads a site's line. Defaults are filled in; the site writer judges the
 /// rest.
-fn parse_site(line: &str) -> Result<Site, String> {
+pub fn site(line: &str) -> Result<Site, String> {
     let words: Vec<&str> = line.split_whitespace().collect();
     let (kind_name, pairs) = words.split_first().ok_or("an empty line")?;
     let kind = KIND_NAMES.iter().position(|name| name == kind_name);
@@ -112,9 +112,7 @@ pub fn parse(text: &str) -> Result<Project, String> {
         segment_calibration: number(HEADER_NAMES[2])?,
         crossing_calibration: number(HEADER_NAMES[3])?,
     };
-    let sites = lines
-        .map(parse_site)
-        .collect::<Result<Vec<Site>, String>>()?;
+    let sites = lines.map(site).collect::<Result<Vec<Site>, String>>()?;
     Ok(Project { header, sites })
 }
 

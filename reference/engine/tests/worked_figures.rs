@@ -1,0 +1,68 @@
+//! The worked figures of `reference::worked` through the engine's line of a
+//! site. A number that is wrong in a definition and in the code alike fails
+//! here by the figure's name.
+
+use engine::lines::line;
+use reference::estimates::Estimates;
+use reference::prediction::{SiteEstimates, MILLION};
+use reference::project::Header;
+use reference::rational::Rational;
+use reference::record::Site;
+use reference::rules::{rules, Field};
+use reference::worked::faults;
+
+/// A site's two pairs in crashes.
+fn pairs(header: &Header, site: &Site) -> SiteEstimates {
+    let numbers = line(header, site)
+        .unwrap_or_else(|number| panic!("refused with {number}: {header:?} {site:?}"));
+    let pair = |low, high| Estimates {
+        under: Rational::of(low, MILLION),
+        over: Rational::of(high, MILLION),
+    };
+    SiteEstimates {
+        predicted: pair(numbers[0], numbers[1]),
+        expected: pair(numbers[2], numbers[3]),
+    }
+}
+
+#[test]
+fn of_the_engine() {
+    let faults = faults("", pairs);
+    assert!(faults.is_empty(), "{faults:#?}");
+}
+
+/// What the other test rests on: an engine that takes a field's default for
+/// its value fails the figures that are named after it.
+#[test]
+fn notice_a_field_without_effect() {
+    for (field, name) in [
+        (Field::LaneWidth, "lane at 1000, feet 11"),
+        (Field::ShoulderWidth, "shoulder at 2001, feet 8"),
+        (Field::ShoulderType, "shoulder type composite, feet 8"),
+        (Field::SpiralEnds, "curve, one spiral"),
+        (Field::Deficiency, "deficiency 11"),
+        (Field::Grade, "grade 1"),
+        (Field::TwoWayLane, "two-way lane at driveways 5"),
+        (Field::Passing, "passing 2"),
+        (Field::HazardRating, "hazard rating 2"),
+        (Field::Driveways, "driveways at 20000, count 0"),
+        (Field::Skew, "3st skew 1"),
+        (Field::Skew, "4st skew 1"),
+        (Field::LeftTurnLanes, "4sg left-turn lanes 2"),
+        (Field::RightTurnLanes, "4sg right-turn lanes 1"),
+        (Field::LimitedQuadrants, "3st sight 1"),
+    ] {
+        let without = |header: &Header, site: &Site| {
+            let mut table = rules(site.kind).unwrap_or(&[]).iter();
+            let default = table
+                .find(|rule| rule.field == field)
+                .and_then(|rule| rule.default());
+            let mut site = *site;
+            if site.get(field).is_some() {
+                site.set(field, default);
+            }
+            pairs(header, &site)
+        };
+        assert!(!faults(name, without).is_empty(), "{name}");
+    }
+}

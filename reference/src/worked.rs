@@ -1,0 +1,679 @@
+//! Worked figures: what each number of document 01's model makes of a site,
+//! worked out by hand from document 01's text, and so apart from any table of
+//! the engine or of the reference. The working stands beside each figure.
+//!
+//! A test hands in what a model makes of a site and gets the names of the
+//! figures that differ. Most figures are the ratio of two sites that differ in
+//! one field.
+
+use crate::estimates::Estimates;
+use crate::lines;
+use crate::natural::Natural;
+use crate::prediction::SiteEstimates;
+use crate::project::Header;
+use crate::rational::Rational;
+use crate::record::Site;
+use crate::rules::{
+    Field, EDITION, FOUR_LEG_SIGNAL, FOUR_LEG_STOP, KIND_NAMES, MOST_CALIBRATION, MOST_YEARS,
+    SEGMENT, THREE_LEG_STOP,
+};
+
+/// What is found may be as wide as the figure over this.
+const NARROW: u64 = 100_000;
+
+/// A site under a header.
+#[derive(Clone, Copy, Debug)]
+struct Case {
+    header: Header,
+    site: Site,
+}
+
+/// What of a model a figure is.
+enum Measure {
+    /// Predicted crashes.
+    Predicted(Case),
+    /// Predicted crashes over those of another case.
+    Ratio(Case, Case),
+    /// k, from Expected = N(1 + kO)/(1 + kN) at a history.
+    Overdispersion(Case),
+}
+
+/// A figure with the name it fails by.
+pub struct Figure {
+    pub name: String,
+    measure: Measure,
+    /// A decimal or a fraction; `..` after a decimal that goes on.
+    worked: &'static str,
+}
+
+impl Figure {
+    /// The ends of what a model gives for the figure.
+    fn found(&self, model: &impl Fn(&Header, &Site) -> SiteEstimates) -> Estimates {
+        let of = |case: &Case| model(&case.header, &case.site);
+        match &self.measure {
+            Measure::Predicted(case) => of(case).predicted,
+            Measure::Ratio(case, base) => quotient(&of(case).predicted, &of(base).predicted),
+            Measure::Overdispersion(case) => {
+                let SiteEstimates {
+                    predicted,
+                    expected,
+                } = of(case);
+                let observed = Rational::whole(case.site.observed().unwrap_or(0));
+                let moved = distance(&expected, &predicted);
+                let left = distance(&expected, &Estimates::exact(observed));
+                quotient(&moved, &predicted.times(&left))
+            }
+        }
+    }
+
+    /// What is wrong with what a model gives, by the figure's name: it is
+    /// apart from the worked figure, or too wide to tell.
+    pub fn fault(&self, model: &impl Fn(&Header, &Site) -> SiteEstimates) -> Option<String> {
+        let (found, worked) = (self.found(model), read(self.worked));
+        let meets = found.under <= worked.over && worked.under <= found.over;
+        let allowed = &worked.under * &Rational::of(1, NARROW);
+        let is_narrow = found.over <= &found.under + &allowed;
+        let right = meets && is_narrow;
+        (!right).then(|| {
+            let ends = [&found.under, &found.over].map(shown);
+            let [low, high] = ends;
+            format!(
+                "{}: worked {}, found {low} to {high}",
+                self.name, self.worked
+            )
+        })
+    }
+}
+
+/// The faults of a model's figures, those whose name starts so.
+pub fn faults(start: &str, model: impl Fn(&Header, &Site) -> SiteEstimates) -> Vec<String> {
+    let figures = figures();
+    let asked = figures.iter().filter(|f| f.name.starts_with(start));
+    asked.filter_map(|figure| figure.fault(&model)).collect()
+}
+
+/// To nine places, rounded down.
+fn shown(value: &Rational) -> String {
+    let places = 9;
+    let (whole, part) = value
+        .floor_scaled(&Natural::power_of_ten(places))
+        .divide(&Natural::power_of_ten(places));
+    format!("{whole}.{part:0>width$}", width = places as usize)
+}
+
+/// A worked figure's ends: equal but for a decimal that goes on.
+fn read(text: &str) -> Estimates {
+    if let Some((above, below)) = text.split_once('/') {
+        let number = |text: &str| text.parse().expect("a whole number");
+        return Estimates::exact(Rational::of(number(above), number(below)));
+    }
+    let digits = text.trim_end_matches("..");
+    let (whole, part) = digits.split_once('.').unwrap_or((digits, ""));
+    let units: u64 = format!("{whole}{part}").parse().expect("digits");
+    let unit = Natural::power_of_ten(part.len() as u32);
+    let at = |units: u64| Rational::new(units.into(), unit.clone());
+    Estimates {
+        under: at(units),
+        over: at(units + u64::from(text.ends_with(".."))),
+    }
+}
+
+fn quotient(above: &Estimates, below: &Estimates) -> Estimates {
+    above.times(&below.reciprocal())
+}
+
+/// The greater of two values less the other.
+fn distance(one: &Estimates, other: &Estimates) -> Estimates {
+    let (high, low) = if one.under >= other.over {
+        (one, other)
+    } else {
+        (other, one)
+    };
+    Estimates {
+        under: high
+            .under
+            .checked_sub(&low.over)
+            .unwrap_or(Rational::zero()),
+        over: &high.over - &low.under,
+    }
+}
+
+fn header(years: u8, segment_calibration: u16, crossing_calibration: u16) -> Header {
+    Header {
+        edition: EDITION,
+        years,
+        segment_calibration,
+        crossing_calibration,
+    }
+}
+
+/// A value of a field and the figure worked for it.
+type Row = (u16, &'static str);
+
+/// The header that gives the most digits.
+fn largest() -> Header {
+    header(MOST_YEARS, MOST_CALIBRATION, MOST_CALIBRATION)
+}
+
+/// The ratio of two sites.
+fn ratio(name: String, site: Site, base: Site, worked: &'static str) -> Figure {
+    let [case, base] = [site, base].map(|site| Case {
+        header: largest(),
+        site,
+    });
+    Figure {
+        name,
+        measure: Measure::Ratio(case, base),
+        worked,
+    }
+}
+
+/// The predicted crashes of a site.
+fn predicted(header: Header, row: (&str, Site, &'static str)) -> Figure {
+    let (name, site, worked) = row;
+    Figure {
+        name: name.to_string(),
+        measure: Measure::Predicted(Case { header, site }),
+        worked,
+    }
+}
+
+/// Ratios of sites that have these values in a field to the base.
+fn of_field(name: &str, base: Site, field: Field, rows: &[Row]) -> Vec<Figure> {
+    let figure = |(value, worked): &Row| {
+        ratio(
+            format!("{name} {value}"),
+            base.with(field, *value),
+            base,
+            worked,
+        )
+    };
+    rows.iter().map(figure).collect()
+}
+
+/// 20 miles, straight and level, with every field at its default: lanes of 12
+/// feet, paved shoulders of 6, 5 driveways, rating 3. Every factor is 1.
+fn road(traffic: u16) -> Site {
+    Site::plain(SEGMENT, traffic, 20_000)
+}
+
+/// A busy crossing without skew, turn lanes or limited sight.
+fn crossing(kind: u8) -> Site {
+    Site::plain(kind, 10_000, 10_000)
+}
+
+/// "Lane": r by traffic, and 1 + 0.35(r - 1). A lane of 12 feet has 1.
+const LANES: [(u16, &[Row]); 5] = [
+    // Below 400: 1.05, 1.02, 1.01, 1.00; 8 feet is "9 or less".
+    (
+        399,
+        &[
+            (8, "1.0175"),
+            (9, "1.0175"),
+            (10, "1.007"),
+            (11, "1.0035"),
+            (13, "1"),
+            (14, "1"),
+        ],
+    ),
+    // Nothing is added yet.
+    (400, &[(9, "1.0175"), (10, "1.007"), (11, "1.0035")]),
+    // 600 times 0.000281, 0.000175 and 0.000025 added: 1.2186, 1.125, 1.025.
+    (1_000, &[(9, "1.07651"), (10, "1.04375"), (11, "1.00875")]),
+    // 1,600 times: 1.4996, 1.30, 1.05.
+    (2_000, &[(9, "1.17486"), (10, "1.105"), (11, "1.0175")]),
+    // Above 2,000: 1.50, 1.30, 1.05, 1.00.
+    (
+        2_001,
+        &[
+            (8, "1.175"),
+            (9, "1.175"),
+            (10, "1.105"),
+            (11, "1.0175"),
+            (13, "1"),
+            (14, "1"),
+        ],
+    ),
+];
+
+/// "Shoulder": a paved shoulder's width value by traffic, and 1 + 0.35(value -
+/// 1). A paved shoulder of 6 feet has 1.
+const SHOULDERS: [(u16, &[Row]); 5] = [
+    // Below 400: 1.10, 1.07, 1.02, 1.00, 0.98.
+    (
+        399,
+        &[(0, "1.035"), (2, "1.0245"), (4, "1.007"), (8, "0.993")],
+    ),
+    // Nothing is added yet.
+    (
+        400,
+        &[(0, "1.035"), (2, "1.0245"), (4, "1.007"), (8, "0.993")],
+    ),
+    // 600 times 0.00025, 0.000143, 0.00008125 and -0.00006875 added: 1.25,
+    // 1.1558, 1.06875, 0.93875.
+    (
+        1_000,
+        &[
+            (0, "1.0875"),
+            (2, "1.05453"),
+            (4, "1.0240625"),
+            (8, "0.9785625"),
+        ],
+    ),
+    // 1,600 times: 1.50, 1.2988, 1.15, 0.87.
+    (
+        2_000,
+        &[(0, "1.175"), (2, "1.10458"), (4, "1.0525"), (8, "0.9545")],
+    ),
+    // Above 2,000: 1.50, 1.30, 1.15, 1.00, 0.87. An odd width takes the next
+    // lower column, and 8 feet is "8 or more".
+    (
+        2_001,
+        &[
+            (0, "1.175"),
+            (1, "1.175"),
+            (2, "1.105"),
+            (3, "1.105"),
+            (4, "1.0525"),
+            (5, "1.0525"),
+            (7, "1"),
+            (8, "0.9545"),
+            (9, "0.9545"),
+            (10, "0.9545"),
+        ],
+    ),
+];
+
+/// A width's factors at each traffic.
+fn widths(name: &str, field: Field, rows: &[(u16, &[Row])]) -> Vec<Figure> {
+    let of_traffic = |(traffic, rows): &(u16, &[Row])| {
+        let name = format!("{name} at {traffic}, feet");
+        of_field(&name, road(*traffic), field, rows)
+    };
+    rows.iter().flat_map(of_traffic).collect()
+}
+
+/// "Type multiplier at the same five widths", 0, 2, 4, 6 and 8 feet, above
+/// 2,000 vehicles: 1 + 0.35(width value times type value - 1), where the width
+/// values are 1.50, 1.30, 1.15, 1.00 and 0.87.
+const SHOULDER_TYPES: [(&str, [&str; 5]); 4] = [
+    // All 1.00: the width values.
+    ("paved", ["1.175", "1.105", "1.0525", "1", "0.9545"]),
+    // 1.00, 1.01, 1.01, 1.02, 1.02: 1.5, 1.313, 1.1615, 1.02, 0.8874.
+    (
+        "gravel",
+        ["1.175", "1.10955", "1.056525", "1.007", "0.96059"],
+    ),
+    // 1.00, 1.02, 1.03, 1.04, 1.06: 1.5, 1.326, 1.1845, 1.04, 0.9222.
+    (
+        "composite",
+        ["1.175", "1.1141", "1.064575", "1.014", "0.97277"],
+    ),
+    // 1.00, 1.03, 1.05, 1.08, 1.11: 1.5, 1.339, 1.2075, 1.08, 0.9657.
+    (
+        "turf",
+        ["1.175", "1.11865", "1.072625", "1.028", "0.987995"],
+    ),
+];
+
+fn shoulder_types() -> Vec<Figure> {
+    let mut figures = Vec::new();
+    for (material, (name, row)) in SHOULDER_TYPES.into_iter().enumerate() {
+        for (feet, worked) in [0, 2, 4, 6, 8].into_iter().zip(row) {
+            let site = road(2_001)
+                .with(Field::ShoulderWidth, feet)
+                .with(Field::ShoulderType, material as u16);
+            let name = format!("shoulder type {name}, feet {feet}");
+            figures.push(ratio(name, site, road(2_001), worked));
+        }
+    }
+    figures
+}
+
+/// "Curve": (1.55 Lc + 80.2/R - 0.012 S) / (1.55 Lc), S half the spiral ends.
+/// Curve length, radius and spiral ends.
+const CURVES: [(&str, [u16; 3], &str); 7] = [
+    // 1.55 x 0.1 is 0.155 and 80.2/1,000 is 0.0802: 0.2352/0.155.
+    ("no spiral", [100, 1_000, 0], "1176/775"),
+    // S is 1/2, which takes 0.006: 0.2292/0.155.
+    ("one spiral", [100, 1_000, 1], "1146/775"),
+    // S is 1, which takes 0.012: 0.2232/0.155.
+    ("two spirals", [100, 1_000, 2], "1116/775"),
+    // 0.0775 and 80.2/500 = 0.1604: 0.2379/0.0775.
+    ("shorter and sharper", [50, 500, 0], "2379/775"),
+    // 80.2/10,000 is 0.00802, above the 0.006: 0.15702/0.155.
+    ("one spiral, hardly bent", [100, 10_000, 1], "15702/15500"),
+    // 80.2/30,000 is below 0.006 and 0.012: below 1, so 1.
+    ("flat with one spiral", [1, 30_000, 1], "1"),
+    ("flat with two spirals", [1, 30_000, 2], "1"),
+];
+
+fn curves() -> Vec<Figure> {
+    let figure = |(name, [length, radius, ends], worked): (&str, [u16; 3], &'static str)| {
+        let bent = road(5_000).with_curve(length, radius);
+        let site = bent.with(Field::SpiralEnds, ends);
+        ratio(format!("curve, {name}"), site, road(5_000), worked)
+    };
+    CURVES.into_iter().map(figure).collect()
+}
+
+/// Superelevation, grade and passing.
+fn segment_factors() -> Vec<Figure> {
+    let plain = road(5_000);
+    let bent = plain.with_curve(100, 1_000);
+    // In thousandths: under 10, 1; to 20, 1 + 0.006 for each above 10; above,
+    // 1.06 + 0.003 for each above 20.
+    let deficiencies = [
+        (9, "1"),
+        (10, "1"),
+        (11, "1.006"),
+        (20, "1.06"),
+        (21, "1.063"),
+        (100, "1.3"),
+    ];
+    // 1.016 to the power G.
+    let grades = [
+        (1, "1.016"),
+        (2, "1.032256"),
+        (6, "1.0999229093.."),
+        (12, "1.2098304065.."),
+    ];
+    let mut figures = of_field("deficiency", bent, Field::Deficiency, &deficiencies);
+    figures.extend(of_field("grade", plain, Field::Grade, &grades));
+    let passing = [(1, "0.75"), (2, "0.65")];
+    figures.extend(of_field("passing", plain, Field::Passing, &passing));
+    figures
+}
+
+/// "Two-way lane present and DD at least 5": 1 - 0.35 P, P = Q/(1.199 + Q),
+/// Q = 0.0047 DD + 0.0024 DD^2; else 1.
+const TWO_WAY_LANES: [Row; 4] = [
+    (4, "1"),
+    // Q = 0.0235 + 0.06 = 0.0835: (1.2825 - 0.029225)/1.2825.
+    (5, "1253275/1282500"),
+    // Q = 0.047 + 0.24 = 0.287: (1.486 - 0.10045)/1.486.
+    (10, "27711/29720"),
+    // Q = 0.235 + 6 = 6.235: (7.434 - 2.18225)/7.434.
+    (50, "525175/743400"),
+];
+
+fn two_way_lanes() -> Vec<Figure> {
+    let figure = |(driveways, worked): Row| {
+        let without = road(5_000).with(Field::Driveways, driveways);
+        let with = without.with(Field::TwoWayLane, 1);
+        let name = format!("two-way lane at driveways {driveways}");
+        ratio(name, with, without, worked)
+    };
+    TWO_WAY_LANES.into_iter().map(figure).collect()
+}
+
+/// Hazard rating and driveways, which are no exact factors.
+fn segment_parts() -> Vec<Figure> {
+    // e^(0.0668(RHR - 3)).
+    let ratings = [
+        (1, "0.8749399706.."), // e^-0.1336
+        (2, "0.9353822590.."), // e^-0.0668
+        (4, "1.0690816404.."), // e^0.0668
+        (5, "1.1429355539.."), // e^0.1336
+        (6, "1.2218914169.."), // e^0.2004
+        (7, "1.3063016805.."), // e^0.2672
+    ];
+    let mut figures = of_field("hazard rating", road(5_000), Field::HazardRating, &ratings);
+    // (0.2 + c DD)/(0.2 + 5c), c = 0.05 - 0.005 ln A. At 5 driveways it is 1.
+    let rows: [(u16, &[Row]); 3] = [
+        // ln 1 is 0 and c is 0.05: over 0.45.
+        (1, &[(0, "4/9"), (4, "8/9"), (10, "14/9"), (50, "6")]),
+        // ln 400 = 5.9914645471 and c = 0.0200426773: over 0.3002133864.
+        (400, &[(0, "0.6661928118.."), (50, "4.0042646930..")]),
+        // ln 20,000 = 9.9034875525 and c = 0.0004825622: over 0.2024128112.
+        (20_000, &[(0, "0.9880797506.."), (50, "1.1072822443..")]),
+    ];
+    for (traffic, rows) in rows {
+        let name = format!("driveways at {traffic}, count");
+        figures.extend(of_field(&name, road(traffic), Field::Driveways, rows));
+    }
+    figures
+}
+
+/// Ratios of crossings that differ in one field.
+fn of_kinds(name: &str, field: Field, kinds: &[(u8, &[Row])]) -> Vec<Figure> {
+    let of_kind = |(kind, rows): &(u8, &[Row])| {
+        let name = format!("{} {name}", kind_name(*kind));
+        of_field(&name, crossing(*kind), field, rows)
+    };
+    kinds.iter().flat_map(of_kind).collect()
+}
+
+/// "Factors of a crossing".
+fn crossing_factors() -> Vec<Figure> {
+    let left = [
+        (THREE_LEG_STOP, &[(1, "0.78")][..]),
+        (FOUR_LEG_STOP, &[(1, "0.76"), (2, "0.58")]),
+        (FOUR_LEG_SIGNAL, &[(1, "0.82"), (2, "0.67")]),
+    ];
+    let right = [
+        (THREE_LEG_STOP, &[(1, "0.95")][..]),
+        (FOUR_LEG_STOP, &[(1, "0.95"), (2, "0.90")]),
+        (FOUR_LEG_SIGNAL, &[(1, "0.975"), (2, "0.95")]),
+    ];
+    // 1 + 0.05 for each quadrant.
+    let sight = [
+        (THREE_LEG_STOP, &[(1, "1.05"), (2, "1.10")][..]),
+        (FOUR_LEG_STOP, &[(1, "1.05"), (2, "1.10"), (4, "1.20")]),
+    ];
+    let mut figures = of_kinds("left-turn lanes", Field::LeftTurnLanes, &left);
+    figures.extend(of_kinds("right-turn lanes", Field::RightTurnLanes, &right));
+    figures.extend(of_kinds("sight", Field::LimitedQuadrants, &sight));
+    figures
+}
+
+/// A crossing's skew and the powers of its two traffics.
+fn crossing_parts() -> Vec<Figure> {
+    // e^(0.0040 skew): e^0.0040, e^0.12 and e^0.24.
+    let three = [
+        (1, "1.0040080106.."),
+        (30, "1.1274968515.."),
+        (60, "1.2712491503.."),
+    ];
+    // e^(0.0054 skew): e^0.0054, e^0.162 and e^0.324.
+    let four = [
+        (1, "1.0054146062.."),
+        (30, "1.1758602413.."),
+        (60, "1.3826473071.."),
+    ];
+    let skews: [(u8, &[Row]); 2] = [(THREE_LEG_STOP, &three), (FOUR_LEG_STOP, &four)];
+    let mut figures = of_kinds("skew", Field::Skew, &skews);
+    // From 100 to 10,000 vehicles a power rises by 100^p, which is 10^(2p):
+    // for the major road and for the minor.
+    for (kind, major, minor) in [
+        // 0.79 and 0.49: 10^1.58 and 10^0.98.
+        (THREE_LEG_STOP, "38.0189396320..", "9.5499258602.."),
+        // 0.60 and 0.61: 10^1.20 and 10^1.22.
+        (FOUR_LEG_STOP, "15.8489319246..", "16.5958690743.."),
+        // 0.60 and 0.20: 10^1.20 and 10^0.40.
+        (FOUR_LEG_SIGNAL, "15.8489319246..", "2.5118864315.."),
+    ] {
+        let busy = crossing(kind);
+        for (road, field, worked) in [
+            ("major", Field::Traffic, major),
+            ("minor", Field::MinorTraffic, minor),
+        ] {
+            let name = format!("{} power of {road} traffic", kind_name(kind));
+            figures.push(ratio(name, busy, busy.with(field, 100), worked));
+        }
+    }
+    figures
+}
+
+fn kind_name(kind: u8) -> &'static str {
+    KIND_NAMES[usize::from(kind)]
+}
+
+/// N of each kind with every factor 1, over 10 years with calibration 1.000. A
+/// segment's lane and shoulder have 1 at every traffic.
+fn bases() -> Vec<Figure> {
+    let rows = [
+        // 10 x 10,000 x 20 x 0.000365 is 730: 730 e^-0.4865.
+        ("segment base", road(10_000), "448.7852705960.."),
+        // 29.127 e^-0.4865, 73 e^-0.4865, 146 e^-0.4865.
+        ("segment base at 399", road(399), "17.9065322967.."),
+        ("segment base at 1000", road(1_000), "44.8785270596.."),
+        ("segment base at 2000", road(2_000), "89.7570541192.."),
+        // 10 x 10^(4 x 0.79) x 10^(4 x 0.49) is 10^6.12: 10^6.12 e^-10.9.
+        ("3st base", crossing(THREE_LEG_STOP), "24.3326913467.."),
+        // 10 x 10^(4 x 0.60) x 10^(4 x 0.61) is 10^5.84: 10^5.84 e^-9.34.
+        ("4st base", crossing(FOUR_LEG_STOP), "60.7700423529.."),
+        // 10 x 10^(4 x 0.60) x 10^(4 x 0.20) is 10^4.20: 10^4.20 e^-5.73.
+        ("4sg base", crossing(FOUR_LEG_SIGNAL), "51.4627060294.."),
+    ];
+    let figure = |row| predicted(header(10, 1_000, 1_000), row);
+    rows.into_iter().map(figure).collect()
+}
+
+/// "Y x calibration x A x L": each kind has its own calibration, and neither
+/// that of the other.
+fn headers() -> Vec<Figure> {
+    let one = header(1, 1_000, 1_000);
+    let (segment, signal) = (road(10_000), crossing(FOUR_LEG_SIGNAL));
+    let double = segment.with(Field::Traffic, 20_000);
+    let half = segment.with(Field::Length, 10_000);
+    let rows = [
+        ("years of a segment", header(7, 1_000, 1_000), segment, "7"),
+        ("years of a crossing", header(7, 1_000, 1_000), signal, "7"),
+        (
+            "calibration of a segment",
+            header(1, 2_345, 9_999),
+            segment,
+            "2.345",
+        ),
+        (
+            "calibration of a crossing",
+            header(1, 9_999, 2_345),
+            signal,
+            "2.345",
+        ),
+        ("traffic of a segment", one, double, "2"),
+        ("length of a segment", one, half, "0.5"),
+    ];
+    let figure = |(name, header, site, worked): (&str, Header, Site, &'static str)| {
+        let plain = if site.kind == SEGMENT {
+            segment
+        } else {
+            signal
+        };
+        let base = Case {
+            header: one,
+            site: plain,
+        };
+        Figure {
+            name: name.to_string(),
+            measure: Measure::Ratio(Case { header, site }, base),
+            worked,
+        }
+    };
+    rows.into_iter().map(figure).collect()
+}
+
+/// "k is 0.31 segment, 0.54 3ST, 0.24 4ST, 0.11 4SG": with many crashes
+/// observed where few are predicted, and with none where some are. From the
+/// formula, k is (N - E)/(N(E - O)).
+fn overdispersions() -> Vec<Figure> {
+    let rows = [
+        (SEGMENT, "0.31"),
+        (THREE_LEG_STOP, "0.54"),
+        (FOUR_LEG_STOP, "0.24"),
+        (FOUR_LEG_SIGNAL, "0.11"),
+    ];
+    let figure = |kind: u8, observed: u16, worked: &'static str| {
+        let plain = if kind == SEGMENT {
+            road(500)
+        } else {
+            crossing(kind)
+        };
+        Figure {
+            name: format!("{} k at observed {observed}", kind_name(kind)),
+            measure: Measure::Overdispersion(Case {
+                header: header(10, 1_000, 1_000),
+                site: plain.with(Field::Observed, observed),
+            }),
+            worked,
+        }
+    };
+    let both = |(kind, worked)| [0, 500].map(|observed| figure(kind, observed, worked));
+    rows.into_iter().flat_map(both).collect()
+}
+
+/// N of sites of the demo corridor, which has 5 years and the calibrations
+/// 1.100 and 0.950.
+const WHOLE_SITES: [(&str, &str, &str); 6] = [
+    // 5 x 1.1 x 3,900 x 0.640 x 0.000365 e^-0.4865 x 1.105 x 1.10955 x
+    // (0.279 + 80.2/820 - 0.012)/0.279 x 1.075 x 1.016^5 x e^0.1336.
+    (
+        "the bends below the pass",
+        "segment traffic 3900 length 640 lane 10 shoulder 2 shoulder-type 1 curve-length 180 \
+         radius 820 spiral-ends 2 deficiency 25 grade 5 hazard-rating 5",
+        "6.5687117692..",
+    ),
+    // 5 x 1.1 x 7,600 x 0.900 x 0.000365 e^-0.4865 x 0.97277 x
+    // (1 - 0.35 x 1.4952/2.6942) x (0.2 + 24c)/(0.2 + 5c), where
+    // c = 0.05 - 0.005 ln 7,600 = 0.0053204824.
+    (
+        "the village",
+        "segment traffic 7600 length 900 shoulder 8 shoulder-type 2 driveways 24 two-way-lane 1",
+        "9.5685095534..",
+    ),
+    // 5 x 1.1 x 350 x 1.250 x 0.000365 e^-0.4865 x 1.0175 x 1.035 x e^0.2672.
+    (
+        "the back road along the river",
+        "segment traffic 350 length 1250 lane 9 shoulder 0 hazard-rating 7",
+        "0.7427926524..",
+    ),
+    // 5 x 0.95 e^-10.9 x 728.3949722 x 16.6252135 x 0.78 x e^0.1.
+    (
+        "the farm road",
+        "3st traffic 4200 minor-traffic 310 skew 25 left-turn-lanes 1",
+        "0.9152547198..",
+    ),
+    // 5 x 0.95 e^-9.34 x 167.7034920 x 62.5366237 x 0.76 x 0.95 x 1.1 x
+    // e^0.054.
+    (
+        "the mill crossing",
+        "4st traffic 5100 minor-traffic 880 skew 10 left-turn-lanes 1 right-turn-lanes 1 \
+         limited-quadrants 2",
+        "3.6681025519..",
+    ),
+    // 5 x 0.95 e^-5.73 x 213.0532460 x 4.9258320 x 0.67 x 0.975.
+    (
+        "the village signal",
+        "4sg traffic 7600 minor-traffic 2900 left-turn-lanes 2 right-turn-lanes 1",
+        "10.5738562433..",
+    ),
+];
+
+fn whole_sites() -> Vec<Figure> {
+    let figure = |(name, line, worked)| {
+        let site = lines::site(line).expect("a site's line");
+        predicted(header(5, 1_100, 950), (name, site, worked))
+    };
+    WHOLE_SITES.into_iter().map(figure).collect()
+}
+
+/// Every worked figure.
+pub fn figures() -> Vec<Figure> {
+    let groups = [
+        widths("lane", Field::LaneWidth, &LANES),
+        widths("shoulder", Field::ShoulderWidth, &SHOULDERS),
+        shoulder_types(),
+        curves(),
+        segment_factors(),
+        two_way_lanes(),
+        segment_parts(),
+        crossing_factors(),
+        crossing_parts(),
+        bases(),
+        headers(),
+        overdispersions(),
+        whole_sites(),
+    ];
+    groups.into_iter().flatten().collect()
+}

@@ -1,0 +1,195 @@
+//! The worked figures of `reference::worked` against the reference's model, and
+//! against models in which one number is changed: each is noticed by a figure
+//! that is named after it.
+
+use reference::model::{CrossingModel, Model, FIRST_EDITION};
+use reference::prediction::site_estimates;
+use reference::worked::{faults, figures};
+use std::collections::HashSet;
+
+const DEPTH: u32 = 9;
+
+fn faults_of(model: &Model, start: &str) -> Vec<String> {
+    faults(start, |header, site| {
+        site_estimates(model, header, site, DEPTH)
+    })
+}
+
+#[test]
+fn of_the_first_edition() {
+    let faults = faults_of(&FIRST_EDITION, "");
+    assert!(faults.is_empty(), "{faults:#?}");
+}
+
+#[test]
+fn have_names_of_their_own() {
+    let figures = figures();
+    let names: HashSet<_> = figures.iter().map(|figure| &figure.name).collect();
+    assert_eq!((figures.len(), names.len()), (158, 158));
+}
+
+/// A change of one number.
+type Change = Box<dyn Fn(&mut Model)>;
+
+/// The start of the names of figures that notice a change, and the change.
+type Noticed = (String, Change);
+
+fn noticed(start: impl Into<String>, change: impl Fn(&mut Model) + 'static) -> Noticed {
+    (start.into(), Box::new(change))
+}
+
+/// Every number of the width and type tables, by a unit of its last digit in
+/// document 01.
+fn changes_of_widths() -> Vec<Noticed> {
+    let mut changes = Vec::new();
+    for (column, feet) in [9, 10, 11].into_iter().enumerate() {
+        let name = |traffic: u32| format!("lane at {traffic}, feet {feet}");
+        changes.extend([
+            noticed(name(399), move |m| {
+                m.segment.lane.light[column] += 1_000_000
+            }),
+            noticed(name(1_000), move |m| m.segment.lane.slope[column] += 100),
+            noticed(name(2_001), move |m| {
+                m.segment.lane.heavy[column] += 1_000_000
+            }),
+        ]);
+    }
+    for (column, feet) in [(0, 0), (1, 2), (2, 4), (4, 8)] {
+        let name = |traffic: u32| format!("shoulder at {traffic}, feet {feet}");
+        changes.extend([
+            noticed(name(399), move |m| {
+                m.segment.shoulder.light[column] += 1_000_000
+            }),
+            noticed(name(1_000), move |m| m.segment.shoulder.slope[column] += 1),
+            noticed(name(2_001), move |m| {
+                m.segment.shoulder.heavy[column] += 1_000_000
+            }),
+        ]);
+    }
+    // Lanes of 12 feet and paved shoulders of 6 are what the others are over.
+    changes.extend([
+        noticed("segment base at 399", |m| {
+            m.segment.lane.light[3] += 1_000_000
+        }),
+        noticed("segment base at 1000", |m| m.segment.lane.slope[3] += 100),
+        noticed("segment base", |m| m.segment.lane.heavy[3] += 1_000_000),
+        noticed("segment base at 399", |m| {
+            m.segment.shoulder.light[3] += 1_000_000
+        }),
+        noticed("segment base at 1000", |m| m.segment.shoulder.slope[3] += 1),
+        noticed("segment base", |m| m.segment.shoulder.heavy[3] += 1_000_000),
+        noticed("segment base", |m| m.segment.shoulder_type[0][3] += 1),
+    ]);
+    let materials = ["paved", "gravel", "composite", "turf"];
+    for (material, name) in materials.into_iter().enumerate() {
+        let is_base = |column: &usize| material == 0 && *column == 3;
+        for column in (0..5).filter(|column| !is_base(column)) {
+            let name = format!("shoulder type {name}, feet {}", 2 * column);
+            changes.push(noticed(name, move |m| {
+                m.segment.shoulder_type[material][column] += 1
+            }));
+        }
+    }
+    changes
+}
+
+/// Every other number of a segment.
+fn changes_of_segments() -> Vec<Noticed> {
+    vec![
+        noticed("segment base", |m| m.segment.base_exponent.0 += 1),
+        noticed("segment base", |m| m.segment.exposure.0 += 1),
+        noticed("lane at 2001, feet 9", |m| m.segment.related_share.0 += 1),
+        noticed("curve, shorter", |m| m.segment.curve_length.0 += 1),
+        noticed("curve, no spiral", |m| m.segment.curve_radius.0 += 1),
+        noticed("curve, one spiral", |m| m.segment.curve_spiral.0 += 1),
+        noticed("deficiency 11", |m| m.segment.superelevation.start += 1),
+        noticed("deficiency 21", |m| m.segment.superelevation.turn += 1),
+        noticed("deficiency 20", |m| {
+            m.segment.superelevation.first_slope += 1
+        }),
+        noticed("deficiency 21", |m| m.segment.superelevation.at_turn.0 += 1),
+        noticed("deficiency 100", |m| {
+            m.segment.superelevation.second_slope += 1
+        }),
+        noticed("grade 1", |m| m.segment.grade.0 += 1),
+        noticed("two-way lane", |m| m.segment.two_way_linear.0 += 1),
+        noticed("two-way lane", |m| m.segment.two_way_square.0 += 1),
+        noticed("two-way lane", |m| m.segment.two_way_offset.0 += 1),
+        noticed("two-way lane", |m| m.segment.two_way_share.0 += 1),
+        noticed("two-way lane at driveways 5", |m| {
+            m.segment.two_way_fewest_driveways += 1
+        }),
+        noticed("two-way lane at driveways 4", |m| {
+            m.segment.two_way_fewest_driveways -= 1
+        }),
+        noticed("segment base", |m| m.segment.passing[0] += 1),
+        noticed("passing 1", |m| m.segment.passing[1] += 1),
+        noticed("passing 2", |m| m.segment.passing[2] += 1),
+        noticed("hazard rating 2", |m| m.segment.hazard_slope.0 += 1),
+        noticed("hazard rating 4", |m| m.segment.hazard_slope.0 += 1),
+        noticed("segment base", |m| m.segment.hazard_base += 1),
+        noticed("driveways at 1,", |m| m.segment.driveway_offset.0 += 1),
+        noticed("driveways at 1,", |m| m.segment.driveway_slope.0 += 1),
+        noticed("driveways at 400,", |m| m.segment.driveway_log_slope.0 -= 1),
+        noticed("segment base", |m| m.segment.driveway_base += 1),
+        noticed("segment k at observed 0", |m| {
+            m.segment.overdispersion.0 += 1
+        }),
+        noticed("segment k at observed 500", |m| {
+            m.segment.overdispersion.0 += 1
+        }),
+    ]
+}
+
+/// Every number of a kind of crossing, by its place in the model.
+fn changes_of_crossing(name: &str, of: fn(&mut Model) -> &mut CrossingModel) -> Vec<Noticed> {
+    let named = |what: &str| format!("{name} {what}");
+    let mut changes = vec![
+        noticed(named("base"), move |m| of(m).base_exponent.0 += 1),
+        noticed(named("power of major"), move |m| of(m).major_power += 1),
+        noticed(named("power of minor"), move |m| of(m).minor_power += 1),
+        noticed(named("left-turn lanes 1"), move |m| of(m).left_turn[1] += 1),
+        noticed(named("right-turn lanes 1"), move |m| {
+            of(m).right_turn[1] += 1
+        }),
+        noticed(named("base"), move |m| of(m).left_turn[0] += 1),
+        noticed(named("base"), move |m| of(m).right_turn[0] += 1),
+        noticed(named("k at observed 0"), move |m| {
+            of(m).overdispersion.0 += 1
+        }),
+        noticed(named("k at observed 500"), move |m| {
+            of(m).overdispersion.0 += 1
+        }),
+    ];
+    if name != "3st" {
+        changes.extend([
+            noticed(named("left-turn lanes 2"), move |m| of(m).left_turn[2] += 1),
+            noticed(named("right-turn lanes 2"), move |m| {
+                of(m).right_turn[2] += 1
+            }),
+        ]);
+    }
+    if name != "4sg" {
+        changes.extend([
+            noticed(named("sight 1"), move |m| of(m).sight_step.0 += 1),
+            noticed(named("skew 1"), move |m| {
+                of(m).skew_slope.as_mut().expect("a slope").0 += 1
+            }),
+        ]);
+    }
+    changes
+}
+
+#[test]
+fn notice_every_number_of_the_model() {
+    let mut changes = changes_of_widths();
+    changes.extend(changes_of_segments());
+    changes.extend(changes_of_crossing("3st", |m| &mut m.three_leg_stop));
+    changes.extend(changes_of_crossing("4st", |m| &mut m.four_leg_stop));
+    changes.extend(changes_of_crossing("4sg", |m| &mut m.four_leg_signal));
+    for (start, change) in changes {
+        let mut model = FIRST_EDITION;
+        change(&mut model);
+        assert!(!faults_of(&model, &start).is_empty(), "{start}");
+    }
+}
