@@ -12,6 +12,7 @@ use std::cmp::Ordering;
 use std::fmt;
 
 /// Where a fault is: a site's line, the line of totals, or the whole report.
+/// Sites are counted from 0 here, and from 1 in words.
 #[derive(Clone, Copy, Debug, PartialEq, Eq)]
 pub enum Line {
     Site(usize),
@@ -56,7 +57,7 @@ pub struct Fault {
 impl fmt::Display for Fault {
     fn fmt(&self, f: &mut fmt::Formatter<'_>) -> fmt::Result {
         match self.line {
-            Line::Site(index) => write!(f, "site {index}: {:?}", self.wrong),
+            Line::Site(index) => write!(f, "site {}: {:?}", index + 1, self.wrong),
             Line::Totals => write!(f, "totals: {:?}", self.wrong),
             Line::Report => write!(f, "report: {:?}", self.wrong),
         }

@@ -5,13 +5,18 @@
 
 use crate::project::{write_project, Header, Project};
 use crate::record::Site;
-use crate::rules::{rules, Field, FIELD_NAMES, KIND_NAMES};
+use crate::rules::{
+    rules, Field, Presence, Rule, EDITION, FIELD_NAMES, KIND_NAMES, MOST_CALIBRATION, MOST_SITES,
+    MOST_YEARS,
+};
+use std::ops::RangeInclusive;
 
-const HEADER_NAMES: [&str; 4] = [
-    "edition",
-    "years",
-    "segment-calibration",
-    "crossing-calibration",
+/// The header's lines in their order: a name and the numbers allowed.
+const HEADER_LINES: [(&str, RangeInclusive<u16>); 4] = [
+    ("edition", EDITION as u16..=EDITION as u16),
+    ("years", 1..=MOST_YEARS as u16),
+    ("segment-calibration", 1..=MOST_CALIBRATION),
+    ("crossing-calibration", 1..=MOST_CALIBRATION),
 ];
 
 /// The lines of a project, every value spelled out.
@@ -24,7 +29,7 @@ pub fn dump(project: &Project) -> String {
         header.crossing_calibration,
     ];
     let mut text = String::new();
-    for (name, number) in HEADER_NAMES.iter().zip(numbers) {
+    for ((name, _), number) in HEADER_LINES.iter().zip(numbers) {
         text.push_str(&format!("{name} {number}\n"));
     }
     for site in &project.sites {
@@ -44,53 +49,76 @@ fn site_line(site: &Site) -> String {
     line
 }
 
-fn parse_number(text: &str) -> Result<u16, String> {
-    let plain = text.bytes().all(|b| b.is_ascii_digit());
-    let number = text.parse().ok().filter(|_| plain);
-    number.ok_or_else(|| format!("{text:?} is no two-byte number"))
-}
-
-/// Reads a header line: its name and its number.
-fn header_number(line: Option<&str>, name: &str) -> Result<u16, String> {
-    let line = line.ok_or_else(|| format!("no line for {name}"))?;
-    match line.split_whitespace().collect::<Vec<_>>()[..] {
-        [found, number] if found == name => parse_number(number),
-        _ => Err(format!("expected `{name} NUMBER`, found {line:?}")),
+/// The numbers allowed, in words.
+fn range(allowed: &RangeInclusive<u16>) -> String {
+    let (low, high) = (allowed.start(), allowed.end());
+    if low == high {
+        format!("it must be {low}")
+    } else {
+        format!("it must be from {low} to {high}")
     }
 }
 
-/// Reads a site's line. Defaults are filled in; the site writer judges the
-/// rest.
+/// Reads a number that a name has, or says what it may be.
+fn number(name: &str, text: &str, allowed: &RangeInclusive<u16>) -> Result<u16, String> {
+    let plain = text.bytes().all(|b| b.is_ascii_digit());
+    let found = text.parse().ok().filter(|n| plain && allowed.contains(n));
+    let shown = || match plain {
+        true => text.to_string(),
+        false => format!("{text:?}"),
+    };
+    found.ok_or_else(|| format!("{name} is {}; {}", shown(), range(allowed)))
+}
+
+/// Reads a header line: its name and its number.
+fn header_number(line: &str, name: &str, allowed: &RangeInclusive<u16>) -> Result<u16, String> {
+    match line.split_whitespace().collect::<Vec<_>>()[..] {
+        [found, text] if found == name => number(name, text, allowed),
+        _ => Err(format!("this must be `{name} NUMBER`, not {line:?}")),
+    }
+}
+
+/// Reads a site's line and fills in its defaults. What the site writer would
+/// refuse is told in words.
 pub fn site(line: &str) -> Result<Site, String> {
     let words: Vec<&str> = line.split_whitespace().collect();
     let (kind_name, pairs) = words.split_first().ok_or("an empty line")?;
     let kind = KIND_NAMES.iter().position(|name| name == kind_name);
-    let kind = kind.ok_or_else(|| format!("no kind {kind_name:?}"))? as u8;
-    let mut site = Site::empty(kind);
+    let kind = kind.ok_or_else(|| {
+        let names = KIND_NAMES.join(", ");
+        format!("the kind is {kind_name:?}; it must be one of {names}")
+    })?;
+    let mut site = Site::empty(kind as u8);
     for pair in pairs.chunks(2) {
-        let [name, number] = pair else {
-            return Err(format!("no number after {:?}", pair[0]));
-        };
-        let field = field_named(name)?;
-        if site.get(field).is_some() {
-            return Err(format!("{name} stands twice"));
-        }
-        site.set(field, Some(parse_number(number)?));
+        read_value(&mut site, pair)?;
     }
-    fill_defaults(&mut site);
+    let table = rules(site.kind).unwrap_or(&[]);
+    fill_defaults(&mut site, table);
+    table.iter().try_for_each(|rule| matched(&site, rule))?;
     Ok(site)
 }
 
-fn field_named(name: &str) -> Result<Field, String> {
-    let found = FIELD_NAMES.iter().find(|(_, known)| *known == name);
-    found
-        .map(|(field, _)| *field)
-        .ok_or_else(|| format!("no field {name:?}"))
+/// Reads a field's name and number into a site.
+fn read_value(site: &mut Site, pair: &[&str]) -> Result<(), String> {
+    let name = pair[0];
+    let known = FIELD_NAMES.iter().find(|(_, known)| *known == name);
+    let (field, _) = *known.ok_or_else(|| format!("there is no field {name:?}"))?;
+    let text = pair.get(1).ok_or_else(|| format!("{name} has no number"))?;
+    let mut table = rules(site.kind).unwrap_or(&[]).iter();
+    let Some(rule) = table.find(|rule| rule.field == field) else {
+        let kind = KIND_NAMES[usize::from(site.kind)];
+        return Err(format!("{name} is {text}; a {kind} has no such field"));
+    };
+    if site.get(field).is_some() {
+        return Err(format!("{name} stands twice"));
+    }
+    site.set(field, Some(number(name, text, &rule.range())?));
+    Ok(())
 }
 
-fn fill_defaults(site: &mut Site) {
+fn fill_defaults(site: &mut Site, table: &[Rule]) {
     let curve = site.is_curve();
-    for rule in rules(site.kind).unwrap_or(&[]) {
+    for rule in table {
         let applies = curve || !rule.is_of_curve();
         if site.get(rule.field).is_none() && applies {
             site.set(rule.field, rule.default());
@@ -98,21 +126,66 @@ fn fill_defaults(site: &mut Site) {
     }
 }
 
+/// Whether a field stands where it has to, and only where it may.
+fn matched(site: &Site, rule: &Rule) -> Result<(), String> {
+    let curve = site.is_curve() || site.get(Field::Radius).is_some();
+    let name = rule.field.name();
+    match (rule.presence, site.get(rule.field)) {
+        (Presence::Needed, None) => Err(format!("{name} is missing; {}", range(&rule.range()))),
+        (Presence::Curve, None) if curve => Err(format!(
+            "{name} is missing on a curve; {}",
+            range(&rule.range())
+        )),
+        (Presence::CurveDefault(_), Some(value)) if !curve => Err(format!(
+            "{name} is {value} without a curve-length and a radius"
+        )),
+        _ => Ok(()),
+    }
+}
+
+/// Whether bytes are lines and not a project file, whose header has control
+/// bytes.
+pub fn are_lines(bytes: &[u8]) -> bool {
+    let is_plain = |b: &u8| !b.is_ascii_control() || b.is_ascii_whitespace();
+    !bytes.is_empty() && bytes.iter().all(is_plain)
+}
+
+/// The text of lines.
+pub fn text_of(bytes: &[u8]) -> Result<&str, String> {
+    std::str::from_utf8(bytes).map_err(|error| format!("the lines are no text: {error}"))
+}
+
 /// Reads a project from lines. Empty lines and lines that start with `#` are
-/// passed over.
+/// passed over. A fault is told with its line, and a site's with the site,
+/// both counted from 1.
 pub fn parse(text: &str) -> Result<Project, String> {
     let mut lines = text
         .lines()
-        .filter(|line| !line.trim().is_empty() && !line.starts_with('#'));
-    let mut number = |name| header_number(lines.next(), name);
-    let byte = |number: u16| u8::try_from(number).map_err(|_| format!("{number} is no byte"));
+        .enumerate()
+        .map(|(index, line)| (index + 1, line.trim()))
+        .filter(|(_, line)| !line.is_empty() && !line.starts_with('#'));
+    let mut numbers = [0; HEADER_LINES.len()];
+    for (found, (name, allowed)) in numbers.iter_mut().zip(HEADER_LINES) {
+        let (at, line) = lines.next().ok_or_else(|| format!("no line has {name}"))?;
+        *found =
+            header_number(line, name, &allowed).map_err(|what| format!("line {at}: {what}"))?;
+    }
+    let mut sites = Vec::new();
+    for (at, line) in lines {
+        let place = |what: String| format!("line {at}, site {}: {what}", sites.len() + 1);
+        if sites.len() == usize::from(MOST_SITES) {
+            return Err(place(format!("there may be {MOST_SITES} sites at most")));
+        }
+        let site = site(line).map_err(place)?;
+        sites.push(site);
+    }
+    let [edition, years, segment_calibration, crossing_calibration] = numbers;
     let header = Header {
-        edition: byte(number(HEADER_NAMES[0])?)?,
-        years: byte(number(HEADER_NAMES[1])?)?,
-        segment_calibration: number(HEADER_NAMES[2])?,
-        crossing_calibration: number(HEADER_NAMES[3])?,
+        edition: edition as u8,
+        years: years as u8,
+        segment_calibration,
+        crossing_calibration,
     };
-    let sites = lines.map(site).collect::<Result<Vec<Site>, String>>()?;
     Ok(Project { header, sites })
 }
 

@@ -4,17 +4,17 @@ use reference::estimates::Estimates;
 use reference::model::FIRST_EDITION;
 use reference::natural::Natural;
 use reference::prediction::{report, site_estimates};
-use reference::program::check;
+use reference::program::{check, Tally};
 use reference::project::{parse_project, Project};
 use reference::report::print_report;
 use reference::sum::Sum;
-use reference::{figures, lines, program, stored};
-use std::io::{Read, Write};
+use reference::{figures, lines, stored};
+use std::io::{ErrorKind, Read, Write};
 use std::process::ExitCode;
 
 const USAGE: &str = "\
 usage: reference COMMAND ...
-  estimate PROJECT DEPTH   under- and over-estimates at a depth (1 or more) of
+  estimate PROJECT DEPTH   under- and over-estimates at a depth (1 to 100) of
                            each site and of the totals, in crashes: predicted
                            pair, expected pair, rounded outward to 12 places
   check PROGRAM N SEED     run PROGRAM on N projects and N damaged files and
@@ -28,15 +28,23 @@ usage: reference COMMAND ...
                            logarithms or exponentials, one a line
   figures                  what the engine's program bracket_figures prints
 PROJECT is a project file or a file of lines as `dump` prints them; `-` is
-standard input. A file that is refused prints `refused NUMBER at PLACE`.
+standard input. What is refused ends with a message on standard error and a
+status that is not 0, and prints nothing; `report` prints the refusal too, as
+the engine's program does.
 ";
 
 /// The depth of the reference's own report: its pairs are far narrower than
 /// allowed.
 const REPORT_DEPTH: u32 = 9;
 
+/// The greatest depth that `estimate` takes: a dozen sites took 13 seconds.
+const MOST_DEPTH: u32 = 100;
+
 /// Decimal places that `estimate` prints.
 const PLACES: u32 = 12;
+
+/// A command's exit status, or what it tells on standard error.
+type Outcome = Result<ExitCode, String>;
 
 fn main() -> ExitCode {
     let arguments: Vec<String> = std::env::args().skip(1).collect();
@@ -48,32 +56,38 @@ fn main() -> ExitCode {
         ["make"] => make(),
         ["report"] => print_own_report(),
         ["stored", name] => print_stored(name),
-        ["figures"] => {
-            print!("{}", figures::figures());
-            Ok(ExitCode::SUCCESS)
-        }
+        ["figures"] => print(figures::figures()),
         _ => Err(USAGE.to_string()),
     };
-    match outcome {
-        Ok(code) => code,
-        Err(message) => {
-            eprintln!("{}", message.trim_end());
-            ExitCode::FAILURE
+    outcome.unwrap_or_else(|message| {
+        // Where even this cannot be written there is nobody to tell.
+        let _ = writeln!(std::io::stderr(), "{}", message.trim_end());
+        ExitCode::FAILURE
+    })
+}
+
+/// Prints the whole of an output. A reader that has closed its pipe wants no
+/// more of it.
+fn print(output: impl AsRef<[u8]>) -> Outcome {
+    let mut stdout = std::io::stdout().lock();
+    let written = stdout.write_all(output.as_ref());
+    match written.and_then(|()| stdout.flush()) {
+        Err(error) if error.kind() != ErrorKind::BrokenPipe => {
+            Err(format!("standard output: {error}"))
         }
+        _ => Ok(ExitCode::SUCCESS),
     }
 }
 
-fn print_stored(name: &str) -> Result<ExitCode, String> {
+fn print_stored(name: &str) -> Outcome {
     let numbers = match name {
         "powers" => stored::powers(),
         "logarithms" => stored::logarithms(),
         "exponentials" => stored::exponentials(),
         _ => return Err(USAGE.to_string()),
     };
-    for number in numbers {
-        println!("{number}");
-    }
-    Ok(ExitCode::SUCCESS)
+    let text: String = numbers.iter().map(|number| format!("{number}\n")).collect();
+    print(text)
 }
 
 fn read_input(path: &str) -> Result<Vec<u8>, String> {
@@ -87,59 +101,45 @@ fn read_input(path: &str) -> Result<Vec<u8>, String> {
     Ok(bytes)
 }
 
-/// A project from a file or from lines, which start with a letter or a `#`
-/// where a file starts with its edition.
-fn read_either(path: &str) -> Result<Result<Project, String>, String> {
+/// A project from a file or from lines, refused as the reader refuses a file
+/// and `make` refuses lines.
+fn read_either(path: &str) -> Result<Project, String> {
     let bytes = read_input(path)?;
-    match bytes.first() {
-        Some(b'e' | b'#' | b'\n') => {
-            let text = String::from_utf8(bytes).map_err(|error| error.to_string())?;
-            lines::parse(&text).map(Ok)
+    if lines::are_lines(&bytes) {
+        lines::parse(lines::text_of(&bytes)?)
+    } else {
+        parse_project(&bytes).map_err(|refusal| refusal.in_words())
+    }
+}
+
+fn dump(path: &str) -> Outcome {
+    print(lines::dump(&read_either(path)?))
+}
+
+fn make() -> Outcome {
+    print(lines::make(lines::text_of(&read_input("-")?)?)?)
+}
+
+/// A refusal is printed as the engine's program prints it, and told in words.
+fn print_own_report() -> Outcome {
+    match parse_project(&read_input("-")?) {
+        Ok(project) => print(print_report(&report(
+            &FIRST_EDITION,
+            &project,
+            REPORT_DEPTH,
+        ))),
+        Err(refusal) => {
+            print(format!("{refusal}\n"))?;
+            Err(refusal.in_words())
         }
-        _ => Ok(parse_project(&bytes).map_err(|refusal| refusal.to_string())),
     }
 }
 
-fn write_output(bytes: &[u8]) -> Result<ExitCode, String> {
-    let written = std::io::stdout().write_all(bytes);
-    written.map_err(|error| error.to_string())?;
-    Ok(ExitCode::SUCCESS)
-}
-
-/// Prints the refusal where there is one, otherwise what `show` makes.
-fn show(
-    project: Result<Project, String>,
-    show: impl Fn(&Project) -> String,
-) -> Result<ExitCode, String> {
-    let text = match project {
-        Ok(project) => show(&project),
-        Err(refusal) => format!("{refusal}\n"),
-    };
-    write_output(text.as_bytes())
-}
-
-fn dump(path: &str) -> Result<ExitCode, String> {
-    show(read_either(path)?, lines::dump)
-}
-
-fn make() -> Result<ExitCode, String> {
-    let text = String::from_utf8(read_input("-")?).map_err(|error| error.to_string())?;
-    write_output(&lines::make(&text)?)
-}
-
-fn print_own_report() -> Result<ExitCode, String> {
-    let project = parse_project(&read_input("-")?).map_err(|refusal| refusal.to_string());
-    show(project, |project| {
-        print_report(&report(&FIRST_EDITION, project, REPORT_DEPTH))
-    })
-}
-
-fn estimate(path: &str, depth: &str) -> Result<ExitCode, String> {
-    let depth: u32 = depth.parse().map_err(|_| USAGE.to_string())?;
-    if depth == 0 {
-        return Err("a depth is at least 1".to_string());
-    }
-    show(read_either(path)?, |project| estimate_lines(project, depth))
+fn estimate(path: &str, depth: &str) -> Outcome {
+    let asked = depth.parse().ok();
+    let depth = asked.filter(|depth| (1..=MOST_DEPTH).contains(depth));
+    let depth = depth.ok_or_else(|| format!("a depth is from 1 to {MOST_DEPTH}"))?;
+    print(estimate_lines(&read_either(path)?, depth))
 }
 
 /// A whole number of 10^-12 as a decimal.
@@ -155,7 +155,8 @@ fn estimate_lines(project: &Project, depth: u32) -> String {
         let estimates = site_estimates(&FIRST_EDITION, &project.header, site, depth);
         let (predicted, expected) = (&estimates.predicted, &estimates.expected);
         text.push_str(&format!(
-            "site {index} predicted {} expected {}\n",
+            "site {} predicted {} expected {}\n",
+            index + 1,
             pair(predicted),
             pair(expected)
         ));
@@ -185,13 +186,19 @@ fn pair(estimates: &Estimates) -> String {
     format!("{} {}", decimal(&under), decimal(&over))
 }
 
-fn check_program(program: &str, count: &str, seed: &str) -> Result<ExitCode, String> {
+fn check_program(program: &str, count: &str, seed: &str) -> Outcome {
     let count: usize = count.parse().map_err(|_| USAGE.to_string())?;
     let seed: u64 = seed.parse().map_err(|_| USAGE.to_string())?;
-    let tally = check(program, count, seed, |failure| println!("{failure}"));
-    println!("{}", outcomes(&tally));
-    println!("{} passed, {} failed", tally.passed, tally.failed);
-    Ok(if tally.failed == 0 {
+    let tally = check(program, count, seed, |failure| {
+        // What cannot be written is counted at the end all the same.
+        let _ = print(format!("{failure}\n"));
+    });
+    let Tally { passed, failed, .. } = tally;
+    print(format!(
+        "{}\n{passed} passed, {failed} failed\n",
+        outcomes(&tally)
+    ))?;
+    Ok(if failed == 0 {
         ExitCode::SUCCESS
     } else {
         ExitCode::FAILURE
@@ -199,7 +206,7 @@ fn check_program(program: &str, count: &str, seed: &str) -> Result<ExitCode, Str
 }
 
 /// How many files were to be accepted and refused, by number.
-fn outcomes(tally: &program::Tally) -> String {
+fn outcomes(tally: &Tally) -> String {
     let mut text = format!("accepted {}", tally.outcomes[0]);
     for (number, count) in tally.outcomes.iter().enumerate().skip(1).take(9) {
         text.push_str(&format!(", refused {number}: {count}"));

@@ -16,6 +16,41 @@ impl fmt::Display for Refusal {
     }
 }
 
+impl Refusal {
+    /// The refusal as a command tells it: the place is a byte of the file.
+    pub fn in_words(&self) -> String {
+        let cause = CAUSES.iter().find(|(number, _)| *number == self.number);
+        let words = cause.map_or("refused", |(_, words)| words);
+        format!("refused {} at byte {}: {words}", self.number, self.place)
+    }
+}
+
+/// Each cause in words.
+const CAUSES: [(u8, &str); 10] = [
+    (
+        cause::RUNS_PAST_END,
+        "the file ends before its header or a record does",
+    ),
+    (cause::BYTES_AFTER, "there are bytes after the last record"),
+    (cause::EDITION, "the edition is not 1"),
+    (
+        cause::HEADER_LIMITS,
+        "years, a calibration or the count of sites is outside its limits",
+    ),
+    (cause::KIND, "the kind is above 3"),
+    (
+        cause::LACKING_BIT,
+        "a bit stands that the kind does not have",
+    ),
+    (
+        cause::UNMATCHED_BITS,
+        "a needed field is missing, or half a curve is given",
+    ),
+    (cause::RANGE, "a field is outside its range"),
+    (cause::DEFAULT_SPELLED, "a default is spelled out"),
+    (cause::TOO_SHORT, "the report is too short"),
+];
+
 /// Document 01's numbers for the causes.
 pub mod cause {
     pub const RUNS_PAST_END: u8 = 1;

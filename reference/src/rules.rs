@@ -1,6 +1,8 @@
 //! The limits, kinds, fields and defaults of document 01: one table for each
 //! kind, read by the reader, the writer, the generator and the text form.
 
+use std::ops::RangeInclusive;
+
 /// Limits of the header.
 pub const EDITION: u8 = 1;
 pub const MOST_YEARS: u8 = 10;
@@ -91,9 +93,22 @@ pub struct Rule {
     pub presence: Presence,
 }
 
+impl Field {
+    /// The field's name in the text form.
+    pub fn name(self) -> &'static str {
+        let known = FIELD_NAMES.iter().find(|(field, _)| *field == self);
+        known.map_or("", |(_, name)| name)
+    }
+}
+
 impl Rule {
+    /// The values allowed.
+    pub fn range(&self) -> RangeInclusive<u16> {
+        self.low..=self.high
+    }
+
     pub fn allows(&self, value: u16) -> bool {
-        self.low <= value && value <= self.high
+        self.range().contains(&value)
     }
 
     pub fn default(&self) -> Option<u16> {

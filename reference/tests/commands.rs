@@ -67,7 +67,247 @@ fn dump_and_make_are_inverse() {
     assert!(text(&lines).contains("4sg traffic 10000 observed 5 minor-traffic 1000"));
     let made = run(&["make"], &lines.stdout);
     assert_eq!(made.stdout, SIGNAL);
-    assert_eq!(text(&run(&["dump", "-"], &SIGNAL[..9])), "refused 1 at 8\n");
+}
+
+/// A command that ends with a message and a status that is not 0, having
+/// printed nothing.
+fn refusal(arguments: &[&str], input: &[u8]) -> String {
+    let output = run(arguments, input);
+    assert_eq!(output.status.code(), Some(1), "{arguments:?} {output:?}");
+    assert_eq!(text(&output), "", "{arguments:?}");
+    let message = String::from_utf8(output.stderr).expect("a message");
+    assert!(!message.contains("panicked"), "{message}");
+    message.trim_end().to_string()
+}
+
+/// The commands that take a project file or lines.
+const OF_EITHER: [&[&str]; 2] = [&["dump", "-"], &["estimate", "-", "2"]];
+
+/// Document 01's causes, each in a file.
+fn refused_files() -> Vec<(u8, usize, Vec<u8>)> {
+    let with = |at: usize, byte: u8| {
+        let mut file = SIGNAL.to_vec();
+        file[at] = byte;
+        file
+    };
+    let mut spelled = with(10, 0x17);
+    spelled.extend([0, 0]);
+    vec![
+        (1, 0, vec![]),
+        (1, 8, SIGNAL[..9].to_vec()),
+        (2, 17, [&SIGNAL[..], &[0]].concat()),
+        (3, 0, with(0, 2)),
+        (3, 0, with(0, b'#')),
+        (3, 0, with(0, b'e')),
+        (3, 0, with(0, b'\n')),
+        (4, 0, with(1, 11)),
+        (5, 8, with(8, 4)),
+        (6, 8, with(10, 15)),
+        (7, 8, with(10, 5)),
+        (8, 8, with(11, 0xFF)),
+        (9, 8, spelled),
+    ]
+}
+
+#[test]
+fn a_file_is_refused_as_the_reader_refuses_it() {
+    for (number, place, file) in refused_files() {
+        let wanted = format!("refused {number} at byte {place}: ");
+        for command in OF_EITHER {
+            let message = refusal(command, &file);
+            assert!(message.starts_with(&wanted), "{command:?}: {message}");
+        }
+        // The report's output is the engine's program's.
+        let output = run(&["report"], &file);
+        assert_eq!(text(&output), format!("refused {number} at {place}\n"));
+        assert_eq!(output.status.code(), Some(1));
+        let message = String::from_utf8(output.stderr).expect("a message");
+        assert!(message.starts_with(&wanted), "{message}");
+    }
+}
+
+/// Lines that are refused, after the four of a header, and what is told. The
+/// first site is sound, the second has the fault, and a note and an empty line
+/// stand before them.
+const REFUSED_SITES: [(&str, &str); 17] = [
+    (
+        "segment traffic 5 length 6 lane 7",
+        "lane is 7; it must be from 8 to 14",
+    ),
+    (
+        "segment traffic 5 length 6 curve-length 9 radius 50",
+        "radius is 50; it must be from 100 to 30000",
+    ),
+    (
+        "segment traffic 70000 length 6",
+        "traffic is 70000; it must be from 1 to 20000",
+    ),
+    (
+        "segment traffic 99999999999999999999 length 6",
+        "traffic is 99999999999999999999; it must be from 1 to 20000",
+    ),
+    (
+        "segment traffic -5 length 6",
+        "traffic is \"-5\"; it must be from 1 to 20000",
+    ),
+    (
+        "segment traffic 5 length +6",
+        "length is \"+6\"; it must be from 1 to 20000",
+    ),
+    (
+        "segment length 6",
+        "traffic is missing; it must be from 1 to 20000",
+    ),
+    (
+        "4st traffic 5",
+        "minor-traffic is missing; it must be from 1 to 20000",
+    ),
+    (
+        "segment traffic 5 length 6 radius 500",
+        "curve-length is missing on a curve; it must be from 1 to 20000",
+    ),
+    (
+        "segment traffic 5 length 6 curve-length 500",
+        "radius is missing on a curve; it must be from 100 to 30000",
+    ),
+    (
+        "segment traffic 5 length 6 spiral-ends 1",
+        "spiral-ends is 1 without a curve-length and a radius",
+    ),
+    (
+        "3st traffic 5 minor-traffic 6 left-turn-lanes 2",
+        "left-turn-lanes is 2; it must be from 0 to 1",
+    ),
+    (
+        "4sg traffic 5 minor-traffic 6 skew 3",
+        "skew is 3; a 4sg has no such field",
+    ),
+    ("segment traffic 5 length 6 lane", "lane has no number"),
+    (
+        "segment traffic 5 length 6 width 9",
+        "there is no field \"width\"",
+    ),
+    ("segment traffic 5 traffic 5", "traffic stands twice"),
+    (
+        "motorway traffic 5",
+        "the kind is \"motorway\"; it must be one of segment, 3st, 4st, 4sg",
+    ),
+];
+
+const HEAD: &str = "edition 1\nyears 2\nsegment-calibration 1000\ncrossing-calibration 900\n";
+
+/// Every command that takes lines tells the same of them.
+fn assert_refused(lines: &str, wanted: &str) {
+    let commands = OF_EITHER.into_iter().chain([&["make"][..]]);
+    for command in commands {
+        let message = refusal(command, lines.as_bytes());
+        assert_eq!(message, wanted, "{command:?}: {lines}");
+    }
+}
+
+#[test]
+fn lines_are_refused_with_line_site_field_value_and_range() {
+    for (line, what) in REFUSED_SITES {
+        let lines = format!("{HEAD}# A note.\n\n3st traffic 5 minor-traffic 6\n{line}\n");
+        assert_refused(&lines, &format!("line 8, site 2: {what}"));
+    }
+    let most = "segment traffic 5 length 6\n".repeat(1_901);
+    assert_refused(
+        &format!("{HEAD}{most}"),
+        "line 1905, site 1901: there may be 1900 sites at most",
+    );
+}
+
+#[test]
+fn header_lines_are_refused_with_line_name_value_and_range() {
+    for (from, to, wanted) in [
+        (
+            "edition 1",
+            "edition 2",
+            "line 1: edition is 2; it must be 1",
+        ),
+        (
+            "years 2",
+            "years 11",
+            "line 2: years is 11; it must be from 1 to 10",
+        ),
+        (
+            "years 2",
+            "years 258",
+            "line 2: years is 258; it must be from 1 to 10",
+        ),
+        (
+            "segment-calibration 1000",
+            "segment-calibration 0",
+            "line 3: segment-calibration is 0; it must be from 1 to 9999",
+        ),
+        (
+            "crossing-calibration 900",
+            "crossing-calibration 10000",
+            "line 4: crossing-calibration is 10000; it must be from 1 to 9999",
+        ),
+        (
+            "years 2",
+            "year 2",
+            "line 2: this must be `years NUMBER`, not \"year 2\"",
+        ),
+    ] {
+        assert_refused(&HEAD.replace(from, to), wanted);
+    }
+    assert_refused("edition 1\nyears 2\n", "no line has segment-calibration");
+    assert_refused("# Nothing.\n", "no line has edition");
+    for command in [&["make"][..], &["dump", "-"]] {
+        let message = refusal(command, b"# caf\xE9\n");
+        assert!(message.starts_with("the lines are no text: "), "{message}");
+    }
+}
+
+/// A command whose output or message nobody reads ends without a word.
+#[test]
+fn a_closed_pipe_ends_a_command_quietly() {
+    let most = format!("{HEAD}{}", "segment traffic 5 length 6\n".repeat(1_900));
+    let path = PathBuf::from(env!("CARGO_TARGET_TMPDIR")).join("most.lines");
+    fs::write(&path, most).expect("lines are written");
+    let lines = path.display();
+    for command in [
+        format!("dump '{lines}'"),
+        format!("estimate '{lines}' 1"),
+        format!("make < '{lines}'"),
+        "stored powers".to_string(),
+        "figures".to_string(),
+        "check /dev/null/none 20 1".to_string(),
+    ] {
+        for reader in ["true", "head -1"] {
+            let pipe = format!("'{REFERENCE}' {command} | {reader}");
+            let output = Command::new("sh").args(["-c", &pipe]).output();
+            let told = String::from_utf8(output.expect("a shell").stderr);
+            assert_eq!(told.as_deref(), Ok(""), "{pipe}");
+        }
+    }
+    // A message that nobody reads.
+    let pipe = format!("{{ '{REFERENCE}' tally 2>&1; echo $? >&2; }} | true");
+    let output = Command::new("sh").args(["-c", &pipe]).output();
+    assert_eq!(output.expect("a shell").stderr, b"1\n");
+}
+
+#[test]
+fn a_full_device_is_told() {
+    for command in ["dump -", "figures", "report"] {
+        let line = format!("'{REFERENCE}' {command} > /dev/full");
+        let mut child = Command::new("sh")
+            .args(["-c", &line])
+            .stdin(Stdio::piped())
+            .stderr(Stdio::piped())
+            .spawn()
+            .expect("a shell");
+        let mut stdin = child.stdin.take().expect("a piped input");
+        let _ = stdin.write_all(&SIGNAL);
+        drop(stdin);
+        let output = child.wait_with_output().expect("the shell ends");
+        assert_eq!(output.status.code(), Some(1), "{command}");
+        let told = String::from_utf8(output.stderr).expect("a message");
+        assert!(told.starts_with("standard output: "), "{told}");
+    }
 }
 
 #[test]
@@ -97,13 +337,16 @@ fn estimates_of_a_file_and_of_its_lines_agree() {
 
 #[test]
 fn wrong_use_fails_and_says_how() {
-    for arguments in [&["estimate", "-", "0"][..], &["estimate"], &["tally"], &[]] {
-        let output = run(arguments, &SIGNAL);
-        assert!(!output.status.success());
-        assert!(!output.stderr.is_empty());
+    for arguments in [&["estimate"][..], &["tally"], &["stored", "roots"], &[]] {
+        let message = refusal(arguments, &SIGNAL);
+        assert!(message.starts_with("usage: "), "{message}");
     }
-    let output = run(&["make"], b"edition 1\nyears 0\n");
-    assert!(!output.status.success());
+    for depth in ["0", "101", "4294967295", "-1", "deep"] {
+        let message = refusal(&["estimate", "-", depth], &SIGNAL);
+        assert_eq!(message, "a depth is from 1 to 100");
+    }
+    let message = refusal(&["dump", "/dev/null/none"], &[]);
+    assert!(message.starts_with("/dev/null/none: "), "{message}");
 }
 
 #[test]

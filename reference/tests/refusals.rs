@@ -1,7 +1,7 @@
 //! Every refusal with its place and its order, for the project reader, the
 //! site reader and the site writer; round trips.
 
-use reference::generate::{damaged_file, largest_project, project, site, Random};
+use reference::generate::{damaged_file, disturbed_site, largest_project, project, site, Random};
 use reference::lines;
 use reference::project::{
     encode_header, parse_project, read_project, write_project, Header, Project, LONGEST_FILE,
@@ -434,4 +434,30 @@ fn lines_with_faults_are_not_taken() {
     }
     assert!(lines::make("years 2\nedition 1\n").is_err());
     assert!(lines::make("edition 2\nyears 2\n").is_err());
+}
+
+/// What is taken as lines can be written, and what can be written is taken.
+#[test]
+fn lines_are_taken_where_the_writer_takes_their_site() {
+    let mut random = Random::new(17);
+    let (mut taken, mut refused) = (0, 0);
+    for _ in 0..20_000 {
+        let site = disturbed_site(&mut random);
+        if rules(site.kind).is_none() {
+            continue;
+        }
+        let project = Project {
+            header: HEADER,
+            sites: vec![site],
+        };
+        let found = lines::parse(&lines::dump(&project));
+        let can_be_written = |project: &Project| write_project(project).is_ok();
+        if can_be_written(&project) {
+            assert_eq!(found.as_ref(), Ok(&project));
+        }
+        assert!(found.as_ref().map_or(true, can_be_written), "{site:?}");
+        taken += u32::from(found.is_ok());
+        refused += u32::from(found.is_err());
+    }
+    assert!(taken > 4_000 && refused > 4_000, "{taken} {refused}");
 }
