@@ -1,0 +1,71 @@
+//! The README's table of fields is that of the rules.
+
+use reference::rules::{rules, Presence, Rule, KIND_NAMES};
+use std::fs;
+use std::path::Path;
+
+const KINDS: std::ops::Range<u8> = 0..KIND_NAMES.len() as u8;
+
+/// What the README says where a field is absent.
+fn default(rule: &Rule) -> String {
+    match rule.presence {
+        Presence::Needed => "needed".to_string(),
+        Presence::History => "no history".to_string(),
+        Presence::Curve => "straight".to_string(),
+        Presence::Default(value) => value.to_string(),
+        Presence::CurveDefault(value) => format!("{value} on a curve"),
+    }
+}
+
+/// Field, bit, range, default and kind, as the README has them.
+fn of_rules() -> Vec<[String; 5]> {
+    let row = |kind: u8, rule: &Rule| {
+        [
+            format!("`{}`", rule.field.name()),
+            rule.bit.to_string(),
+            format!("{} to {}", rule.low, rule.high),
+            default(rule),
+            KIND_NAMES[usize::from(kind)].to_string(),
+        ]
+    };
+    KINDS
+        .flat_map(|kind| {
+            rules(kind)
+                .unwrap_or(&[])
+                .iter()
+                .map(move |rule| row(kind, rule))
+        })
+        .collect()
+}
+
+/// The same of the README's rows, one for each kind of a row.
+fn of_readme() -> Vec<[String; 5]> {
+    let path = Path::new(env!("CARGO_MANIFEST_DIR")).join("../README.md");
+    let text = fs::read_to_string(path).expect("the README");
+    let table = text
+        .lines()
+        .skip_while(|line| !line.starts_with("| Field | Bit |"))
+        .skip(2)
+        .take_while(|line| line.starts_with('|'));
+    let mut rows = Vec::new();
+    for line in table {
+        let cells: Vec<&str> = line.trim_matches('|').split('|').map(str::trim).collect();
+        let [name, bit, _, range, default, kinds] = cells[..] else {
+            panic!("not six cells: {line}");
+        };
+        let range = range.replace(',', "");
+        for kind in kinds.split(", ") {
+            rows.push([name, bit, &range, default, kind].map(str::to_string));
+        }
+    }
+    rows
+}
+
+#[test]
+fn fields_of_the_readme() {
+    let (mut wanted, mut found) = (of_rules(), of_readme());
+    wanted.sort();
+    found.sort();
+    assert_eq!(found.len(), 34);
+    assert_eq!(found, wanted);
+}
