@@ -8,26 +8,23 @@
 #include <stdio.h>
 #include <string.h>
 
-#define LONGEST_FILE 62708
-#define LONGEST_REPORT (4 * (1900 + 1))
-#define HEADER 8
-#define LONGEST_RECORD 33
-
-static uint8_t file[LONGEST_FILE + 1];
-static uint64_t report[LONGEST_REPORT];
+/* One byte more than the longest file, so that a longer one is refused for its bytes. */
+static uint8_t file[CRASH_LONGEST_FILE + 1];
+static uint64_t report[CRASH_LONGEST_REPORT];
 
 /* Whether the first record, read and written again, is the same bytes. */
 static int first_record_comes_back(size_t file_len)
 {
-    uint64_t values[CRASH_SITE_NUMBERS + 1];
-    uint8_t record[LONGEST_RECORD];
+    const uint8_t *part = file + CRASH_HEADER_BYTES;
+    uint64_t values[CRASH_READ_NUMBERS];
+    uint8_t record[CRASH_LONGEST_RECORD];
     uint64_t written = 0;
 
-    if (crash_site_read(file + HEADER, file_len - HEADER, values, CRASH_SITE_NUMBERS + 1) != 0)
+    if (crash_site_read(part, file_len - CRASH_HEADER_BYTES, values, CRASH_READ_NUMBERS) != CRASH_OK)
         return 0;
-    if (crash_site_write(values, CRASH_SITE_NUMBERS, record, sizeof record, &written) != 0)
+    if (crash_site_write(values, CRASH_SITE_NUMBERS, record, sizeof record, &written) != CRASH_OK)
         return 0;
-    return written == values[CRASH_SITE_NUMBERS] && memcmp(record, file + HEADER, written) == 0;
+    return written == values[CRASH_SITE_NUMBERS] && memcmp(record, part, written) == 0;
 }
 
 int main(int argc, char **argv)
@@ -43,8 +40,8 @@ int main(int argc, char **argv)
     }
     length = fread(file, 1, sizeof file, input);
     fclose(input);
-    number = crash_project(file, length, report, LONGEST_REPORT, &value);
-    if (number != 0) {
+    number = crash_project(file, length, report, CRASH_LONGEST_REPORT, &value);
+    if (number != CRASH_OK) {
         printf("refused %" PRIu64 " at %" PRIu64 "\n", number, value);
         return 0;
     }

@@ -1,11 +1,19 @@
-/* The crash engine's calls, for programs that link the archive made by `rt staticlib unit` (target/staticlib/libunit.a).
+/* The crash engine's calls, for programs on x86-64 that link the archive made by `rt staticlib unit`
+ * (target/staticlib/libunit.a).
  *
- * A run of numbers or bytes is handed over as a pointer and its length, and is lent for the time of the call. No call has a
- * precondition on the values: whatever they are, it answers, and it writes only what is said here. A pointer must be valid
- * for its length (a length of 0 allows any pointer that is not null), and two runs of one call may not overlap.
+ * Lent runs. A run of numbers or bytes is handed over as a pointer and its length, and is lent for the time of the call. A
+ * pointer must be valid for its length, and one to numbers aligned for uint64_t; a length of 0 allows any pointer that is not
+ * null. Two runs of one call may not overlap, and what `value` or `written` points to may not lie in a run of the same call.
+ * No call has a precondition on the values: whatever they are, it answers, and it writes only what is said here.
  *
- * The number that a call answers is 0 for success and otherwise document 01's number for the refusal; a refusal leaves every
- * lent run as it was. Each call's contract, proved, is in crates/unit/src.
+ * Answers. A call answers CRASH_OK or document 01's number for the refusal; a refusal leaves every lent run as it was. Each
+ * call's contract, proved, is in crates/unit/src.
+ *
+ * Threads. The archive has no state: no writable data (`nm` shows none) and nothing that it calls but memcpy. Any number of
+ * threads may call at once, each with runs of its own; runs that are only read may be shared.
+ *
+ * Stack. Any call has enough with CRASH_STACK bytes. Measured by painting a stack and looking how far down a call wrote:
+ * crash_project and crash_line 24 KB, crash_power 21 KB, the others at most 2.1 KB.
  */
 #ifndef CRASH_UNIT_H
 #define CRASH_UNIT_H
@@ -17,38 +25,63 @@
 extern "C" {
 #endif
 
+/* The answers, by document 01's table. */
+#define CRASH_OK 0
+#define CRASH_RUNS_PAST 1       /* header, kind, map or field runs past the end */
+#define CRASH_BYTES_AFTER 2     /* bytes after the last record */
+#define CRASH_EDITION_NOT 3     /* edition not 1 */
+#define CRASH_OUTSIDE_LIMITS 4  /* years, calibration or sites outside limits */
+#define CRASH_KIND_ABOVE 5      /* kind above 3 */
+#define CRASH_BIT_LACKED 6      /* bit the kind lacks */
+#define CRASH_BIT_MISSING 7     /* needed bit absent, or curve bits unmatched */
+#define CRASH_OUTSIDE_RANGE 8   /* field outside its range */
+#define CRASH_DEFAULT_SPELLED 9 /* default spelled out */
+#define CRASH_TOO_SHORT 10      /* report, record buffer or other lent run too short */
+
+/* Sizes: no accepted file, report or record is longer. */
+#define CRASH_HEADER_BYTES 8
+#define CRASH_MOST_SITES 1900
+#define CRASH_LONGEST_RECORD 33                                                            /* bytes */
+#define CRASH_LONGEST_FILE (CRASH_HEADER_BYTES + CRASH_MOST_SITES * CRASH_LONGEST_RECORD)  /* bytes */
+#define CRASH_LINE_NUMBERS 4
+#define CRASH_LONGEST_REPORT (CRASH_LINE_NUMBERS * (CRASH_MOST_SITES + 1))                 /* numbers */
+#define CRASH_SITE_NUMBERS 21
+#define CRASH_READ_NUMBERS (CRASH_SITE_NUMBERS + 1)
+#define CRASH_BRACKET_NUMBERS 4
+#define CRASH_STACK 32768                                                                  /* bytes */
+
 /* Reads a project file and makes its report from the start of report: four numbers for each site (predicted low, predicted
  * high, expected low, expected high, in millionths of a crash), then four totals; what follows them is untouched.
- * 0: *value is the count of numbers written, 4(sites + 1).
+ * CRASH_OK: *value is the count of numbers written, 4(sites + 1).
  * 1 to 10: *value is the refusal's place in the file, and report is as it was. */
 uint64_t crash_project(const uint8_t *file, size_t file_len, uint64_t *report, size_t report_len, uint64_t *value);
 
-/* A site is 21 numbers: its kind (0 segment, 1 three-leg stop, 2 four-leg stop, 3 four-leg signal), then its fields: traffic,
- * length, minor traffic, observed, lane width, shoulder width, shoulder type, curve length, radius, spiral ends, deficiency,
- * grade, driveways, two-way lane, passing, hazard rating, skew, left lanes, right lanes, limited sight. A field that holds no
- * number is CRASH_ABSENT. */
-#define CRASH_SITE_NUMBERS 21
+/* A site is CRASH_SITE_NUMBERS numbers: its kind (0 segment, 1 three-leg stop, 2 four-leg stop, 3 four-leg signal), then its
+ * fields: traffic, length, minor traffic, observed, lane width, shoulder width, shoulder type, curve length, radius, spiral
+ * ends, deficiency, grade, driveways, two-way lane, passing, hazard rating, skew, left lanes, right lanes, limited sight. A
+ * field that holds no number is CRASH_ABSENT. */
 #define CRASH_ABSENT 65536
 
 /* Reads the record that part starts with.
- * 0: values[0] to values[20] are the site, values[21] is the record's length in bytes; the rest of values is as it was.
- * 1, 5 to 9: the record is refused; 10: values has fewer than 22 numbers. */
+ * CRASH_OK: values[0] to values[20] are the site, values[21] is the record's length in bytes; the rest of values is as it was.
+ * 1, 5 to 9: the record is refused; CRASH_TOO_SHORT: values has fewer than CRASH_READ_NUMBERS numbers. */
 uint64_t crash_site_read(const uint8_t *part, size_t part_len, uint64_t *values, size_t values_len);
 
 /* Writes a site's record from the start of buffer; the rest of buffer is as it was.
- * 0: *written is the record's length. 8: a value is outside its range, or values has not 21 numbers. 10: buffer is too
- * short. *written is as it was where the site is refused. */
+ * CRASH_OK: *written is the record's length. CRASH_OUTSIDE_RANGE: a value is outside its range, or values has not
+ * CRASH_SITE_NUMBERS numbers. CRASH_TOO_SHORT: buffer is too short. *written is as it was where the site is refused. */
 uint64_t crash_site_write(const uint64_t *values, size_t values_len, uint8_t *buffer, size_t buffer_len, uint64_t *written);
 
 /* The four numbers of one site, in line[0] to line[3]; the rest of line is as it was. Calibrations are in thousandths.
- * 8: a header value or the site is outside its range. 10: line has fewer than four numbers. */
+ * CRASH_OUTSIDE_RANGE: a header value or the site is outside its range. CRASH_TOO_SHORT: line has fewer than
+ * CRASH_LINE_NUMBERS numbers. */
 uint64_t crash_line(uint64_t years, uint64_t segment_calibration, uint64_t crossing_calibration, const uint64_t *values,
                     size_t values_len, uint64_t *line, size_t line_len);
 
 /* Brackets of powers, logarithms and exponentials, for any model: ends[0] / ends[1] is at most the exact figure, and
- * ends[2] / ends[3] at least; the rest of ends is as it was. 8: an argument is out of range. 10: ends has fewer than four
- * numbers. Powers: base 1 to 20,000, num / den one of 79, 49, 60, 61 and 20 hundredths. Logarithms: 1 to 20,000.
- * Exponentials: x from 0 to 140,000 ten-thousandths, e^x and e^(-x). */
+ * ends[2] / ends[3] at least; the rest of ends is as it was. CRASH_OUTSIDE_RANGE: an argument is out of range.
+ * CRASH_TOO_SHORT: ends has fewer than CRASH_BRACKET_NUMBERS numbers. Powers: base 1 to 20,000, num / den one of 79, 49, 60,
+ * 61 and 20 hundredths. Logarithms: 1 to 20,000. Exponentials: x from 0 to 140,000 ten-thousandths, e^x and e^(-x). */
 uint64_t crash_power(uint64_t base, uint64_t num, uint64_t den, uint64_t *ends, size_t ends_len);
 uint64_t crash_logarithm(uint64_t argument, uint64_t *ends, size_t ends_len);
 uint64_t crash_exponential(uint64_t x, uint64_t *ends, size_t ends_len);

@@ -1,0 +1,227 @@
+//! `include/crash_unit.h` compiles without a warning as C and as C++, its names
+//! are the engine's sizes and document 01's numbers, and what it says of stack
+//! and state is so.
+
+use engine::lines::line_into;
+use engine::program::full_project;
+use engine::projects::project_into;
+use engine::sites::{read_into, write_numbers};
+use engine::{power_into, DONE, TOO_SHORT};
+use reference::record::{cause, Refusal};
+use std::collections::BTreeMap;
+use std::fs;
+use std::path::{Path, PathBuf};
+use std::process::Command;
+
+const STRICT: [&str; 4] = ["-Wall", "-Wextra", "-pedantic", "-Werror"];
+
+fn root() -> PathBuf {
+    Path::new(env!("CARGO_MANIFEST_DIR")).join("../..")
+}
+
+fn archive() -> PathBuf {
+    root().join("target/staticlib/libunit.a")
+}
+
+/// A file of these tests' own.
+fn own(name: &str) -> PathBuf {
+    Path::new(env!("CARGO_TARGET_TMPDIR")).join(name)
+}
+
+/// What a command prints.
+fn printed(command: &mut Command) -> String {
+    let output = command.output().expect("a program that runs");
+    assert!(output.status.success(), "{command:?}: {output:?}");
+    String::from_utf8(output.stdout).expect("text")
+}
+
+/// Compiles a file with the header and the archive; the program.
+fn compiled(compiler: &str, options: &[&str], source: &Path, name: &str) -> PathBuf {
+    let program = own(name);
+    let mut command = Command::new(compiler);
+    command.args(options).args(STRICT);
+    command.arg("-I").arg(root().join("include"));
+    command.arg(source).args(["-x", "none"]).arg(archive());
+    printed(command.args(["-Wl,-z,now", "-o"]).arg(&program));
+    program
+}
+
+/// Lines of a name and a number; the greatest number of each name.
+fn numbers(text: &str) -> BTreeMap<String, u64> {
+    let mut found = BTreeMap::new();
+    for line in text.lines() {
+        let (name, number) = line.split_once(' ').expect("a name and a number");
+        let number: u64 = number.parse().expect("a number");
+        let greatest = found.entry(name.to_string()).or_insert(number);
+        *greatest = number.max(*greatest);
+    }
+    found
+}
+
+/// The names that the header gives numbers to, and its calls.
+fn names_and_calls() -> (Vec<String>, Vec<String>) {
+    let header = fs::read_to_string(root().join("include/crash_unit.h")).expect("the header");
+    let after = |start: &str| -> Vec<String> {
+        let lines = header.lines().filter_map(|line| line.strip_prefix(start));
+        let word = |rest: &str| rest.split([' ', '(']).next().unwrap_or("").to_string();
+        lines.map(word).collect()
+    };
+    let guard = "CRASH_UNIT_H";
+    let mut names = after("#define ");
+    names.retain(|name| name != guard);
+    (names, after("uint64_t "))
+}
+
+/// A program that takes each call's address and prints each name's number.
+fn source_of_names() -> String {
+    let (names, calls) = names_and_calls();
+    assert!(names.len() >= 20 && calls.len() == 8, "{names:?} {calls:?}");
+    let mut text = "#include \"crash_unit.h\"\n#include <stdio.h>\ntypedef void (*call)(void);\n\
+        int main(void)\n{\n    call calls[] = {"
+        .to_string();
+    for call in calls {
+        text.push_str(&format!("(call){call}, "));
+    }
+    text.push_str("0};\n    if (calls[0] == 0)\n        return 1;\n");
+    for name in names {
+        text.push_str(&format!(
+            "    printf(\"{name} %llu\\n\", (unsigned long long)({name}));\n"
+        ));
+    }
+    text.push_str("    return 0;\n}\n");
+    text
+}
+
+/// The header's names with their numbers, as a language has them.
+fn names(compiler: &str, options: &[&str], name: &str) -> BTreeMap<String, u64> {
+    let source = own(&format!("{name}.source"));
+    fs::write(&source, source_of_names()).expect("a source is written");
+    let program = compiled(compiler, options, &source, name);
+    numbers(&printed(&mut Command::new(program)))
+}
+
+fn names_in_c(name: &str) -> BTreeMap<String, u64> {
+    names("cc", &["-x", "c", "-std=c11"], name)
+}
+
+#[test]
+fn the_same_in_c_and_in_c_plus_plus() {
+    let in_c = names_in_c("names_c11");
+    for (compiler, language, standard, name) in [
+        ("cc", "c", "-std=c99", "names_c99"),
+        ("c++", "c++", "-std=c++11", "names_cpp11"),
+        ("c++", "c++", "-std=c++20", "names_cpp20"),
+    ] {
+        assert_eq!(names(compiler, &["-x", language, standard], name), in_c);
+    }
+}
+
+#[test]
+fn refusals_are_document_01s() {
+    let names = names_in_c("names_refusals");
+    for (name, number) in [
+        ("CRASH_OK", 0),
+        ("CRASH_RUNS_PAST", cause::RUNS_PAST_END),
+        ("CRASH_BYTES_AFTER", cause::BYTES_AFTER),
+        ("CRASH_EDITION_NOT", cause::EDITION),
+        ("CRASH_OUTSIDE_LIMITS", cause::HEADER_LIMITS),
+        ("CRASH_KIND_ABOVE", cause::KIND),
+        ("CRASH_BIT_LACKED", cause::LACKING_BIT),
+        ("CRASH_BIT_MISSING", cause::UNMATCHED_BITS),
+        ("CRASH_OUTSIDE_RANGE", cause::RANGE),
+        ("CRASH_DEFAULT_SPELLED", cause::DEFAULT_SPELLED),
+        ("CRASH_TOO_SHORT", cause::TOO_SHORT),
+    ] {
+        assert_eq!(names[name], u64::from(number), "{name}");
+    }
+}
+
+/// The longest file and its report just suffice, and one less does not.
+#[test]
+fn sizes_of_a_project_are_the_engines() {
+    let names = names_in_c("names_project");
+    let size = |name: &str| names[name] as usize;
+    let sites = size("CRASH_MOST_SITES");
+    let file = full_project(sites);
+    assert_eq!(file.len(), size("CRASH_LONGEST_FILE"));
+    assert_eq!(file.len(), 8 + 1_900 * 33);
+    let mut report = vec![0; size("CRASH_LONGEST_REPORT")];
+    let short = report.len() - 1;
+    let number = |refusal: Refusal| refusal.number;
+    let refused = project_into(&file, &mut report[..short]).map_err(number);
+    assert_eq!(refused, Err(cause::TOO_SHORT));
+    assert_eq!(project_into(&file, &mut report), Ok(report.len()));
+    // One site more is outside the limits.
+    let mut longer = file.clone();
+    let count = u16::try_from(sites + 1).expect("a count").to_be_bytes();
+    longer[6..8].copy_from_slice(&count);
+    longer.extend(&file[size("CRASH_HEADER_BYTES")..][..size("CRASH_LONGEST_RECORD")]);
+    let refused = project_into(&longer, &mut report).map_err(number);
+    assert_eq!(refused, Err(cause::HEADER_LIMITS));
+}
+
+/// The same of a record, of a site's numbers, of its line and of a bracket.
+#[test]
+fn sizes_of_a_site_are_the_engines() {
+    let names = names_in_c("names_site");
+    let size = |name: &str| names[name] as usize;
+    let record = full_project(1).split_off(size("CRASH_HEADER_BYTES"));
+    assert_eq!(record.len(), size("CRASH_LONGEST_RECORD"));
+    let mut values = vec![0; size("CRASH_READ_NUMBERS")];
+    let short = values.len() - 1;
+    assert_eq!(read_into(&record, &mut values[..short]), TOO_SHORT);
+    assert_eq!(read_into(&record, &mut values), DONE);
+    let site = &values[..size("CRASH_SITE_NUMBERS")];
+    assert_eq!(values[site.len()..], [record.len() as u64]);
+    assert_eq!(write_numbers(site, record.len()), Ok(record.clone()));
+    let refused = write_numbers(site, record.len() - 1);
+    assert_eq!(refused, Err(cause::TOO_SHORT));
+    let mut line = vec![0; size("CRASH_LINE_NUMBERS")];
+    let short = line.len() - 1;
+    let header = [1, 1_000, 1_000];
+    assert_eq!(line_into(header, site, &mut line[..short]), TOO_SHORT);
+    assert_eq!(line_into(header, site, &mut line), DONE);
+    let mut ends = vec![0; size("CRASH_BRACKET_NUMBERS")];
+    let short = ends.len() - 1;
+    assert_eq!(power_into(32, 60, 100, &mut ends[..short]), TOO_SHORT);
+    assert_eq!(power_into(32, 60, 100, &mut ends), DONE);
+    // A segment has no minor traffic.
+    assert_eq!(site[3], names["CRASH_ABSENT"]);
+}
+
+#[test]
+fn stack_suffices_for_every_call() {
+    let source = Path::new(env!("CARGO_MANIFEST_DIR")).join("tests/c/stack.c");
+    let program = compiled("cc", &["-std=c11", "-O2"], &source, "stack");
+    let longest = own("stack.project");
+    fs::write(&longest, full_project(1_900)).expect("a file is written");
+    let mut command = Command::new(program);
+    command
+        .arg(root().join("demo/corridor.project"))
+        .arg(longest);
+    let needed = numbers(&printed(&mut command));
+    let suffices = names_in_c("names_stack")["CRASH_STACK"];
+    assert_eq!(needed.len(), 8, "{needed:?}");
+    for (call, bytes) in &needed {
+        assert!((100..=suffices).contains(bytes), "{call}: {needed:?}");
+    }
+}
+
+/// The archive's symbols: none is of writable data, and only memcpy is wanted.
+#[test]
+fn archive_has_no_state() {
+    let symbols = printed(Command::new("nm").arg(archive()));
+    let mut calls = 0;
+    for line in symbols.lines() {
+        let words: Vec<&str> = line.split_whitespace().collect();
+        match words[..] {
+            ["U", name] => assert_eq!(name, "memcpy"),
+            [_, kind, name] => {
+                assert!("TtRr".contains(kind), "{line}");
+                calls += u32::from(kind == "T" && name.starts_with("crash_"));
+            }
+            _ => assert!(line.is_empty() || line.ends_with(':'), "{line}"),
+        }
+    }
+    assert_eq!(calls, 8);
+}
