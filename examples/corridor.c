@@ -1,4 +1,4 @@
-/* Reads a project file and prints its report, reads its first record and writes it back, through the archive:
+/* Reads a project file and prints its report, reads its first record, writes it back and makes its line, through the archive:
  *
  *     rt staticlib unit
  *     cc -Iinclude examples/corridor.c target/staticlib/libunit.a -o corridor && ./corridor demo/corridor.project
@@ -12,19 +12,29 @@
 static uint8_t file[CRASH_LONGEST_FILE + 1];
 static uint64_t report[CRASH_LONGEST_REPORT];
 
-/* Whether the first record, read and written again, is the same bytes. */
+static uint64_t two_bytes(size_t at)
+{
+    return 256u * file[at] + file[at + 1];
+}
+
+/* Whether the first record, read and written again, is the same bytes, and has the report's first line. The numbers are handed
+ * on as they were read. */
 static int first_record_comes_back(size_t file_len)
 {
     const uint8_t *part = file + CRASH_HEADER_BYTES;
     uint64_t values[CRASH_READ_NUMBERS];
     uint8_t record[CRASH_LONGEST_RECORD];
+    uint64_t line[CRASH_LINE_NUMBERS];
     uint64_t written = 0;
 
     if (crash_site_read(part, file_len - CRASH_HEADER_BYTES, values, CRASH_READ_NUMBERS) != CRASH_OK)
         return 0;
-    if (crash_site_write(values, CRASH_SITE_NUMBERS, record, sizeof record, &written) != CRASH_OK)
+    if (crash_site_write(values, CRASH_READ_NUMBERS, record, sizeof record, &written) != CRASH_OK)
         return 0;
-    return written == values[CRASH_SITE_NUMBERS] && memcmp(record, part, written) == 0;
+    if (crash_line(file[1], two_bytes(2), two_bytes(4), values, CRASH_READ_NUMBERS, line, CRASH_LINE_NUMBERS) != CRASH_OK)
+        return 0;
+    return written == values[CRASH_SITE_NUMBERS] && memcmp(record, part, written) == 0
+        && memcmp(line, report, sizeof line) == 0;
 }
 
 int main(int argc, char **argv)

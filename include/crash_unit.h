@@ -59,7 +59,9 @@ uint64_t crash_project(const uint8_t *file, size_t file_len, uint64_t *report, s
 /* A site is CRASH_SITE_NUMBERS numbers: its kind (0 segment, 1 three-leg stop, 2 four-leg stop, 3 four-leg signal), then its
  * fields: traffic, length, minor traffic, observed, lane width, shoulder width, shoulder type, curve length, radius, spiral
  * ends, deficiency, grade, driveways, two-way lane, passing, hazard rating, skew, left lanes, right lanes, limited sight. A
- * field that holds no number is CRASH_ABSENT. */
+ * field that holds no number is CRASH_ABSENT. A call that takes a site reads the first CRASH_SITE_NUMBERS numbers of values and
+ * nothing of what follows, so that the CRASH_READ_NUMBERS numbers that crash_site_read leaves are handed on as they are; fewer
+ * numbers are a site outside its range. */
 #define CRASH_ABSENT 65536
 
 /* Reads the record that part starts with.
@@ -68,13 +70,14 @@ uint64_t crash_project(const uint8_t *file, size_t file_len, uint64_t *report, s
 uint64_t crash_site_read(const uint8_t *part, size_t part_len, uint64_t *values, size_t values_len);
 
 /* Writes a site's record from the start of buffer; the rest of buffer is as it was.
- * CRASH_OK: *written is the record's length. CRASH_OUTSIDE_RANGE: a value is outside its range, or values has not
- * CRASH_SITE_NUMBERS numbers. CRASH_TOO_SHORT: buffer is too short. *written is as it was where the site is refused. */
+ * CRASH_OK: *written is the record's length. CRASH_OUTSIDE_RANGE: the site is outside its range. CRASH_TOO_SHORT, tried after
+ * that: buffer is too short. *written is as it was where the site is refused. */
 uint64_t crash_site_write(const uint64_t *values, size_t values_len, uint8_t *buffer, size_t buffer_len, uint64_t *written);
 
 /* The four numbers of one site, in line[0] to line[3]; the rest of line is as it was. Calibrations are in thousandths.
- * CRASH_OUTSIDE_RANGE: a header value or the site is outside its range. CRASH_TOO_SHORT: line has fewer than
- * CRASH_LINE_NUMBERS numbers. */
+ * CRASH_OUTSIDE_LIMITS, tried first: years (1 to 10) or a calibration (1 to 9,999) is outside its limits.
+ * CRASH_OUTSIDE_RANGE, tried next: the site is outside its range. CRASH_TOO_SHORT: line has fewer than CRASH_LINE_NUMBERS
+ * numbers. */
 uint64_t crash_line(uint64_t years, uint64_t segment_calibration, uint64_t crossing_calibration, const uint64_t *values,
                     size_t values_len, uint64_t *line, size_t line_len);
 

@@ -28,6 +28,13 @@ fn own(name: &str) -> PathBuf {
     Path::new(env!("CARGO_TARGET_TMPDIR")).join(name)
 }
 
+/// A C file of these tests.
+fn c_file(name: &str) -> PathBuf {
+    Path::new(env!("CARGO_MANIFEST_DIR"))
+        .join("tests/c")
+        .join(name)
+}
+
 /// What a command prints.
 fn printed(command: &mut Command) -> String {
     let output = command.output().expect("a program that runs");
@@ -189,10 +196,16 @@ fn sizes_of_a_site_are_the_engines() {
     assert_eq!(site[3], names["CRASH_ABSENT"]);
 }
 
+/// The calls of a site answer as the header says, tried in C.
+#[test]
+fn answers_are_as_the_header_says() {
+    let program = compiled("cc", &["-std=c11"], &c_file("answers.c"), "answers");
+    assert_eq!(printed(&mut Command::new(program)), "");
+}
+
 #[test]
 fn stack_suffices_for_every_call() {
-    let source = Path::new(env!("CARGO_MANIFEST_DIR")).join("tests/c/stack.c");
-    let program = compiled("cc", &["-std=c11", "-O2"], &source, "stack");
+    let program = compiled("cc", &["-std=c11", "-O2"], &c_file("stack.c"), "stack");
     let longest = own("stack.project");
     fs::write(&longest, full_project(1_900)).expect("a file is written");
     let mut command = Command::new(program);
