@@ -1,7 +1,6 @@
 -- The line of a site, and the answer of the call that makes it.
-use Prim.Native.Nat.{ℕ, _+_, _*_, _≤_}
-use mathlib.Core.Path.{_≡_}
-use mathlib.Core.Bool.{Bool, cond}
+use Prim.Native.Nat.{ℕ}
+use mathlib.Core.Bool.{cond}
 use Rattle.estimate.specs.Fraction.{Fraction}
 use Rattle.site.specs.declared.values.Site.{Site}
 use Rattle.site.specs.declared.values.Slot.{Slot}

@@ -1,7 +1,7 @@
 -- A site as numbers and back: the numbers of a valid site are read as that site, and a site that is outside no range has the
 -- numbers that it was read from.
 use mathlib.Core.Path.{_≡_, refl, ap, sym, _∙_}
-use mathlib.Core.Bool.{Bool, true, false, true≢false}
+use mathlib.Core.Bool.{true, true≢false}
 use mathlib.Core.List.{List, [], _∷_, _++_, map}
 use Prim.Native.Nat.{ℕ, _<_, _≤_}
 use native.Mathlib.Decide.{decLe, decLt}
@@ -15,7 +15,7 @@ use Rattle.site.specs.declared.values.Slot.{Slot}
 use Rattle.site.specs.declared.values.Slot.the-variants.{Absent, Number}
 use Rattle.site.specs.declared.values.Site.{Site}
 use Rattle.site.specs.declared.values.SiteAnswer.the-variants.{Read}
-use Rattle.site.specs.Rules.{entriesOf, lastKind, slotCount}
+use Rattle.site.specs.Rules.{entriesOf, slotCount}
 use Rattle.site.specs.Record.{siteOf}
 use Rattle.site.specs.Writing.{slotsOf, curveHeld, rulesHeld, fits, allFit, sound, Valid}
 use Rattle.site.specs.Truth.{and-left, and-right}

@@ -1,8 +1,7 @@
 -- BOTH ROUND TRIPS of the exported calls: what one of them leaves, the other takes as it is. The run that the reader leaves is
 -- longer than a site's numbers, and what follows these bears on no call.
 use mathlib.Core.Path.{_≡_, refl, ap, sym, _∙_}
-use mathlib.Core.Bool.{cond, true}
-use mathlib.Core.List.{List, [], _∷_, _++_}
+use mathlib.Core.List.{List, _∷_, _++_}
 use Prim.Native.Nat.{ℕ, _≤_}
 use native.Mathlib.Omega.{arith}
 use lib.ListN.{length, getD, take, drop}
@@ -17,7 +16,7 @@ use Rattle.site.specs.Digits.{Bytes}
 use Rattle.site.specs.Answers.{readNumber}
 use Rattle.site.specs.Record.{siteIn, lengthIn, readSite}
 use Rattle.model.specs.Predicted.{Header}
-use Rattle.site.specs.Writing.{recordOf, Valid, writeRefusal, writeAnswer, writeInto}
+use Rattle.site.specs.Writing.{recordOf, writeRefusal, writeAnswer, writeInto}
 use Rattle.site.specs.Accepted.{accept, accepted, number-read}
 use Rattle.site.specs.ReadWrite.{read-valid, read-write}
 use Rattle.site.specs.Promises.{number-written}
