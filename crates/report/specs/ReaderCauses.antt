@@ -7,11 +7,21 @@ use mathlib.Core.Logic.{_↔_, ⊎-elim}
 use native.Mathlib.Omega.{arith}
 use borrow.Author.Tests.{le-leb, lt-leb}
 use Rattle.project.specs.File.{countIn}
-use Rattle.project.specs.Causes.{reportLength, NoCause, FirstCause, in-bytes, in-report}
+use Rattle.site.specs.RecordCauses.{cause-not-zero}
+use Rattle.project.specs.Causes.{reportLength, NoCause, FirstCause, in-header, header-cut, header-edition, header-limits, in-record, in-rest, in-bytes, in-report}
 use Rattle.project.specs.Scan.{refused-exactly, accepted-exactly}
 use Rattle.project.specs.Acceptance.{no-cause-exactly, FirstFound, first-or-none}
 use Rattle.report.specs.declared.ProjectAnswer.the-variants.{Reported, Refused}
 use Rattle.report.specs.Report.{answerNumber, answerValue, projectAnswer}
+
+-- no cause has the number of a success
+pub first-not-zero : {s : List ℕ} {room number p : ℕ} → FirstCause s room number p → number ≡ 0 → ⊥
+first-not-zero (in-bytes (in-header (header-cut h))) e = omega arith
+first-not-zero (in-bytes (in-header (header-edition l h))) e = omega arith
+first-not-zero (in-bytes (in-header (header-limits q h))) e = omega arith
+first-not-zero (in-bytes (in-record header r)) e = cause-not-zero (r .cause) e
+first-not-zero (in-bytes (in-rest header r)) e = omega arith
+first-not-zero (in-report w h) e = omega arith
 
 module _ (s : List ℕ) (room : ℕ) where
   none-reported : NoCause s room → projectAnswer s room ≡ Reported (reportLength (countIn s))
