@@ -24,8 +24,8 @@ usage: reference COMMAND ...
                            standard output
   report                   a project file on standard input to a report made
                            from the estimates at depth 9
-  stored NAME              the numbers that the engine stores of powers,
-                           logarithms or exponentials, one a line
+  stored NAME              the numbers that the engine stores, one a line:
+                           powers, logarithms, exponentials, bases or hazards
   figures                  what the engine's program bracket_figures prints
 PROJECT is a project file or a file of lines as `dump` prints them; `-` is
 standard input. What is refused ends with a message on standard error and a
@@ -84,6 +84,8 @@ fn print_stored(name: &str) -> Outcome {
         "powers" => stored::powers(),
         "logarithms" => stored::logarithms(),
         "exponentials" => stored::exponentials(),
+        "bases" => stored::bases(),
+        "hazards" => stored::hazards(),
         _ => return Err(USAGE.to_string()),
     };
     let text: String = numbers.iter().map(|number| format!("{number}\n")).collect();
