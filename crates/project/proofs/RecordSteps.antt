@@ -3,7 +3,6 @@ use mathlib.Core.Path.{_≡_, sym, _∙_}
 use mathlib.Core.Bool.{_&&_}
 use mathlib.Core.List.{List}
 use Prim.Native.Nat.{ℕ, suc, _+_, _-_, _<_, _≤_}
-use native.Mathlib.Nat.{add-zero}
 use native.Mathlib.Omega.{arith}
 use lib.ListN.{length, take, drop, length-drop}
 use lib.Dec.{leb}
@@ -18,7 +17,7 @@ use Rattle.model.specs.Predicted.{inLimits}
 use Rattle.project.specs.declared.Header.{Header}
 use Rattle.project.specs.declared.ScanAnswer.{ScanAnswer}
 use Rattle.project.specs.declared.ScanAnswer.the-variants.{Accepted, Refused}
-use Rattle.project.specs.File.{headerIn, countIn, mostSites, onward, scanRecords}
+use Rattle.project.specs.File.{headerIn, countIn, mostSites, onward, place-of-record, scanRecords}
 use Rattle.project.specs.Fields.{ReadsHeader, valuesOf}
 
 pub limits-of : (s : List ℕ) (header : Header) → ReadsHeader s header
@@ -38,7 +37,8 @@ module _ (s : List ℕ) (sites i at : ℕ) (whole : ScanAnswer) (inv : scanRecor
     answer-of = rw (part-from s at) at (reads .answer-is)
 
     pub record-refused : (number : ℕ) → i < sites → answer ≡ site.Refused number → Refused number at ≡ whole
-    record-refused number h e = let q : readSite (drop at s) ≡ site.Refused number = sym answer-of ∙ e in rw (q, add-zero at) at (step h)
+    record-refused number h e =
+        let q : readSite (drop at s) ≡ site.Refused number = sym answer-of ∙ e in sym (place-of-record at number (λ next. whole)) ∙ (rw q at (step h))
 
     pub record-read : (value : Site) (n : ℕ) → i < sites → answer ≡ site.Read value n
         → scanRecords sites (sites - (i + 1)) (at + n) s ≡ whole

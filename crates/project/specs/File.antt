@@ -1,7 +1,9 @@
 -- The project file: its header, its records one after another, and what a scan of its bytes answers.
 use Prim.Native.Nat.{ℕ, zero, suc, _+_}
+use mathlib.Core.Path.{_≡_, ap}
 use mathlib.Core.Bool.{cond, _&&_}
 use mathlib.Core.List.{List, [], _∷_}
+use native.Mathlib.Nat.{add-zero}
 use lib.ListN.{length, getD, drop}
 use lib.Dec.{ltb, leb, eqb}
 use Rattle.site.specs.declared.values.Site.{Site}
@@ -43,6 +45,10 @@ headerNumber s =
 abbrev pub onward : (at : ℕ) → SiteAnswer → (ℕ → ScanAnswer) → ScanAnswer
 onward at (site.Refused number) k = Refused number (at + readPlace (site.Refused number))
 onward at (site.Read site n) k = k (at + n)
+
+-- "Place is the record's first byte": the reader's place is 0
+pub place-of-record : (at number : ℕ) (k : ℕ → ScanAnswer) → onward at (site.Refused number) k ≡ Refused number at
+place-of-record at number k = ap (λ (place : ℕ). Refused number place) (add-zero at)
 
 -- "each record in turn .. last 2": the records that are left, from a place on, and then "bytes after the last record"
 unfoldable pub scanRecords : (sites left at : ℕ) → List ℕ → ScanAnswer

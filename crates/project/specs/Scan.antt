@@ -4,7 +4,6 @@ use mathlib.Core.Bool.{Bool, true, false, cond, _&&_, true≢false}
 use mathlib.Core.List.{List}
 use mathlib.Core.Logic.{_↔_}
 use Prim.Native.Nat.{ℕ, zero, suc, _+_, _-_, _<_, _≤_}
-use native.Mathlib.Nat.{add-zero}
 use native.Mathlib.Omega.{arith}
 use lib.ListN.{length, drop, length-drop}
 use lib.Dec.{ltb, leb, eqb}
@@ -14,32 +13,15 @@ use Rattle.site.specs.declared.values.SiteAnswer.{SiteAnswer}
 use Rattle.site.specs.declared.values.SiteAnswer.the-variants as site
 use Rattle.site.specs.Answers.{readNumber}
 use Rattle.site.specs.Record.{refusalOf, readSite}
-use Rattle.site.specs.RecordCauses.{cause-number, cause-not-zero, record-cause-exactly}
-use Rattle.site.specs.Accepted.{accepted, accept, number-read}
+use Rattle.site.specs.RecordCauses.{refused-by-cause}
+use Rattle.site.specs.Accepted.{number-read}
 use Rattle.site.specs.Theorems.{read-length}
 use Rattle.model.specs.Predicted.{inLimits}
 use Rattle.project.specs.declared.ScanAnswer.{ScanAnswer}
 use Rattle.project.specs.declared.ScanAnswer.the-variants.{Accepted, Refused}
-use Rattle.project.specs.File.{headerLength, editionIn, headerIn, countIn, mostSites, headerNumber, onward, scanRecords, scanFile}
+use Rattle.project.specs.File.{headerLength, editionIn, headerIn, countIn, mostSites, headerNumber, onward, place-of-record, scanRecords, scanFile}
 use Rattle.project.specs.Headed.{HeaderAccepted, header-accepted, accepted-header}
 use Rattle.project.specs.Causes.{Starts, first, next, RecordNumber, BytesAfter, HeaderCause, header-cut, header-edition, header-limits, FirstInBytes, in-header, in-record, in-rest, Whole}
-
--- a part that the site reader refuses has that number, which is not 0
-pub record RefusedPart (x : List ℕ) (number : ℕ) : Type 0 where
-  pub number-is : refusalOf x ≡ number
-  pub not-zero : number ≡ 0 → ⊥
-
-pub refused-part : (x : List ℕ) (number : ℕ) → readSite x ≡ site.Refused number → RefusedPart x number
-refused-part x number e =
-    let n : refusalOf x ≡ number = sym (number-read x) ∙ ap readNumber e in
-    record {
-      number-is = n;
-      not-zero = λ z. let a = accept x (accepted x (n ∙ z)) in let c : _≡_ {A = ℕ} 0 1 = cc in omega arith;
-    }
-
-pub part-refused : (x : List ℕ) (number : ℕ) → RefusedPart x number → readSite x ≡ site.Refused number
-unfolding readSite
-part-refused x number r = rw (r .number-is, ne-eqb number 0 (r .not-zero))
 
 pub read-zero : (x : List ℕ) (value : Site) (n : ℕ) → readSite x ≡ site.Read value n → refusalOf x ≡ 0
 read-zero x value n e = sym (number-read x) ∙ ap readNumber e
@@ -78,7 +60,7 @@ module _ (s : List ℕ) where
   step-refused : (sites left p number : ℕ) → readSite (drop p s) ≡ site.Refused number
       → scanRecords sites (suc left) p s ≡ Refused number p
   unfolding scanRecords
-  step-refused sites left p number e = rw (e, add-zero p)
+  step-refused sites left p number e = rw e (place-of-record p number (λ next. scanRecords sites left next s))
 
   step-after : (sites p : ℕ) → p < length s → scanRecords sites zero p s ≡ Refused 2 p
   unfolding scanRecords
@@ -117,8 +99,8 @@ module _ (s : List ℕ) (long : headerLength ≤ length s) where
       → (answer : SiteAnswer) → readSite (drop p s) ≡ answer
       → Scanned s (onward p answer (λ next. scanRecords (countIn s) left next s))
   scanned-step left i p st h later (site.Refused number) e =
-      let r = refused-part (drop p s) number e in
-      rw (add-zero p) (at-record (record { index = i; counted = h; starts = st; cause = record-cause-exactly _ _ .0 (r .number-is, r .not-zero) }))
+      rw (place-of-record p number (λ next. scanRecords (countIn s) left next s))
+      (at-record (record { index = i; counted = h; starts = st; cause = refused-by-cause (drop p s) number .0 e }))
   scanned-step left i p st h later (site.Read value n) e = later n (next st e)
 
   scanned-from : (left i p : ℕ) → Starts s i p → i + left ≡ countIn s → Scanned s (scanRecords (countIn s) left p s)
@@ -146,8 +128,9 @@ module _ (s : List ℕ) where
       rw (a, b, c) (header-limits (eqb-true (editionIn s) 1 b)
       (record { place-is = refl; there = ltb-false (length s) headerLength a; outside = λ h. true≢false (sym (h .0) ∙ c) }))
   header-by false true true false a b c d ne =
+      let w = leb-false (countIn s) mostSites d in
       rw (a, b, c, d) (header-limits (eqb-true (editionIn s) 1 b)
-      (record { place-is = refl; there = ltb-false (length s) headerLength a; outside = λ h. let w = leb-false (countIn s) mostSites d in let q = h .1 in omega arith }))
+      (record { place-is = refl; there = ltb-false (length s) headerLength a; outside = λ h. let q = h .1 in omega arith }))
   header-by false true true true a b c d ne = absurd (ne (rw (a, b, c, d)))
 
   header-cause : (headerNumber s ≡ 0 → ⊥) → HeaderCause s (headerNumber s)
@@ -215,7 +198,7 @@ module _ (s : List ℕ) where
   first-refused (in-record {number} {p} header r) =
       let m : r .index + suc (countIn s - suc (r .index)) ≡ countIn s = let h = r .counted in omega arith in
       scan-past-header s (accepted-header s header) ∙ reach s (countIn s) (r .index) p (suc (countIn s - suc (r .index))) (r .starts) m
-      ∙ step-refused s (countIn s) (countIn s - suc (r .index)) p number (part-refused (drop p s) number (record { number-is = cause-number (drop p s) (r .cause); not-zero = cause-not-zero (r .cause) }))
+      ∙ step-refused s (countIn s) (countIn s - suc (r .index)) p number (refused-by-cause (drop p s) number .1 (r .cause))
   first-refused (in-rest {p} header r) =
       scan-past-header s (accepted-header s header) ∙ reach s (countIn s) (countIn s) p 0 (r .starts) (omega arith) ∙ step-after s (countIn s) p (r .more)
 
@@ -245,7 +228,8 @@ module _ (s : List ℕ) where
       let e = w .count-is in
       let m : n + 0 ≡ countIn s = omega arith in
       let l : length s ≤ length s = omega arith in
-      scan-past-header s (accepted-header s (w .header)) ∙ reach s (countIn s) n (length s) 0 (w .ends) m ∙ step-end s (countIn s) (length s) l ∙ ap Accepted (sym e)
+      scan-past-header s (accepted-header s (w .header)) ∙ reach s (countIn s) n (length s) 0 (w .ends) m
+      ∙ step-end s (countIn s) (length s) l ∙ ap Accepted (sym e)
 
   pub accepted-exactly : (n : ℕ) → (scanFile s ≡ Accepted n) ↔ Whole s n
   accepted-exactly n = (λ e. accepted-by n e (eqb (headerNumber s) 0) refl, whole-accepted n)

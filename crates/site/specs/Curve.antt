@@ -60,11 +60,13 @@ pub segment-misses : (map : ℕ)
     → misses (rulesRead 0 map) map ≡ not (bitAt 0 map && (bitAt 1 map && matched (bitAt 6 map) (bitAt 7 map) (bitAt 8 map) (bitAt 9 map)))
 unfolding entriesOf
 segment-misses map =
-    by (curved segment map) refl ∙ by-bits (bitAt 0 map) (bitAt 1 map) (bitAt 6 map) (bitAt 7 map) (bitAt 8 map) (bitAt 9 map) (curved segment map) (sym (curve-bits map))
+    by (curved segment map) refl
+    ∙ by-bits (bitAt 0 map) (bitAt 1 map) (bitAt 6 map) (bitAt 7 map) (bitAt 8 map) (bitAt 9 map) (curved segment map) (sym (curve-bits map))
   where
     by : (c : Bool) → curved segment map ≡ c
         → misses (settle c segment) map
-        ≡ cond c (not (bitAt 0 map) || (not (bitAt 1 map) || (not (bitAt 6 map) || (not (bitAt 7 map) || false)))) (not (bitAt 0 map) || (not (bitAt 1 map) || false))
+        ≡ cond c (not (bitAt 0 map) || (not (bitAt 1 map) || (not (bitAt 6 map) || (not (bitAt 7 map) || false))))
+        (not (bitAt 0 map) || (not (bitAt 1 map) || false))
     by true e = misses-on-curve map
     by false e = misses-straight map
 

@@ -8,7 +8,7 @@ use lib.Dec.{eqb}
 use borrow.Author.Tests.{eqb-true}
 use Rattle.site.specs.declared.values.Site.{Site}
 use Rattle.site.specs.declared.values.SiteAnswer.{SiteAnswer}
-use Rattle.site.specs.declared.values.SiteAnswer.the-variants.{Read}
+use Rattle.site.specs.declared.values.SiteAnswer.the-variants.{Read, Refused}
 use Rattle.site.specs.declared.values.WriteAnswer.{WriteAnswer}
 use Rattle.site.specs.declared.values.WriteAnswer.the-variants.{Written, Unwritten}
 use Rattle.site.specs.Answers.{readNumber, readPlace, writeNumber, writePlace, wroteAnswer}
@@ -18,9 +18,10 @@ use Rattle.site.specs.Writing.{recordOf, Valid, writeRefusal, writeAnswe
 use Rattle.site.specs.Accepted.{number-read}
 use Rattle.site.specs.ReadWrite.{read-valid}
 use Rattle.site.specs.FieldsRead.{fields-read}
+use Rattle.site.specs.RecordCauses.{RecordCause, refused-by-cause}
 use Rattle.site.specs.Theorems.{RecordLength, read-length}
 
--- the site reader: its answer, document 01's number for it, and what is so of a site that it reads
+-- the site reader: its answer, document 01's number for it, what is so of a site that it reads, and why it refuses
 pub record ReadsSite (part : List ℕ) (answer : SiteAnswer) : Type 0 where
   pub answer-is : answer ≡ readSite part
   pub number-is : readNumber answer ≡ refusalOf part
@@ -28,6 +29,7 @@ pub record ReadsSite (part : List ℕ) (answer : SiteAnswer) : Type 0 where
   pub valid : (site : Site) (n : ℕ) → answer ≡ Read site n → Valid site
   pub bounds : (site : Site) (n : ℕ) → answer ≡ Read site n → RecordLength part n
   pub fields : (site : Site) (n : ℕ) → answer ≡ Read site n → FieldsRead part site n
+  pub cause : (number : ℕ) → answer ≡ Refused number → RecordCause part number
 
 pub reads-site : (part : List ℕ) (answer : SiteAnswer) → answer ≡ readSite part → ReadsSite part answer
 reads-site part answer e =
@@ -38,6 +40,7 @@ reads-site part answer e =
       valid = λ site n q. read-valid part site n (sym e ∙ q);
       bounds = λ site n q. read-length part site n (sym e ∙ q);
       fields = λ site n q. fields-read part site n (sym e ∙ q);
+      cause = λ number q. refused-by-cause part number .0 (sym e ∙ q);
     }
 
 -- the site writer: its answer, document 01's number for it, and the buffer afterwards, byte for byte

@@ -84,7 +84,9 @@ rewritten-fields (rule ∷ rules) map s ri h la mi nu =
     let n = both-zero (fieldNumber rule map s) (fieldsNumber rules (restOf rule map) (after rule map s)) (eqb (fieldNumber rule map s) 0) refl nu in
     let f = rewritten-field rule map s (omega arith) (and-left _ _ ri) (or-left _ _ mi) (n .0) in
     let long : 2 * words rules (restOf rule map) ≤ length (after rule map s) = omega (arith, length-drop (2 * bitOf rule map) s) in
-    let fs = rewritten-fields rules (restOf rule map) (after rule map s) (and-right (right rule) _ ri) long (or-right (lackedBitStands rule map) _ la) (or-right (neededBitAbsent rule map) _ mi) (n .1) in
+    let la′ = or-right (lackedBitStands rule map) _ la in
+    let mi′ = or-right (neededBitAbsent rule map) _ mi in
+    let fs = rewritten-fields rules (restOf rule map) (after rule map s) (and-right (right rule) _ ri) long la′ mi′ (n .1) in
     let d : 2 * (bitOf rule map + words rules (restOf rule map)) ≡ 2 * bitOf rule map + 2 * words rules (restOf rule map) = omega arith in
     record {
       fit = rw (f .fit, fs .fit);

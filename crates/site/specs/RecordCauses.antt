@@ -1,18 +1,21 @@
 -- Document 01's causes to refuse the bytes that a record starts, 1 and 5 to 9, in its own words and order and by bit number.
 -- The site reader has a number for them exactly where that cause is the first.
-use mathlib.Core.Path.{_≡_, refl, sym, _∙_}
+use mathlib.Core.Path.{_≡_, refl, ap, sym, _∙_}
 use mathlib.Core.Bool.{Bool, true, false, cond, not}
-use mathlib.Core.List.{List, []}
+use mathlib.Core.List.{List}
 use mathlib.Core.Logic.{_↔_}
-use Prim.Native.Nat.{ℕ, zero, suc, _+_, _*_, _<_, _≤_}
+use Prim.Native.Nat.{ℕ, _*_, _<_, _≤_}
 use native.Mathlib.Omega.{arith}
 use lib.ListN.{length, drop, length-drop}
 use lib.Dec.{ltb, eqb}
-use borrow.Author.Tests.{ltb-true, ltb-false, lt-ltb, le-ltb, eqb-true, eqb-false}
+use borrow.Author.Tests.{ltb-true, ltb-false, lt-ltb, le-ltb, eqb-true, eqb-false, ne-eqb}
+use Rattle.site.specs.declared.values.SiteAnswer.the-variants.{Refused}
 use Rattle.site.specs.Rules.{lastKind}
-use Rattle.site.specs.Record.{lacks, misses, words, fieldsNumber, kindIn, mapIn, rulesIn, recordNumber, refusalOf}
+use Rattle.site.specs.Answers.{readNumber}
+use Rattle.site.specs.Record.{lacks, misses, words, fieldsNumber, kindIn, mapIn, rulesIn, recordNumber, refusalOf, readSite}
 use Rattle.site.specs.Fields.{lacked, mapBits, fieldIn, bitAt, standing, numberAt, fieldsEnd, inRange, spellsDefault}
 use Rattle.site.specs.Truth.{not-both}
+use Rattle.site.specs.Accepted.{accepted, accept, number-read}
 use Rattle.site.specs.BitLaws.{bitNumber, first-refused, refused-first}
 use Rattle.site.specs.Curve.{mapMatched, misses-by-bits}
 use Rattle.site.specs.FieldsRead.{rulesAt, bitsHeld, each-has-bit, lacked-past, by-bits, lacks-exactly, words-standing, wrongNumber, wrong-number, right-number, number-of}
@@ -206,3 +209,13 @@ module _ (s : List ℕ) where
       by : ((n : ℕ) → RecordCause s n → ⊥) → (b : Bool) → eqb (refusalOf s) 0 ≡ b → refusalOf s ≡ 0
       by none true t = eqb-true (refusalOf s) 0 t
       by none false t = absurd (none (refusalOf s) (record-cause (refusalOf s) refl (eqb-false (refusalOf s) 0 t)))
+
+  -- so the reader refuses with a number exactly where that cause is the first
+  pub refused-by-cause : (number : ℕ) → (readSite s ≡ Refused number) ↔ RecordCause s number
+  unfolding readSite
+  refused-by-cause number = (told, λ c. rw (cause-number c, ne-eqb number 0 (cause-not-zero c)))
+    where
+      told : readSite s ≡ Refused number → RecordCause s number
+      told e =
+          let n : refusalOf s ≡ number = sym (number-read s) ∙ ap readNumber e in
+          record-cause number n (λ z. let a = accept s (accepted s (n ∙ z)) in let c : _≡_ {A = ℕ} 0 1 = cc in omega arith)

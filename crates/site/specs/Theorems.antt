@@ -84,7 +84,7 @@ module _ (site : Site) where
   pub eight-exactly : (room : ℕ) → (writeRefusal site room ≡ 8) ↔ ((s : List ℕ) (n : ℕ) → Bytes s → readSite s ≡ Read site n → ⊥)
   unfolding writeRefusal
   eight-exactly room = (
-    λ e s n bytes r. let z : _≡_ {A = ℕ} (cond (leb (length (recordOf site)) room) 0 10) 8 = rw (read-valid s site n r .is-sound) at e in never (leb (length (recordOf site)) room) z,
+    λ e s n bytes r. never (leb (length (recordOf site)) room) (rw (read-valid s site n r .is-sound) at e),
     λ never. rw (no-record never),
   )
     where
@@ -121,7 +121,8 @@ module _ (site : Site) where
       by false b p q e = absurd (omega arith)
 
   -- what the writer leaves in the buffer reads back as the same site, whatever follows it there
-  pub written-reads-back : (before : List ℕ) → Valid site → length (recordOf site) ≤ length before → readSite (writeInto site before) ≡ Read site (length (recordOf site))
+  pub written-reads-back : (before : List ℕ) → Valid site → length (recordOf site) ≤ length before
+      → readSite (writeInto site before) ≡ Read site (length (recordOf site))
   unfolding writeInto
   written-reads-back before v h =
       rw (v .is-sound, le-leb (length (recordOf site)) (length before) h) (write-read site (drop (length (recordOf site)) before) v)
