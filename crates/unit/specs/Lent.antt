@@ -1,6 +1,6 @@
--- Values left in a lent run of numbers, a bracket's among them, and the number that the call answers. Standing and width of the answers that the
--- exported calls name are laws of their crates: `answer-stands` of power and logarithm, `exponential-stands` and
--- `exponential-negative-stands` of exponential.
+-- Values left in a lent run of numbers, a bracket's among them, and the number that the call answers. Standing and width of the
+-- answers that the exported calls name are laws of their crates: `answer-stands` of power and logarithm, `exponential-stands`
+-- and `exponential-negative-stands` of exponential.
 use Prim.Native.Nat.{ℕ}
 use mathlib.Core.Path.{_≡_}
 use mathlib.Core.Bool.{cond}

@@ -5,22 +5,23 @@ use mathlib.Core.List.{List, _∷_, _++_}
 use Prim.Native.Nat.{ℕ, _≤_}
 use native.Mathlib.Omega.{arith}
 use lib.ListN.{length, getD, take, drop}
-use lib.Seq.{length-take-le, append-snoc}
+use lib.Seq.{append-snoc}
 use lib.Dec.{leb}
 use borrow.Author.Tests.{le-leb, leb-true}
 use Rattle.site.specs.declared.values.Site.{Site}
 use Rattle.site.specs.declared.values.SiteAnswer.the-variants.{Read}
+use Rattle.site.specs.declared.values.WriteAnswer.{WriteAnswer}
 use Rattle.site.specs.declared.values.WriteAnswer.the-variants.{Written}
 use Rattle.site.specs.Truth.{chosen}
 use Rattle.site.specs.Digits.{Bytes}
-use Rattle.site.specs.Answers.{readNumber}
+use Rattle.site.specs.Answers.{readNumber, writeNumber, writeLength}
 use Rattle.site.specs.Record.{siteIn, lengthIn, readSite}
 use Rattle.model.specs.Predicted.{Header}
-use Rattle.site.specs.Writing.{recordOf, writeRefusal, writeAnswer, writeInto}
+use Rattle.site.specs.Writing.{recordOf, writeRefusal, writeAnswer}
 use Rattle.site.specs.Accepted.{accept, accepted, number-read}
-use Rattle.site.specs.ReadWrite.{read-valid, read-write}
+use Rattle.site.specs.ReadWrite.{read-valid}
 use Rattle.site.specs.Promises.{number-written}
-use Rattle.site.specs.Theorems.{read-length, zero-exactly, written-reads-back}
+use Rattle.site.specs.Theorems.{zero-exactly, written-reads-back, read-writes-back}
 use Rattle.unit.specs.SiteNumbers.{readValues, siteFrom, siteNumbers, answerNumbers, ReadsNumbers, WritesNumbers}
 use Rattle.unit.specs.LineNumbers.{LinesNumbers}
 use Rattle.unit.specs.Coding.{site-read, values-again, longer-same}
@@ -94,20 +95,10 @@ pub read-written : (part run values : List ℕ) → Bytes part → ReadsNumbers 
     → (before afterwards : List ℕ) (length-before length-after number : ℕ) → getD values siteNumbers 0 ≤ length before
     → WritesNumbers values before afterwards length-before length-after number
     → WrittenBack part (getD values siteNumbers 0) before afterwards length-after number
-unfolding writeInto
 read-written part run values bytes r before afterwards length-before length-after number room w =
-    let site = siteFrom values in
-    let n = getD values siteNumbers 0 in
-    let read = handed-on part run values r in
-    let valid = read-valid part site n read in
-    let same : recordOf site ≡ take n part = read-write part site n bytes read in
-    let long : length (recordOf site) ≡ n = ap (λ (l : List ℕ). length l) same ∙ length-take-le n part (read-length part site n read .within) in
-    let fits : length (recordOf site) ≤ length before = omega (arith, long) in
-    let zero : writeRefusal site (length before) ≡ 0 = zero-exactly site (length before) .1 (valid, fits) in
+    let back = read-writes-back part (siteFrom values) (getD values siteNumbers 0) before bytes (handed-on part run values r) room in
     record {
-      number-is = w .number-is ∙ number-written site (length before) ∙ zero;
-      buffer-is =
-          w .buffer-is
-          ∙ rw (valid .is-sound, le-leb (length (recordOf site)) (length before) fits, long) (ap (λ (l : List ℕ). l ++ drop n before) same);
-      length-is = w .length-is ∙ rw (wrote site (length before) zero) long;
+      number-is = w .number-is ∙ ap writeNumber (back .0);
+      buffer-is = w .buffer-is ∙ back .1;
+      length-is = w .length-is ∙ ap (λ (answer : WriteAnswer). writeLength answer length-before) (back .0);
     }
