@@ -259,7 +259,8 @@ module _ (k : Coefficients) (count traffic : ℕ) (from : 1 ≤ traffic) (to : t
   driveways-stand positive = driveway-bracket-stands k count positive (ln .stands)
 
   -- from the logarithm's stated width
-  pub driveways-width : 200 ≤ k .driveway-constant → count ≤ 50 → RelativeWidth logarithmWidth 2 (drivewaysOf (k .driveway-constant) (k .fewest-driveways) count traffic)
+  pub driveways-width : 200 ≤ k .driveway-constant → count ≤ 50
+      → RelativeWidth logarithmWidth 2 (drivewaysOf (k .driveway-constant) (k .fewest-driveways) count traffic)
   driveways-width large few =
       driveway-bracket-width (k .driveway-constant) (k .fewest-driveways) count few (logarithmBracket traffic) (ln .stands .low-den) (ln .stands .high-den)
       large logarithmWidth (ln .narrow)

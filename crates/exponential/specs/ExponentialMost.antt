@@ -20,4 +20,5 @@ module _ (x X v w D : ℕ) (within : x ≤ X) (short : X ≤ 10000) (hD : 0 < D)
   exp-below =
       let p = exp-promised x (omega arith) in
       let b = exp-bounds-in-order (exp-low-at-most x) (at-least-by-tail 7 (record { cross = omega arith }) sum) (record { cross = mul-le-mul-right 10000 within }) in
-      high-below exponentialWidth (expBracket x) v D w D exponential-width-large (p .width) (p .stands .low-den) hD (b .cross) (steps-apart exponentialWidth v w D below few)
+      high-below exponentialWidth (expBracket x) v D w D exponential-width-large (p .width) (p .stands .low-den) hD (b .cross)
+      (steps-apart exponentialWidth v w D below few)

@@ -70,7 +70,11 @@ expected-stands k small Absent under over p s = record {
 expected-stands k small (Number m) under over p s = record {
   between = record { low-right = expected-low-right k m (p .low) (s .low-right); high-right = expected-high-right k m (p .high) (s .high-right) };
   in-order = expected-in-order k m (p .low) (p .high) (s .in-order);
-  narrow = let w = expected-width k m widthParts predictedEach 1 (expectedEach - 2 + expectedEach * m) (p .low) (p .high) (record { width = omega (arith, s .narrow .width) }) (history-width (k .num) (k .den) m small) in record { width = omega (arith, w .width) };
+  narrow =
+      let each = expectedEach - 2 + expectedEach * m in
+      let p-narrow : Narrow widthParts predictedEach 1 (p .low) (p .high) = record { width = omega (arith, s .narrow .width) } in
+      let w = expected-width k m widthParts predictedEach 1 each (p .low) (p .high) p-narrow (history-width (k .num) (k .den) m small) in
+      record { width = omega (arith, w .width) };
   low-amid = λ O e. rw (← number-of m O e) (low-between k m (p .low));
   high-amid = λ O e. rw (← number-of m O e) (high-between k m (p .high));
 }

@@ -3,10 +3,8 @@ use Prim.Native.Nat.{ℕ, zero, suc, _+_, _*_, _≤_, _<_}
 use mathlib.Core.List.{List, [], _∷_, map}
 use native.Mathlib.Omega.{arith}
 use lib.Dec.{T, lit<, lit≤}
-use Rattle.estimate.specs.Fraction.{fraction, _//_, whole, _^ᶠ_, inverse, tenThousandths}
+use Rattle.estimate.specs.Fraction.{fraction, _//_, whole, _^ᶠ_}
 use Rattle.estimate.specs.Table.{allBelow, all-below}
-use Rattle.estimate.specs.Exponential.{expUnder, expOver, expNegUnder, expNegOver, partialSum, sumWithTail, sumNum, termNum, termDen}
-use Rattle.bracket.specs.Rounded.{roundedOutward}
 use Rattle.bracket.specs.Pieces.{Kept, bounds, hasRoom, grown, absoluteMost}
 use Rattle.site.specs.declared.values.Site.{Site}
 use Rattle.site.specs.declared.values.Slot.{Slot}
@@ -27,11 +25,11 @@ unfolding editionOne
 base-in-order kind h = negative-in-order _ (by-kind (λ kind. editionOne .base-exponent kind ≤ 210000) (lit≤ tt) (lit≤ tt) (lit≤ tt) (lit≤ tt) kind h)
 
 segment-base : T (isKept (615 // 1000) (basePart editionOne 0))
-unfolding isKept storedWidth storedBracket roundedOutward editionOne expUnder expOver expNegUnder expNegOver inverse partialSum sumWithTail sumNum termNum termDen tenThousandths _//_ fraction
+unfolding isKept storedBracket storedWidth editionOne _//_
 segment-base = tt
 
 crossing-bases : T (allBelow (λ kind. isKept (whole 1) (basePart editionOne kind)) 4)
-unfolding allBelow isKept storedWidth storedBracket roundedOutward editionOne expUnder expOver expNegUnder expNegOver inverse partialSum sumWithTail sumNum termNum termDen tenThousandths whole fraction
+unfolding allBelow isKept storedBracket storedWidth editionOne whole
 crossing-bases = tt
 
 crossing-base : (kind : ℕ) → 1 ≤ kind → kind ≤ 3 → Kept parts (storedPiece (basePart editionOne kind) (whole 1))

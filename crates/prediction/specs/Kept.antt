@@ -7,19 +7,17 @@ use native.Mathlib.Omega.{arith}
 use lib.Dec.{T, leb, leb→le, lit<, lit≤}
 use Rattle.estimate.specs.Fraction.{Fraction, fraction, _≤ᶠ_, _=ᶠ_, _//_, whole, _*ᶠ_, _^ᶠ_, tenThousandths}
 use Rattle.estimate.specs.FractionLaws.{≤ᶠ-trans}
-use Rattle.estimate.specs.Fraction.{inverse}
 use Rattle.estimate.specs.Table.{both, both-left, both-right, allBelow, all-below}
-use Rattle.estimate.specs.Exponential.{expUnder, expOver, expNegUnder, expNegOver, partialSum, sumWithTail, sumNum, termNum, termDen}
+use Rattle.estimate.specs.Exponential.{sumWithTail, sumNum, termNum, termDen}
 use Rattle.estimate.specs.ExponentialBounds.{exp-under-≤-over, exp-neg-under-≤-over}
 use Rattle.bracket.specs.declared.Bracket.{Bracket}
 use Rattle.bracket.specs.Bracket.{RelativeWidth, exponentialWidth, powerWidth, logarithmWidth}
 use Rattle.bracket.specs.WidthLaws.{in-parts}
-use Rattle.bracket.specs.Rounded.{roundedOutward, rounded-outward-stands}
+use Rattle.bracket.specs.Rounded.{rounded-outward-stands}
 use Rattle.bracket.specs.Pieces.{Piece, Kept, AllKept, exactPiece, exact-kept, bounds, hasRoom, grown, absoluteMost}
 use Rattle.exponential.specs.Exponential.{expBracket}
 use Rattle.exponential.specs.ExponentialLaws.{exp-promised}
 use Rattle.exponential.specs.ExponentialMost.{exp-below}
-use Rattle.power.specs.Power.{powerBracket}
 use Rattle.power.specs.PowerMost.{hundredths-standing, hundredths-below}
 use Rattle.driveways.specs.Driveways.{drivewaysOf}
 use Rattle.driveways.specs.DrivewayLaws.{driveways-stand, driveways-width, driveways-at-most-six}
@@ -35,7 +33,7 @@ use Rattle.model.specs.Crossings.{leftTurn, rightTurn, sight, majorExponent, mi
 use Rattle.model.specs.FactorBounds.{lane-within, shoulder-within, curve-within, superelevation-within, grade-first-within, grade-second-within, two-way-lane-within, passing-within, sight-within}
 use Rattle.model.specs.Parts.{Part, Term, power, exponential, exponentialNegative, hazard, driveways, number}
 use Rattle.prediction.specs.Stored.{storedScale, storedDepth, storedBracket, storedWidth, basePart}
-use Rattle.prediction.specs.Pieces.{parts, shareOf, piece, storedPiece, relatedMost, curvePieces, segmentPieces, majorMost, minorMost, crossingPieces}
+use Rattle.prediction.specs.Pieces.{parts, shareOf, piece, powerPiece, storedPiece, relatedMost, curvePieces, segmentPieces, majorMost, minorMost, crossingPieces}
 use Rattle.prediction.specs.Pair.{unit}
 use Rattle.prediction.specs.Numbers.{by-kind, by-crossing, CurveNumbers, SegmentNumbers, CrossingNumbers}
 
@@ -101,7 +99,7 @@ negative-in-order x h i j = exp-neg-under-≤-over (tenThousandths x) (within-ta
 
 -- e^0.2672 is below 1.308: one test over the ratings
 hazards-kept : T (allBelow (λ i. isKept (1308 // 1000) (hazard (suc i))) 7)
-unfolding allBelow isKept narrowly atMost storedWidth storedBracket roundedOutward expUnder expOver expNegUnder expNegOver inverse partialSum sumWithTail sumNum termNum termDen tenThousandths _//_ fraction
+unfolding allBelow isKept storedBracket storedWidth _//_
 hazards-kept = tt
 
 hazard-kept : (rating : ℕ) → 1 ≤ rating → rating ≤ 7 → Kept parts (storedPiece (hazard rating) (1308 // 1000))
@@ -116,27 +114,27 @@ hazard-kept (suc i) from to =
 -- POWERS OF TRAFFIC, by kind: the five exponents are stored ones
 
 power-kept : (A p c : ℕ) → 1 ≤ A → A ≤ 20000 → p ≤ 100 → c < powerWidth → 20000 ^ p ≤ c ^ 100
-    → Kept parts (piece (power A p) (powerBracket A p 100) (shareOf 1 powerWidth) (whole (c + 1)))
+    → Kept parts (powerPiece A p (c + 1))
 unfolding whole fraction
 power-kept A p c from to part few h =
     let s = hundredths-standing A p from to part in
     record { stands = s .stands; narrow = in-shares powerWidth power-shares (s .narrow); bounded = hundredths-below A p from to part c few h }
 
 major-kept : (kind A : ℕ) → 1 ≤ kind → kind ≤ 3 → 1 ≤ A → A ≤ 20000
-    → Kept parts (piece (power A (majorExponent kind)) (powerBracket A (majorExponent kind) 100) (shareOf 1 powerWidth) (whole (majorMost kind)))
+    → Kept parts (powerPiece A (majorExponent kind) (majorMost kind))
 unfolding powerWidth
 major-kept kind A l m from to =
-    by-crossing (λ kind. Kept parts (piece (power A (majorExponent kind)) (powerBracket A (majorExponent kind) 100) (shareOf 1 powerWidth) (whole (majorMost kind))))
+    by-crossing (λ kind. Kept parts (powerPiece A (majorExponent kind) (majorMost kind)))
     (power-kept A 79 2500 from to (lit≤ tt) (lit< tt) (lit≤ tt))
     (power-kept A 60 381 from to (lit≤ tt) (lit< tt) (lit≤ tt))
     (power-kept A 60 381 from to (lit≤ tt) (lit< tt) (lit≤ tt))
     kind l m
 
 minor-kept : (kind B : ℕ) → 1 ≤ kind → kind ≤ 3 → 1 ≤ B → B ≤ 20000
-    → Kept parts (piece (power B (minorExponent kind)) (powerBracket B (minorExponent kind) 100) (shareOf 1 powerWidth) (whole (minorMost kind)))
+    → Kept parts (powerPiece B (minorExponent kind) (minorMost kind))
 unfolding powerWidth
 minor-kept kind B l m from to =
-    by-crossing (λ kind. Kept parts (piece (power B (minorExponent kind)) (powerBracket B (minorExponent kind) 100) (shareOf 1 powerWidth) (whole (minorMost kind))))
+    by-crossing (λ kind. Kept parts (powerPiece B (minorExponent kind) (minorMost kind)))
     (power-kept B 49 129 from to (lit≤ tt) (lit< tt) (lit≤ tt))
     (power-kept B 61 421 from to (lit≤ tt) (lit< tt) (lit≤ tt))
     (power-kept B 20 8 from to (lit≤ tt) (lit< tt) (lit≤ tt))
@@ -147,7 +145,9 @@ pub skew-most : (kind degrees : ℕ) → kind ≤ 3 → degrees ≤ 60 → skewE
 skew-most kind degrees l h = by-kind (λ kind. skewExponent kind * degrees ≤ 3240) (omega arith) (omega arith) (omega arith) (omega arith) kind l
 
 skew-kept : (x : ℕ) → x ≤ 3240 → Kept parts (piece (exponential x) (expBracket x) (shareOf 1 exponentialWidth) (1384 // 1000))
-skew-kept x h = let p = exp-promised x (omega arith) in record { stands = p .stands; narrow = in-shares exponentialWidth exponential-shares (p .width); bounded = below }
+skew-kept x h =
+    let p = exp-promised x (omega arith) in
+    record { stands = p .stands; narrow = in-shares exponentialWidth exponential-shares (p .width); bounded = below }
   where
     below : expBracket x .«high_num» * (1384 // 1000) .den ≤ (1384 // 1000) .num * expBracket x .«high_den»
     below = unfold exponentialWidth _//_ fraction sumWithTail sumNum termNum termDen tenThousandths in
@@ -217,7 +217,8 @@ module _ (k : Coefficients) (rated : Rated k) (site : Site) (term : Term) where
           let to : term .traffic ≤ 20000 = omega (arith, n .traffic-most, t) in
           record {
             stands = driveways-stand k (number (site .driveways)) (term .traffic) from to (omega (arith, rated .constant-least));
-            narrow = in-shares logarithmWidth logarithm-shares (driveways-width k (number (site .driveways)) (term .traffic) from to (rated .constant-least) (n .driveways-most));
+            narrow = in-shares logarithmWidth logarithm-shares
+                (driveways-width k (number (site .driveways)) (term .traffic) from to (rated .constant-least) (n .driveways-most));
             bounded = unfold whole fraction in omega (arith, driveways-at-most-six k (number (site .driveways)) (term .traffic) from to (rated .constant-least) (n .driveways-most));
           }
 

@@ -31,6 +31,10 @@ parts = 10 ^ 12
 abbrev pub shareOf : (r width : ℕ) → ℕ
 shareOf r width = parts / width * r
 
+-- a power of traffic, at most a whole number
+abbrev pub powerPiece : (traffic hundredths most : ℕ) → Piece
+powerPiece traffic hundredths most = piece (power traffic hundredths) (powerBracket traffic hundredths 100) (shareOf 1 powerWidth) (whole most)
+
 abbrev pub storedPiece : Part → (most : Fraction) → Piece
 storedPiece part most = piece part (storedBracket part) (shareOf 1 storedWidth) most
 
@@ -71,10 +75,8 @@ minorMost = byKind 1 130 422 9
 -- a crossing's
 unfoldable pub crossingPieces : Coefficients → Site → Term → List Piece
 crossingPieces k site term =
-    piece (power (term .traffic) (majorExponent (site .kind))) (powerBracket (term .traffic) (majorExponent (site .kind)) 100)
-    (shareOf 1 powerWidth) (whole (majorMost (site .kind)))
-    ∷ piece (power (term .minor) (minorExponent (site .kind))) (powerBracket (term .minor) (minorExponent (site .kind)) 100)
-    (shareOf 1 powerWidth) (whole (minorMost (site .kind)))
+    powerPiece (term .traffic) (majorExponent (site .kind)) (majorMost (site .kind))
+    ∷ powerPiece (term .minor) (minorExponent (site .kind)) (minorMost (site .kind))
     ∷ exactPiece (leftTurn k (site .kind) (number (site .«left_lanes»))) (whole 1)
     ∷ exactPiece (rightTurn k (site .kind) (number (site .«right_lanes»))) (whole 1)
     ∷ exactPiece (sight (number (site .«limited_sight»))) (6 // 5)

@@ -5,6 +5,8 @@ use mathlib.Core.Path.{_≡_}
 use mathlib.Core.List.{List}
 use lib.Dec.{T, eqb}
 use lib.ListN.{getD}
+use Rattle.estimate.specs.Fraction.{fraction, inverse, tenThousandths}
+use Rattle.estimate.specs.Exponential.{expUnder, expOver, expNegUnder, expNegOver, partialSum, sumWithTail, sumNum, termNum, termDen}
 use Rattle.estimate.specs.Table.{allBelow, agree-below}
 use Rattle.bracket.specs.declared.Bracket.{Bracket}
 use Rattle.bracket.specs.Rounded.{roundedOutward}
@@ -19,8 +21,9 @@ storedScale = 10 ^ 13
 abbrev pub storedDepth : ℕ
 storedDepth = 20
 
--- THE STORED BRACKET of a part
+-- THE STORED BRACKET of a part; a test that opens it computes the estimates of e^x
 unfoldable pub storedBracket : Part → Bracket
+unfolding roundedOutward expUnder expOver expNegUnder expNegOver inverse partialSum sumWithTail sumNum termNum termDen tenThousandths fraction
 storedBracket part = roundedOutward storedScale storedDepth (part .under) (part .over)
 
 -- THE STATED WIDTH of a stored bracket, relative to its high
@@ -60,5 +63,5 @@ overScale low high = record { «low_num» = low; «low_den» = storedScale; «hi
 -- AN ENTRY of a table is its part's bracket
 pub entry-is : {n : ℕ} {part : ℕ → Part} {table : List ℕ} → StoredParts n part table → (i : ℕ) → i < n
     → overScale (getD table (2 * i) 0) (getD table (2 * i + 1) 0) ≡ storedBracket (part i)
-unfolding storedBracket roundedOutward
+unfolding storedBracket
 entry-is stored i h = rw (stored .low i h, stored .high i h)

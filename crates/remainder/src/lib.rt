@@ -4,7 +4,8 @@ ghost use mathlib.Core.Path.{_≡_};
 ghost use Prim.Native.Nat.{_+_, _^_, _≤_, _<_};
 ghost use Rattle.remainder.specs.Quotient.{quotientDown, quotientUp};
 ghost use Rattle.remainder.specs.Split.{splitOf};
-ghost use Rattle.remainder.specs.Remainder.{SmallRest, Exponent, mostDenominator, logLow, logBoundsOf, exponentialLow, exponentialHigh, remainderLow, remainderHigh};
+ghost use Rattle.remainder.specs.Remainder.{SmallRest, Exponent, mostDenominator};
+ghost use Rattle.remainder.specs.Remainder.{logLow, logBoundsOf, exponentialLow, exponentialHigh, remainderLow, remainderHigh};
 ghost use Rattle.remainder.specs.LogarithmBounds.{withCube};
 
 const SCALE: u64 = 1_000_000_000_000;

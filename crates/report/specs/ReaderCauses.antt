@@ -8,7 +8,8 @@ use native.Mathlib.Omega.{arith}
 use borrow.Author.Tests.{le-leb, lt-leb}
 use Rattle.project.specs.File.{countIn}
 use Rattle.site.specs.RecordCauses.{cause-not-zero}
-use Rattle.project.specs.Causes.{reportLength, NoCause, FirstCause, in-header, header-cut, header-edition, header-limits, in-record, in-rest, in-bytes, in-report}
+use Rattle.project.specs.Causes.{reportLength, NoCause, FirstCause, in-bytes, in-report}
+use Rattle.project.specs.Causes.{in-header, header-cut, header-edition, header-limits, in-record, in-rest}
 use Rattle.project.specs.Scan.{refused-exactly, accepted-exactly}
 use Rattle.project.specs.Acceptance.{no-cause-exactly, FirstFound, first-or-none}
 use Rattle.report.specs.declared.ProjectAnswer.the-variants.{Reported, Refused}
