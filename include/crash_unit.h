@@ -59,32 +59,33 @@ uint64_t crash_project(const uint8_t *file, size_t file_len, uint64_t *report, s
 /* A site is CRASH_SITE_NUMBERS numbers: its kind (0 segment, 1 three-leg stop, 2 four-leg stop, 3 four-leg signal), then its
  * fields: traffic, length, minor traffic, observed, lane width, shoulder width, shoulder type, curve length, radius, spiral
  * ends, deficiency, grade, driveways, two-way lane, passing, hazard rating, skew, left lanes, right lanes, limited sight. A
- * field that holds no number is CRASH_ABSENT. A call that takes a site reads the first CRASH_SITE_NUMBERS numbers of values and
+ * field that holds no number is CRASH_ABSENT: an absent history, the four fields of a curve on a straight road, and the fields
+ * of other kinds. Any other field holds its number, its default too. A call that takes a site reads the first CRASH_SITE_NUMBERS numbers of values and
  * nothing of what follows, so that the CRASH_READ_NUMBERS numbers that crash_site_read leaves are handed on as they are; fewer
  * numbers are a site outside its range. */
 #define CRASH_ABSENT 65536
 
 /* Reads the record that part starts with.
  * CRASH_OK: values[0] to values[20] are the site, values[21] is the record's length in bytes; the rest of values is as it was.
- * 1, 5 to 9: the record is refused; CRASH_TOO_SHORT: values has fewer than CRASH_READ_NUMBERS numbers. */
+ * 1, 5 to 9: the record is refused; CRASH_TOO_SHORT, tried last: values has fewer than CRASH_READ_NUMBERS numbers. */
 uint64_t crash_site_read(const uint8_t *part, size_t part_len, uint64_t *values, size_t values_len);
 
 /* Writes a site's record from the start of buffer; the rest of buffer is as it was.
  * CRASH_OK: *written is the record's length. CRASH_OUTSIDE_RANGE: the site is outside its range. CRASH_TOO_SHORT, tried after
- * that: buffer is too short. *written is as it was where the site is refused. */
+ * that: buffer is too short. On any refusal *written is as it was. */
 uint64_t crash_site_write(const uint64_t *values, size_t values_len, uint8_t *buffer, size_t buffer_len, uint64_t *written);
 
 /* The four numbers of one site, in line[0] to line[3]; the rest of line is as it was. Calibrations are in thousandths.
  * CRASH_OUTSIDE_LIMITS, tried first: years (1 to 10) or a calibration (1 to 9,999) is outside its limits.
- * CRASH_OUTSIDE_RANGE, tried next: the site is outside its range. CRASH_TOO_SHORT: line has fewer than CRASH_LINE_NUMBERS
- * numbers. */
+ * CRASH_OUTSIDE_RANGE, tried next: the site is outside its range. CRASH_TOO_SHORT, tried last: line has fewer than
+ * CRASH_LINE_NUMBERS numbers. */
 uint64_t crash_line(uint64_t years, uint64_t segment_calibration, uint64_t crossing_calibration, const uint64_t *values,
                     size_t values_len, uint64_t *line, size_t line_len);
 
 /* Brackets of powers, logarithms and exponentials, for any model: ends[0] / ends[1] is at most the exact figure, and
  * ends[2] / ends[3] at least; the rest of ends is as it was. CRASH_OUTSIDE_RANGE: an argument is out of range.
- * CRASH_TOO_SHORT: ends has fewer than CRASH_BRACKET_NUMBERS numbers. Powers: base 1 to 20,000, num / den one of 79, 49, 60,
- * 61 and 20 hundredths. Logarithms: 1 to 20,000. Exponentials: x from 0 to 140,000 ten-thousandths, e^x and e^(-x). */
+ * CRASH_TOO_SHORT, tried last: ends has fewer than CRASH_BRACKET_NUMBERS numbers. Powers: base 1 to 20,000, num one of 79, 49,
+ * 60, 61 and 20, den 100. Logarithms: 1 to 20,000. Exponentials: x from 0 to 140,000 ten-thousandths, e^x and e^(-x). */
 uint64_t crash_power(uint64_t base, uint64_t num, uint64_t den, uint64_t *ends, size_t ends_len);
 uint64_t crash_logarithm(uint64_t argument, uint64_t *ends, size_t ends_len);
 uint64_t crash_exponential(uint64_t x, uint64_t *ends, size_t ends_len);

@@ -152,7 +152,11 @@ pub fn are_lines(bytes: &[u8]) -> bool {
 
 /// The text of lines.
 pub fn text_of(bytes: &[u8]) -> Result<&str, String> {
-    std::str::from_utf8(bytes).map_err(|error| format!("the lines are no text: {error}"))
+    std::str::from_utf8(bytes).map_err(|error| {
+        let before = &bytes[..error.valid_up_to()];
+        let line = 1 + before.iter().filter(|byte| **byte == b'\n').count();
+        format!("line {line}: this is no UTF-8 text")
+    })
 }
 
 /// Reads a project from lines. Empty lines and lines that start with `#` are

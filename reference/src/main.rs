@@ -10,6 +10,7 @@ use reference::report::print_report;
 use reference::sum::Sum;
 use reference::{figures, lines, stored};
 use std::io::{ErrorKind, Read, Write};
+use std::num::NonZeroUsize;
 use std::process::ExitCode;
 
 const USAGE: &str = "\
@@ -47,7 +48,8 @@ const PLACES: u32 = 12;
 type Outcome = Result<ExitCode, String>;
 
 fn main() -> ExitCode {
-    let arguments: Vec<String> = std::env::args().skip(1).collect();
+    let given = std::env::args_os().skip(1);
+    let arguments: Vec<String> = given.map(|word| word.to_string_lossy().into()).collect();
     let words: Vec<&str> = arguments.iter().map(String::as_str).collect();
     let outcome = match words[..] {
         ["estimate", project, depth] => estimate(project, depth),
@@ -189,9 +191,10 @@ fn pair(estimates: &Estimates) -> String {
 }
 
 fn check_program(program: &str, count: &str, seed: &str) -> Outcome {
-    let count: usize = count.parse().map_err(|_| USAGE.to_string())?;
+    // A run of no file would pass whatever the program prints.
+    let count: NonZeroUsize = count.parse().map_err(|_| USAGE.to_string())?;
     let seed: u64 = seed.parse().map_err(|_| USAGE.to_string())?;
-    let tally = check(program, count, seed, |failure| {
+    let tally = check(program, count.get(), seed, |failure| {
         // What cannot be written is counted at the end all the same.
         let _ = print(format!("{failure}\n"));
     });

@@ -257,8 +257,8 @@ fn header_lines_are_refused_with_line_name_value_and_range() {
     assert_refused("edition 1\nyears 2\n", "no line has segment-calibration");
     assert_refused("# Nothing.\n", "no line has edition");
     for command in [&["make"][..], &["dump", "-"]] {
-        let message = refusal(command, b"# caf\xE9\n");
-        assert!(message.starts_with("the lines are no text: "), "{message}");
+        let message = refusal(command, b"# A note.\n# caf\xE9\n");
+        assert_eq!(message, "line 2: this is no UTF-8 text");
     }
 }
 
@@ -337,7 +337,14 @@ fn estimates_of_a_file_and_of_its_lines_agree() {
 
 #[test]
 fn wrong_use_fails_and_says_how() {
-    for arguments in [&["estimate"][..], &["tally"], &["stored", "roots"], &[]] {
+    let none: [&str; 4] = ["check", "/bin/true", "0", "1"];
+    for arguments in [
+        &["estimate"][..],
+        &["tally"],
+        &["stored", "roots"],
+        &none,
+        &[],
+    ] {
         let message = refusal(arguments, &SIGNAL);
         assert!(message.starts_with("usage: "), "{message}");
     }

@@ -14,17 +14,17 @@ use Rattle.model.specs.Grade.{grade-pieces}
 use Rattle.model.specs.FactorBounds.{left-turn-within, right-turn-within}
 use Rattle.model.specs.Parts.{Term}
 use Rattle.prediction.specs.Stored.{storedBracket, storedWidth, basePart}
-use Rattle.prediction.specs.Pieces.{parts, storedPiece, segmentPieces}
+use Rattle.prediction.specs.Pieces.{parts, storedPiece, baseMost, segmentPieces}
 use Rattle.prediction.specs.Pair.{unit}
 use Rattle.prediction.specs.Numbers.{by-kind}
 use Rattle.prediction.specs.Kept.{InOrder, isKept, stored-kept, negative-in-order, Rated, segmentMost, carriedMost}
 
--- the base factors: e^(-0.4865) is below 0.615, and one test of the crossings'
+-- the base factors: a test of the segment's, and one of the crossings'
 base-in-order : (kind : ℕ) → kind ≤ 3 → InOrder (basePart editionOne kind)
 unfolding editionOne
 base-in-order kind h = negative-in-order _ (by-kind (λ kind. editionOne .base-exponent kind ≤ 210000) (lit≤ tt) (lit≤ tt) (lit≤ tt) (lit≤ tt) kind h)
 
-segment-base : T (isKept (615 // 1000) (basePart editionOne 0))
+segment-base : T (isKept baseMost (basePart editionOne 0))
 unfolding isKept storedBracket storedWidth editionOne _//_
 segment-base = tt
 
@@ -58,7 +58,7 @@ edition-one-rated = record {
   share-most = lit≤ tt;
   constant-least = lit≤ tt;
   constant-most = lit≤ tt;
-  base-kept = stored-kept (basePart editionOne 0) (615 // 1000) (base-in-order 0 (lit≤ tt)) segment-base;
+  base-kept = stored-kept (basePart editionOne 0) baseMost (base-in-order 0 (lit≤ tt)) segment-base;
   crossing-base-kept = crossing-base;
   grade-is = grade-pieces;
   left-most = λ kind lanes. left-turn-within kind lanes .at-most;

@@ -33,7 +33,7 @@ use Rattle.model.specs.Crossings.{leftTurn, rightTurn, sight, majorExponent, mi
 use Rattle.model.specs.FactorBounds.{lane-within, shoulder-within, curve-within, superelevation-within, grade-first-within, grade-second-within, two-way-lane-within, passing-within, sight-within}
 use Rattle.model.specs.Parts.{Part, Term, power, exponential, exponentialNegative, hazard, driveways, number}
 use Rattle.prediction.specs.Stored.{storedScale, storedDepth, storedBracket, storedWidth, basePart}
-use Rattle.prediction.specs.Pieces.{parts, shareOf, piece, powerPiece, storedPiece, relatedMost, curvePieces, segmentPieces, majorMost, minorMost, crossingPieces}
+use Rattle.prediction.specs.Pieces.{parts, shareOf, piece, powerPiece, storedPiece, baseMost, hazardMost, skewMost, relatedMost, curvePieces, segmentPieces, majorMost, minorMost, crossingPieces}
 use Rattle.prediction.specs.Pair.{unit}
 use Rattle.prediction.specs.Numbers.{by-kind, by-crossing, CurveNumbers, SegmentNumbers, CrossingNumbers}
 
@@ -97,15 +97,15 @@ exponential-in-order x h i j = exp-under-≤-over (tenThousandths x) (within-tai
 pub negative-in-order : (x : ℕ) → x ≤ 210000 → InOrder (exponentialNegative x)
 negative-in-order x h i j = exp-neg-under-≤-over (tenThousandths x) (within-tail-law x h) i j
 
--- e^0.2672 is below 1.308: one test over the ratings
-hazards-kept : T (allBelow (λ i. isKept (1308 // 1000) (hazard (suc i))) 7)
+-- one test over the ratings
+hazards-kept : T (allBelow (λ i. isKept hazardMost (hazard (suc i))) 7)
 unfolding allBelow isKept storedBracket storedWidth _//_
 hazards-kept = tt
 
-hazard-kept : (rating : ℕ) → 1 ≤ rating → rating ≤ 7 → Kept parts (storedPiece (hazard rating) (1308 // 1000))
+hazard-kept : (rating : ℕ) → 1 ≤ rating → rating ≤ 7 → Kept parts (storedPiece (hazard rating) hazardMost)
 hazard-kept zero from to = absurd (omega arith)
 hazard-kept (suc i) from to =
-    stored-kept (hazard (suc i)) (1308 // 1000) (by (leb 3 (suc i))) (all-below (λ i. isKept (1308 // 1000) (hazard (suc i))) 7 hazards-kept i to)
+    stored-kept (hazard (suc i)) hazardMost (by (leb 3 (suc i))) (all-below (λ i. isKept hazardMost (hazard (suc i))) 7 hazards-kept i to)
   where
     by : (b : Bool) → InOrder (cond b (exponential (668 * (suc i - 3))) (exponentialNegative (668 * (3 - suc i))))
     by true = exponential-in-order (668 * (suc i - 3)) (omega arith)
@@ -144,12 +144,12 @@ minor-kept kind B l m from to =
 pub skew-most : (kind degrees : ℕ) → kind ≤ 3 → degrees ≤ 60 → skewExponent kind * degrees ≤ 3240
 skew-most kind degrees l h = by-kind (λ kind. skewExponent kind * degrees ≤ 3240) (omega arith) (omega arith) (omega arith) (omega arith) kind l
 
-skew-kept : (x : ℕ) → x ≤ 3240 → Kept parts (piece (exponential x) (expBracket x) (shareOf 1 exponentialWidth) (1384 // 1000))
+skew-kept : (x : ℕ) → x ≤ 3240 → Kept parts (piece (exponential x) (expBracket x) (shareOf 1 exponentialWidth) skewMost)
 skew-kept x h =
     let p = exp-promised x (omega arith) in
     record { stands = p .stands; narrow = in-shares exponentialWidth exponential-shares (p .width); bounded = below }
   where
-    below : expBracket x .«high_num» * (1384 // 1000) .den ≤ (1384 // 1000) .num * expBracket x .«high_den»
+    below : expBracket x .«high_num» * skewMost .den ≤ skewMost .num * expBracket x .«high_den»
     below = unfold exponentialWidth _//_ fraction sumWithTail sumNum termNum termDen tenThousandths in
         exp-below x 3240 1383 1384 1000 h (lit≤ tt) (lit< tt) (lit< tt) (lit≤ tt) (record { cross = lit≤ tt })
 
@@ -170,7 +170,7 @@ pub record Rated (k : Coefficients) : Type 0 where
   pub constant-least : 200 ≤ k .driveway-constant
   pub constant-most : k .driveway-constant ≤ 1000
   -- the base factors, of a segment and of a crossing
-  pub base-kept : Kept parts (storedPiece (basePart k 0) (615 // 1000))
+  pub base-kept : Kept parts (storedPiece (basePart k 0) baseMost)
   pub crossing-base-kept : (kind : ℕ) → 1 ≤ kind → kind ≤ 3 → Kept parts (storedPiece (basePart k kind) (whole 1))
   pub grade-is : (percent : ℕ) → gradeFirst percent *ᶠ gradeSecond percent =ᶠ k .grade percent
   pub left-most : (kind lanes : ℕ) → leftTurn k kind lanes ≤ᶠ whole 1
@@ -237,7 +237,7 @@ module _ (k : Coefficients) (rated : Rated k) (site : Site) (term : Term) where
 
 -- the room and the roundings of a crossing, by kind
 abbrev crossingBounds : ℕ → List Fraction
-crossingBounds kind = whole (majorMost kind) ∷ whole (minorMost kind) ∷ whole 1 ∷ whole 1 ∷ 6 // 5 ∷ 1384 // 1000 ∷ whole 1 ∷ []
+crossingBounds kind = whole (majorMost kind) ∷ whole (minorMost kind) ∷ whole 1 ∷ whole 1 ∷ 6 // 5 ∷ skewMost ∷ whole 1 ∷ []
 
 pub crossing-room : (kind : ℕ) → 1 ≤ kind → kind ≤ 3 → T (hasRoom crossingMost (crossingBounds kind))
 unfolding whole _//_ fraction

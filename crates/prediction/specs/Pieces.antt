@@ -42,22 +42,32 @@ storedPiece part most = piece part (storedBracket part) (shareOf 1 storedWidth) 
 abbrev pub relatedMost : Coefficients → Fraction
 relatedMost k = (2000 + k .related-share) // 2000
 
+-- e^(-0.4865) is a little below this, e^0.2672 below the next, and the skew's e^0.324 below the last
+abbrev pub baseMost : Fraction
+baseMost = 615 // 1000
+
+abbrev pub hazardMost : Fraction
+hazardMost = 1308 // 1000
+
+abbrev pub skewMost : Fraction
+skewMost = 1384 // 1000
+
 -- a straight road has neither of a curve's pieces
 abbrev pub curvePieces : Slot → List Piece → List Piece
 curvePieces Absent pieces = []
 curvePieces (Number length) pieces = pieces
 
--- a segment's, the grade in two; the base factor is a little below 0.615
+-- a segment's, the grade in two
 unfoldable pub segmentPieces : Coefficients → (bend : Slot) → Site → Term → List Piece
 segmentPieces k bend site term =
-    storedPiece (basePart k 0) (615 // 1000)
+    storedPiece (basePart k 0) baseMost
     ∷ exactPiece (lane k (number (site .«lane_width»)) (term .traffic)) (relatedMost k)
     ∷ exactPiece (shoulder k (number (site .«shoulder_width»)) (number (site .«shoulder_type»)) (term .traffic)) (relatedMost k)
     ∷ exactPiece (gradeFirst (number (site .grade))) (onePercent ^ᶠ 6)
     ∷ exactPiece (gradeSecond (number (site .grade))) (onePercent ^ᶠ 6)
     ∷ exactPiece (twoWayLane (number (site .«two_way_lane»)) (number (site .driveways))) (whole 1)
     ∷ exactPiece (passing (number (site .passing))) (whole 1)
-    ∷ storedPiece (hazard (number (site .«hazard_rating»))) (1308 // 1000)
+    ∷ storedPiece (hazard (number (site .«hazard_rating»))) hazardMost
     ∷ piece (driveways k (number (site .driveways)) (term .traffic))
     (drivewaysOf (k .driveway-constant) (k .fewest-driveways) (number (site .driveways)) (term .traffic)) (shareOf 2 logarithmWidth) (whole 6)
     ∷ curvePieces bend
@@ -81,6 +91,6 @@ crossingPieces k site term =
     ∷ exactPiece (rightTurn k (site .kind) (number (site .«right_lanes»))) (whole 1)
     ∷ exactPiece (sight (number (site .«limited_sight»))) (6 // 5)
     ∷ piece (exponential (skewExponent (site .kind) * number (site .skew))) (expBracket (skewExponent (site .kind) * number (site .skew)))
-    (shareOf 1 exponentialWidth) (1384 // 1000)
+    (shareOf 1 exponentialWidth) skewMost
     ∷ storedPiece (basePart k (site .kind)) (whole 1)
     ∷ []

@@ -1,6 +1,6 @@
 -- Document 01's bits, by number: what each bit of each kind's map means, where a field's two bytes stand, and what a field
--- that stands or does not stand is read as. Written beside document 01 alone; `fields-read` of FieldsRead and
--- `record-cause-exactly` of RecordCauses tie it to what the site reader answers.
+-- that stands or does not stand is read as. With the reader's definitions it shares only what a range and a two-byte number are
+-- and where kind and map stand; `fields-read` of FieldsRead and `record-cause-exactly` of RecordCauses tie it to the reader's answer.
 use mathlib.Core.Path.{_≡_}
 use mathlib.Core.Bool.{Bool, true, false, cond}
 use mathlib.Core.List.{List, [], _∷_}

@@ -14,7 +14,7 @@ use borrow.Author.Tests.{leb-true, leb-false, le-leb, lt-leb, eqb-true}
 use Rattle.site.specs.declared.rules.Rule.{Rule}
 use Rattle.site.specs.declared.values.Site.{Site}
 use Rattle.site.specs.declared.values.SiteAnswer.the-variants.{Read}
-use Rattle.site.specs.declared.values.WriteAnswer.the-variants.{Written}
+use Rattle.site.specs.declared.values.WriteAnswer.the-variants.{Written, Unwritten}
 use Rattle.site.specs.Rules.{entriesOf, lastKind, bits}
 use Rattle.site.specs.Record.{anyField, misses, curved, rulesRead, restOf, words, kindIn, mapIn, rulesIn, readSite}
 use Rattle.site.specs.Writing.{recordOf, sound, Valid, writeRefusal, writeAnswer, writeInto}
@@ -120,12 +120,23 @@ module _ (site : Site) where
       by true false p q e = absurd (omega arith)
       by false b p q e = absurd (omega arith)
 
-  -- what the writer leaves in the buffer reads back as the same site, whatever follows it there
-  pub written-reads-back : (before : List ℕ) → Valid site → length (recordOf site) ≤ length before
-      → readSite (writeInto site before) ≡ Read site (length (recordOf site))
+  -- a length is answered only without a refusal, and is the record's
+  written-is : (room n : ℕ) → writeAnswer site room ≡ Written n → (writeRefusal site room ≡ 0) × (n ≡ length (recordOf site))
+  unfolding writeAnswer
+  written-is room n = by (eqb (writeRefusal site room) 0) refl
+    where
+      by : (b : Bool) → eqb (writeRefusal site room) 0 ≡ b → cond b (Written (length (recordOf site))) (Unwritten (writeRefusal site room)) ≡ Written n
+          → (writeRefusal site room ≡ 0) × (n ≡ length (recordOf site))
+      by true t e = (eqb-true (writeRefusal site room) 0 t, cc)
+      by false t e = let z : _≡_ {A = ℕ} 0 1 = cc in absurd (omega arith)
+
+  -- what the writer answers with success and leaves in the buffer reads back as the same site, whatever follows it there
+  pub written-reads-back : (before : List ℕ) (n : ℕ) → writeAnswer site (length before) ≡ Written n → readSite (writeInto site before) ≡ Read site n
   unfolding writeInto
-  written-reads-back before v h =
-      rw (v .is-sound, le-leb (length (recordOf site)) (length before) h) (write-read site (drop (length (recordOf site)) before) v)
+  written-reads-back before n e =
+      let w = written-is (length before) n e in
+      let v = zero-exactly (length before) .0 (w .0) in
+      rw (w .1, v .0 .is-sound, le-leb (length (recordOf site)) (length before) (v .1)) (write-read site (drop (length (recordOf site)) before) (v .0))
 
   -- a refusal leaves the buffer as it was
   pub refused-leaves : (before : List ℕ) → (writeRefusal site (length before) ≡ 0 → ⊥) → writeInto site before ≡ before

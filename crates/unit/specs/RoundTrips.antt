@@ -64,7 +64,8 @@ written-read numbers buffer bytes length-before n w before afterwards number roo
     let zero : writeRefusal site (length buffer) ≡ 0 = sym (number-written site (length buffer)) ∙ sym (w .number-is) in
     let valid = zero-exactly site (length buffer) .0 zero in
     let n-is : n ≡ length (recordOf site) = w .length-is ∙ rw (wrote site (length buffer) zero) refl in
-    let read : readSite bytes ≡ Read site n = rw (w .buffer-is, n-is) (written-reads-back site buffer (valid .0) (valid .1)) in
+    let answer : writeAnswer site (length buffer) ≡ Written n = wrote site (length buffer) zero ∙ ap Written (sym n-is) in
+    let read : readSite bytes ≡ Read site n = rw (w .buffer-is) (written-reads-back site buffer n answer) in
     let told = read-with-room bytes before afterwards number r room site n read in
     record {
       number-is = told .0;
