@@ -22,7 +22,7 @@ AllStand c header [] (line ∷ lines) = ⊥
 AllStand c header (site ∷ sites) [] = ⊥
 AllStand c header (site ∷ sites) (line ∷ lines) = LineStands c header site line × AllStand c header sites lines
 
--- two figures between their numbers have a sum between the sums, and no figure is 0
+-- two figures between their numbers have a sum between the sums of these; a sum of none is between 0 and 0
 between-adds : (a b x y : ℕ) {f g u v : ℕ → Fraction} → Between (millionths a) (millionths b) f g → Between (millionths x) (millionths y) u v
     → Between (millionths (a + x)) (millionths (b + y)) (λ d. f d +ᶠ u d) (λ d. g d +ᶠ v d)
 between-adds a b x y h k = record {
