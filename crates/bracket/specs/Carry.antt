@@ -1,5 +1,5 @@
 -- A bracket of whole numbers carried through a list of factors: the low rounded down at each, the high rounded up.
-use Prim.Native.Nat.{ℕ, _+_, _*_, _≤_, _<_}
+use Prim.Native.Nat.{ℕ, _+_, _*_, _≤_}
 use mathlib.Core.List.{List, [], _∷_}
 use Rattle.estimate.specs.Fraction.{Fraction}
 use Rattle.wide.specs.Scaling.{scaledDown, scaledUp, ceiling}

@@ -4,11 +4,10 @@ use mathlib.Core.List.{List, [], _∷_, _++_}
 use Prim.Native.Nat.{ℕ, _+_, _*_, _≤_, _<_}
 use native.Mathlib.Omega.{arith}
 use Rattle.estimate.specs.Fraction.{Fraction}
-use Rattle.wide.specs.Scaling.{floor, ceiling, scaledDown, scaledUp, answered, Answered, value-is}
+use Rattle.wide.specs.Scaling.{floor, ceiling, scaledDown, scaledUp, value-is}
 use Rattle.wide.specs.Rounding.{Narrow, scaled-lower, scaled-upper, scaled-order, scaled-width, ceiling-ge}
 use Rattle.wide.specs.declared.scale.Scaled.{Scaled}
 use Rattle.wide.specs.declared.scale.Scaled.the-variants as scaled
-use Rattle.bracket.specs.Bracket.{RelativeWidth}
 use Rattle.bracket.specs.Carry.{onward, carried, carriedOn, oneByOne, LowsBelow, HighsAbove, productNum, productDen, Widths, absolutePart, relativePart}
 use Rattle.bracket.specs.declared.Bracket.{Bracket}
 use Rattle.bracket.specs.declared.carry.CarryAnswer.{CarryAnswer}

@@ -1,26 +1,25 @@
 -- A bracket carried through factors that are known by what they stand for: it fits 64 bits by a computed test of bounds, stands
 -- to the product of the estimates at every depth, and has a width.
 use mathlib.Core.Path.{_≡_, refl, ap, _∙_}
-use mathlib.Core.Bool.{Bool, true, false, _&&_}
+use mathlib.Core.Bool.{Bool, true}
 use mathlib.Core.List.{List, [], _∷_, map}
 use Prim.Native.Nat.{ℕ, _+_, _*_, _^_, _≤_, _<_}
-use native.Mathlib.Nat.{le-refl, le-trans, mul-pos, mul-le-mul, mul-le-mul-right, mul-le-mul-left, le-of-mul-le-mul-right}
+use native.Mathlib.Nat.{le-refl, mul-le-mul, mul-le-mul-right, le-of-mul-le-mul-right}
 use native.Mathlib.Omega.{arith}
 use lib.Dec.{T, ltb, ltb→lt}
 use Rattle.estimate.specs.Fraction.{Fraction, fraction, _≤ᶠ_, _*ᶠ_, whole}
 use Rattle.estimate.specs.FractionLaws.{≤ᶠ-refl}
-use Rattle.estimate.specs.Standing.{LowRight, HighRight, exact-low-right, exact-high-right}
+use Rattle.estimate.specs.Standing.{exact-low-right, exact-high-right}
 use Rattle.estimate.specs.Table.{both, both-left, both-right}
-use Rattle.wide.specs.Scaling.{floor, ceiling, scaledDown, scaledUp, answered-value}
+use Rattle.wide.specs.Scaling.{floor, ceiling, scaledUp, answered-value}
 use Rattle.wide.specs.Rounding.{Narrow, floor-le, ceiling-ge, ceiling-≤, scaled-order, scaled-width}
 use Rattle.wide.specs.declared.scale.Scaled.{Scaled}
 use Rattle.wide.specs.declared.scale.Scaled.the-variants as scaled
 use Rattle.bracket.specs.Bracket.{Stands, RelativeWidth}
 use Rattle.bracket.specs.Carry.{onward, carried, LowsBelow, HighsAbove, productNum, productDen, Widths, absolutePart, relativePart}
-use Rattle.bracket.specs.CarryLaws.{carried-low, carried-high, carried-width, CarriedWidth}
+use Rattle.bracket.specs.CarryLaws.{carried-low, carried-high, carried-width}
 use Rattle.bracket.specs.declared.Bracket.{Bracket}
-use Rattle.bracket.specs.declared.carry.CarryAnswer.{CarryAnswer}
-use Rattle.bracket.specs.declared.carry.CarryAnswer.the-variants.{Carried, TooLarge}
+use Rattle.bracket.specs.declared.carry.CarryAnswer.the-variants.{Carried}
 
 -- a factor: the estimates that it stands for, its bracket, its share of the width, and a bound of its high
 pub record Piece : Type 0 where

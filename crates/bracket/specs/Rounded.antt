@@ -1,5 +1,5 @@
 -- A bracket of the estimates at one depth, rounded outward to whole numbers over a scale: it stands at every depth.
-use Prim.Native.Nat.{ℕ, _*_, _<_}
+use Prim.Native.Nat.{ℕ, _<_}
 use native.Mathlib.Omega.{arith}
 use Rattle.estimate.specs.Fraction.{Fraction, fraction, _≤ᶠ_}
 use Rattle.estimate.specs.FractionLaws.{≤ᶠ-trans}

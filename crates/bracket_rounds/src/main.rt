@@ -1,6 +1,6 @@
 // Rounds of brackets with the stored numbers lent, for the benchmark: each byte of standard input asks for one round over
 // every argument, `p` of powers, `l` of logarithms, `e` of exponentials. Prints a sum over all ends, so that none is left out.
-ghost use Prim.Native.Nat.{_≤_, _<_, _^_};
+ghost use Prim.Native.Nat.{_<_, _^_};
 ghost use Rattle.power.specs.Stored.{StoredPowers};
 ghost use Rattle.logarithm.specs.Stored.{StoredLogarithms};
 ghost use Rattle.exponential.specs.Stored.{StoredExponentials};

@@ -1,7 +1,6 @@
 -- The part's bracket from the bracket of ln A and the part's values at its ends.
 use Prim.Native.Nat.{ℕ, _*_, _≤_, _<_}
 use mathlib.Core.Path.{_≡_, sym}
-use native.Mathlib.Omega.{arith}
 use Rattle.bracket.specs.declared.Bracket.{Bracket}
 use Rattle.logarithm.specs.Logarithm.{logarithmBracket}
 use Rattle.logarithm.specs.LogarithmLaws.{logarithm-standing, logarithm-sizes}

@@ -1,5 +1,5 @@
 -- The bracket of the driveway part from a bracket of ln A: the model's value at each end of it.
-use Prim.Native.Nat.{ℕ, _≤_, _<_}
+use Prim.Native.Nat.{ℕ}
 use mathlib.Core.Bool.{cond}
 use lib.Dec.{ltb}
 use Rattle.estimate.specs.Fraction.{Fraction, _//_, whole}

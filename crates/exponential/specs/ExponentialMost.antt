@@ -1,5 +1,5 @@
 -- A bound of the brackets of exponentials, from their promise and one computed sum.
-use Prim.Native.Nat.{ℕ, _+_, _*_, _≤_, _<_}
+use Prim.Native.Nat.{ℕ, _*_, _≤_, _<_}
 use native.Mathlib.Nat.{mul-le-mul-right}
 use native.Mathlib.Omega.{arith}
 use Rattle.estimate.specs.Fraction.{fraction, _≤ᶠ_, whole, _*ᶠ_, tenThousandths}

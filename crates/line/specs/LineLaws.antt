@@ -1,6 +1,6 @@
 -- THE LINE of a valid site stands.
-use Prim.Native.Nat.{ℕ, zero, suc, _+_, _-_, _*_, _≤_, _<_, min, max}
-use mathlib.Core.Path.{_≡_, refl, sym, ap, _∙_}
+use Prim.Native.Nat.{ℕ, zero, suc, _+_, _-_, _*_, _≤_}
+use mathlib.Core.Path.{_≡_, ap}
 use native.Mathlib.Nat.{mul-le-mul-right}
 use native.Mathlib.Decide.{decLe}
 use native.Mathlib.Omega.{arith}
@@ -14,8 +14,8 @@ use Rattle.site.specs.declared.values.Slot.the-variants.{Absent, Number}
 use Rattle.site.specs.Writing.{Valid}
 use Rattle.model.specs.Coefficients.{Coefficients, editionOne}
 use Rattle.model.specs.Parts.{number}
-use Rattle.model.specs.Predicted.{Header, predictedUnder, predictedOver}
-use Rattle.model.specs.Expected.{weighed, withHistory, expectedLow, expectedHigh, overdispersionOf, expectedUnder, expectedOver}
+use Rattle.model.specs.Predicted.{Header}
+use Rattle.model.specs.Expected.{withHistory, expectedLow, expectedHigh, overdispersionOf, expectedUnder, expectedOver}
 use Rattle.model.specs.ExpectedLaws.{expected-low-right, expected-high-right, expected-in-order, expected-width, history-≤-expected-low, expected-low-≤-prediction, history-≤-expected-high, expected-high-≤-prediction, prediction-≤-expected-low, expected-low-≤-history, prediction-≤-expected-high, expected-high-≤-history}
 use Rattle.model.specs.StatedWidths.{widthParts, predictedEach, expectedEach}
 use Rattle.prediction.specs.declared.Pair.{Pair}
@@ -25,7 +25,6 @@ use Rattle.prediction.specs.EditionOne.{edition-one-rated}
 use Rattle.prediction.specs.PredictedLaws.{HeaderMost, PairStands, predicted-stands}
 use Rattle.line.specs.Line.{expectedPair, lineOf}
 use Rattle.line.specs.Stands.{Amid, LineStands}
-use Rattle.line.specs.declared.Line.{Line}
 
 -- the expected numbers lie between the prediction and the history
 module _ (k : Fraction) (O n : ℕ) where

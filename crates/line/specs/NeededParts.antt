@@ -1,6 +1,6 @@
 -- EVERY PART OF THE CLAIM IS NEEDED: a line that fails one part does not stand, whatever its other numbers are. The widths are
 -- written out as numbers here, so that a wider claim is refused.
-use Prim.Native.Nat.{ℕ, _+_, _*_, _≤_, _<_, min, max}
+use Prim.Native.Nat.{ℕ, _+_, _*_, _≤_, _<_}
 use mathlib.Core.Path.{_≡_}
 use native.Mathlib.Omega.{arith}
 use Rattle.estimate.specs.Fraction.{millionths, _<ᶠ_}

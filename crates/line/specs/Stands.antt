@@ -2,12 +2,11 @@
 use Prim.Native.Nat.{ℕ, _+_, _*_, _≤_, min, max}
 use mathlib.Core.Path.{_≡_}
 use mathlib.Core.Bool.{true, false}
-use Rattle.estimate.specs.Fraction.{Fraction, millionths}
+use Rattle.estimate.specs.Fraction.{millionths}
 use Rattle.estimate.specs.Standing.{Between}
 use Rattle.wide.specs.Rounding.{Narrow}
 use Rattle.site.specs.declared.values.Site.{Site}
-use Rattle.site.specs.declared.values.Slot.{Slot}
-use Rattle.site.specs.declared.values.Slot.the-variants.{Absent, Number}
+use Rattle.site.specs.declared.values.Slot.the-variants.{Number}
 use Rattle.site.specs.Writing.{sound}
 use Rattle.model.specs.Coefficients.{Coefficients}
 use Rattle.model.specs.Parts.{number}

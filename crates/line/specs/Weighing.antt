@@ -1,7 +1,7 @@
 -- The expected numbers as the code makes them: one scaling each, of numbers that fit 64 bits.
-use Prim.Native.Nat.{ℕ, _+_, _*_, _^_, _/_, _-_, _≤_, _<_, max}
+use Prim.Native.Nat.{ℕ, _+_, _*_, _^_, _/_, _-_, _≤_, _<_}
 use mathlib.Core.Path.{_≡_, refl, ap}
-use native.Mathlib.Nat.{mul-pos, mul-le-mul, mul-le-mul-left, mul-le-mul-right}
+use native.Mathlib.Nat.{mul-le-mul}
 use native.Mathlib.Omega.{arith}
 use Rattle.estimate.specs.Fraction.{Fraction, fraction, millionths, _//_}
 use Rattle.wide.specs.Scaling.{floor, ceiling}
@@ -14,7 +14,6 @@ use Rattle.site.specs.declared.values.Slot.{Slot}
 use Rattle.site.specs.declared.values.Slot.the-variants.{Absent, Number}
 use Rattle.prediction.specs.declared.Pair.{Pair}
 use Rattle.line.specs.Line.{expectedPair, lineBy, lineOf}
-use Rattle.line.specs.Stands.{Amid}
 use Rattle.line.specs.LineLaws.{low-between, high-between}
 
 -- a million times kd + kn O, and kd million and kn n

@@ -1,6 +1,6 @@
 // The expected pair: a prediction weighed against the history.
 ghost use mathlib.Core.Path.{_≡_};
-ghost use Prim.Native.Nat.{_≤_, _<_};
+ghost use Prim.Native.Nat.{_≤_};
 ghost use Rattle.wide.specs.Scaling.{floor, ceiling};
 ghost use Rattle.model.specs.Parts as parts;
 ghost use Rattle.line.specs.Weighing.{over, under, Sizes, weighedPair};

@@ -1,8 +1,7 @@
 -- Edition 1 keeps what its sites are carried by: computed tests of the base factors, and of the room of a segment, straight or bent.
-use Prim.Native.Nat.{ℕ, zero, suc, _+_, _*_, _≤_, _<_}
-use mathlib.Core.List.{List, [], _∷_, map}
+use Prim.Native.Nat.{ℕ, _*_, _≤_}
 use native.Mathlib.Omega.{arith}
-use lib.Dec.{T, lit<, lit≤}
+use lib.Dec.{T, lit≤}
 use Rattle.estimate.specs.Fraction.{fraction, _//_, whole, _^ᶠ_}
 use Rattle.estimate.specs.Table.{allBelow, all-below}
 use Rattle.bracket.specs.Pieces.{Kept, bounds, hasRoom, grown, absoluteMost}

@@ -14,7 +14,7 @@ use Rattle.bracket.specs.declared.Bracket.{Bracket}
 use Rattle.bracket.specs.Bracket.{RelativeWidth, exponentialWidth, powerWidth, logarithmWidth}
 use Rattle.bracket.specs.WidthLaws.{in-parts}
 use Rattle.bracket.specs.Rounded.{rounded-outward-stands}
-use Rattle.bracket.specs.Pieces.{Piece, Kept, AllKept, exactPiece, exact-kept, bounds, hasRoom, grown, absoluteMost}
+use Rattle.bracket.specs.Pieces.{Kept, AllKept, exactPiece, exact-kept, bounds, hasRoom, grown, absoluteMost}
 use Rattle.exponential.specs.Exponential.{expBracket}
 use Rattle.exponential.specs.ExponentialLaws.{exp-promised}
 use Rattle.exponential.specs.ExponentialMost.{exp-below}
@@ -28,10 +28,9 @@ use Rattle.model.specs.Coefficients.{Coefficients}
 use Rattle.model.specs.Widths.{lane, shoulder}
 use Rattle.model.specs.Alignment.{curve, superelevation}
 use Rattle.model.specs.Grade.{onePercent, gradeFirst, gradeSecond}
-use Rattle.model.specs.Access.{twoWayLane, passing}
-use Rattle.model.specs.Crossings.{leftTurn, rightTurn, sight, majorExponent, minorExponent, skewExponent}
+use Rattle.model.specs.Crossings.{leftTurn, rightTurn, majorExponent, minorExponent, skewExponent}
 use Rattle.model.specs.FactorBounds.{lane-within, shoulder-within, curve-within, superelevation-within, grade-first-within, grade-second-within, two-way-lane-within, passing-within, sight-within}
-use Rattle.model.specs.Parts.{Part, Term, power, exponential, exponentialNegative, hazard, driveways, number}
+use Rattle.model.specs.Parts.{Part, Term, exponential, exponentialNegative, hazard, driveways, number}
 use Rattle.prediction.specs.Stored.{storedScale, storedDepth, storedBracket, storedWidth, basePart}
 use Rattle.prediction.specs.Pieces.{parts, shareOf, piece, powerPiece, storedPiece, baseMost, hazardMost, skewMost, relatedMost, curvePieces, segmentPieces, majorMost, minorMost, crossingPieces}
 use Rattle.prediction.specs.Pair.{unit}

@@ -1,5 +1,5 @@
 -- The numbers of a valid site's fields, by its rules.
-use Prim.Native.Nat.{ℕ, zero, suc, _≤_, _<_}
+use Prim.Native.Nat.{ℕ, zero, suc, _≤_}
 use mathlib.Core.Path.{_≡_, refl, sym, ap, _∙_}
 use mathlib.Core.Logic.{_⊎_, inl, inr}
 use native.Mathlib.Nat.{le-trans, le-of-eq}
@@ -12,7 +12,7 @@ use Rattle.site.specs.declared.values.Slot.{Slot}
 use Rattle.site.specs.declared.values.Slot.the-variants.{Absent, Number}
 use Rattle.site.specs.Rules as rules
 use Rattle.site.specs.Writing.{Valid}
-use Rattle.site.specs.Ranges.{Within, Obeys, StraightRoad, CurvedRoad, SegmentRanges, CrossingRanges, valid-kind, segment-ranges, three-leg-ranges, four-leg-ranges, signal-ranges}
+use Rattle.site.specs.Ranges.{Within, Obeys, StraightRoad, CurvedRoad, CrossingRanges, valid-kind, segment-ranges, three-leg-ranges, four-leg-ranges, signal-ranges}
 use Rattle.model.specs.Parts.{number}
 
 -- the least and the largest number of a field that obeys a rule

@@ -1,34 +1,33 @@
 -- THE PREDICTED PAIR of a valid site stands to its estimates at every depth, is in order and narrow, and fits.
 use Prim.Native.Nat.{ℕ, zero, suc, _+_, _*_, _≤_, _<_}
-use mathlib.Core.Path.{_≡_, refl, sym, ap}
+use mathlib.Core.Path.{_≡_, refl, ap}
 use mathlib.Core.Bool.{Bool, true, false, cond}
 use mathlib.Core.List.{List, [], _∷_}
 use lib.ListN.{length}
-use native.Mathlib.Nat.{le-refl, le-trans, mul-le-mul, mul-le-mul-right}
+use native.Mathlib.Nat.{mul-le-mul, mul-le-mul-right}
 use native.Mathlib.Omega.{arith}
 use lib.Dec.{eqb, lit<, lit≤}
 use borrow.Author.Tests.{eqb-true, eqb-false}
 use Rattle.estimate.specs.Fraction.{Fraction, fraction, _≤ᶠ_, _=ᶠ_, _//_, whole, millionths, _+ᶠ_, _*ᶠ_}
 use Rattle.estimate.specs.FractionLaws.{≤ᶠ-trans, =ᶠ-refl, =ᶠ-≤ᶠ, =ᶠ-≥ᶠ, +ᶠ-mono}
 use Rattle.estimate.specs.Standing.{LowRight, HighRight}
-use Rattle.wide.specs.Scaling.{floor, ceiling}
 use Rattle.wide.specs.Rounding.{Narrow, ceiling-≤}
 use Rattle.bracket.specs.Bracket.{powerWidth, exponentialWidth, logarithmWidth}
 use Rattle.bracket.specs.WidthLaws.{narrow-in}
 use Rattle.bracket.specs.Carry.{carried, relativePart}
-use Rattle.bracket.specs.Pieces.{Piece, AllKept, exactPiece, brackets, unders, overs, bounds, shares, product, grown, absoluteMost, Ends, carried-ends}
+use Rattle.bracket.specs.Pieces.{Piece, exactPiece, brackets, unders, overs, bounds, shares, product, grown, absoluteMost, Ends, carried-ends}
 use Rattle.site.specs.declared.values.Site.{Site}
 use Rattle.site.specs.declared.values.Slot.{Slot}
 use Rattle.site.specs.declared.values.Slot.the-variants.{Absent, Number}
 use Rattle.site.specs.Writing.{Valid}
 use Rattle.model.specs.Coefficients.{Coefficients}
 use Rattle.model.specs.Alignment.{curve, superelevation}
-use Rattle.model.specs.Parts.{Part, Term, exact, number, onCurve, segmentParts, crossingParts, partsOf}
+use Rattle.model.specs.Parts.{Term, exact, number, onCurve, segmentParts, crossingParts, partsOf}
 use Rattle.model.specs.Predicted.{Header, termsOf, productUnder, productOver, sumUnder, sumOver, predictedUnder, predictedOver}
 use Rattle.model.specs.StatedWidths.{widthParts, predictedEach}
 use Rattle.prediction.specs.Stored.{storedWidth}
 use Rattle.prediction.specs.Pieces.{parts, curvePieces, segmentPieces, crossingPieces}
-use Rattle.prediction.specs.Pair.{unit, segmentStart, crossingStart, startOf, piecesOf, outward, termPair, plus, sumPair, predictedPair}
+use Rattle.prediction.specs.Pair.{unit, segmentStart, crossingStart, outward, termPair, plus, sumPair, predictedPair}
 use Rattle.prediction.specs.Numbers.{SegmentNumbers, CrossingNumbers, segment-numbers, crossing-numbers}
 use Rattle.prediction.specs.Kept.{Rated, segmentMost, crossingMost, carriedMost, segment-kept, crossing-kept, crossing-room, crossing-small, crossing-steps}
 use Rattle.prediction.specs.declared.Pair.{Pair}

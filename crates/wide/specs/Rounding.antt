@@ -1,6 +1,6 @@
 -- What rounded scaling keeps of a bracket, for all whole numbers: a lower bound, an upper bound, their order and their width.
 -- A value x is the fraction xn / xd, a factor f is fn / fd, and a bound b stands for the fraction b / U.
-use mathlib.Core.Path.{_≡_, ap, _∙_}
+use mathlib.Core.Path.{ap, _∙_}
 use Prim.Native.Nat.{ℕ, zero, _+_, _-_, _*_, _/_, _^_, _≤_, _<_}
 use native.Mathlib.Nat.{le-of-eq, mul-le-mul, mul-le-mul-left, mul-le-mul-right, div-mul-le-self, lt-div-mul-add, le-of-mul-le-mul-right, lt-of-mul-lt-mul-right, mul-pos, eq-zero-or-pos, div-zero}
 use native.Mathlib.Omega.{arith}

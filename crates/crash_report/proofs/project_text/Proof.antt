@@ -8,12 +8,6 @@ use borrow.Author.Needs.{needs}
 use Rattle.crash_report.proofs.project_text.Statement.{statement}
 use Rattle.crash_report.proofs.project_text.Tie as tie
 
-read-project-requires : tie.Need-read-project-requires
-read-project-requires c κs = search needs
-
-enum-known-answer : tie.Need-enum-known-answer
-enum-known-answer c = search needs
-
 slice-reshare-prefix-put-report : tie.Need-slice-reshare-prefix-put-report
 slice-reshare-prefix-put-report c = omega (arith, made _ _ _ _ (c .before .before .before .before .before .before .before .before .before .before .pre .0) (sym (c .before .answer .given .1) ∙ c .before .before .before .before .before .read-project .ensures .0 .0) (c .before .before .before .before .before .read-project .ensures .0 .1) .few, c .before .before .before .before .before .read-project .kept)
 
@@ -23,26 +17,8 @@ slice-aggregate-put-report c = sym (length-take-le _ _ (omega (arith, made _ _ _
 put-report-requires : tie.Need-put-report-requires
 put-report-requires c κs = simp length-take (omega (arith, made _ _ _ _ (c .before .before .before .before .before .before .before .before .before .before .before .before .pre .0) (sym (c .before .before .before .answer .given .1) ∙ c .before .before .before .before .before .before .before .read-project .ensures .0 .0) (c .before .before .before .before .before .before .before .read-project .ensures .0 .1) .few, c .before .before .before .before .before .before .before .read-project .kept))
 
-enum-known-answer-2 : tie.Need-enum-known-answer-2
-enum-known-answer-2 c = search needs
-
-put-refusal-requires : tie.Need-put-refusal-requires
-put-refusal-requires c κs = search needs
-
-same-length : tie.Need-same-length
-same-length c = search needs
-
-same-length-2 : tie.Need-same-length-2
-same-length-2 c = search needs
-
 returns : tie.Need-returns
 returns c = report-printed _ _ _ _ _ _ (made _ _ _ _ (c .before .before .before .before .before .before .before .before .before .before .before .before .before .before .before .pre .0) (sym (c .before .before .before .before .before .before .answer .given .1) ∙ c .before .before .before .before .before .before .before .before .before .before .read-project .ensures .0 .0) (c .before .before .before .before .before .before .before .before .before .before .read-project .ensures .0 .1)) (c .before .before .put-report .ensures)
-
-same-length-3 : tie.Need-same-length-3
-same-length-3 c = search needs
-
-same-length-4 : tie.Need-same-length-4
-same-length-4 c = search needs
 
 returns-2 : tie.Need-returns-2
 returns-2 c = refusal-printed _ _ _ _ _ _ _ (c .before .before .before .before .before .before .before .before .before .before .before .before .before .before .pre .0) (sym (c .before .before .before .before .before .answer2 .given .1) ∙ c .before .before .before .before .before .before .before .before .before .read-project .ensures .0 .0) (c .before .before .put-refusal .ensures)
@@ -51,16 +27,16 @@ pub project-text-spec : {M : Type 1} → statement M
 project-text-spec =
     tie.close
     (tie.spec
-    read-project-requires
-    enum-known-answer
+    (λ c κs. search needs)
+    (λ c. search needs)
     slice-reshare-prefix-put-report
     slice-aggregate-put-report
     put-report-requires
-    enum-known-answer-2
-    put-refusal-requires
-    same-length
-    same-length-2
+    (λ c. search needs)
+    (λ c κs. search needs)
+    (λ c. search needs)
+    (λ c. search needs)
     returns
-    same-length-3
-    same-length-4
+    (λ c. search needs)
+    (λ c. search needs)
     returns-2)

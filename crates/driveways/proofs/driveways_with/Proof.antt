@@ -9,17 +9,11 @@ use Rattle.driveways.proofs.Cases.{low-fits, high-fits, rising-ends, fa
 use Rattle.driveways.proofs.driveways_with.Statement.{statement}
 use Rattle.driveways.proofs.driveways_with.Tie as tie
 
-ends-requires : tie.Need-ends-requires
-ends-requires c κs = search needs
-
 returns : tie.Need-returns
 unfolding whole fraction
 returns c =
     let a = c .before .before .args in
     c .ends .ensures ∙ sym (bracket-below (a .constant) (a .fewest) (a .driveways) (logarithmBracket (a .traffic)) (omega arith))
-
-logarithm-with-requires : tie.Need-logarithm-with-requires
-logarithm-with-requires c κs = search needs
 
 value-at-requires : tie.Need-value-at-requires
 value-at-requires c κs =
@@ -33,9 +27,6 @@ value-at-requires-2 c κs =
     let f = high-fits (s .args .traffic) (s .pre .4) (s .pre .5) (c .before .logarithm-with .ensures) in
     (s .pre .2, s .pre .1, s .pre .3, f .0, f .1, f .2)
 
-ends-requires-2 : tie.Need-ends-requires-2
-ends-requires-2 c κs = search needs
-
 returns-2 : tie.Need-returns-2
 returns-2 c =
     let v = c .before .before in
@@ -43,9 +34,6 @@ returns-2 c =
     c .ends2 .ensures
     ∙ rising-ends (a .constant) (a .fewest) (a .driveways) (v .before .before .logarithm-with .ensures) (v .before .value-at .ensures) (v .value-at2 .ensures)
     (omega arith) (omega arith)
-
-ends-requires-3 : tie.Need-ends-requires-3
-ends-requires-3 c κs = search needs
 
 returns-3 : tie.Need-returns-3
 returns-3 c =
@@ -59,12 +47,12 @@ pub driveways-with-spec : {M : Type 1} → statement M
 driveways-with-spec =
     tie.close
     (tie.spec
-    ends-requires
+    (λ c κs. search needs)
     returns
-    logarithm-with-requires
+    (λ c κs. search needs)
     value-at-requires
     value-at-requires-2
-    ends-requires-2
+    (λ c κs. search needs)
     returns-2
-    ends-requires-3
+    (λ c κs. search needs)
     returns-3)

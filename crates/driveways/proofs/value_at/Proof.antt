@@ -13,15 +13,6 @@ fixed-fits c = mul-le-mul (c .pre .1) (c .pre .4)
 rest-fits : (c : tie.Start) → c .args .driveways * (50 * c .args .den - 5 * c .args .num) ≤ 50 * 50000000000000
 rest-fits c = let most : 50 * c .args .den - 5 * c .args .num ≤ 50000000000000 = omega arith in mul-le-mul (c .pre .2) most
 
-mul-slope : tie.Need-mul-slope
-mul-slope c = search needs
-
-mul-slope-2 : tie.Need-mul-slope-2
-mul-slope-2 c = search needs
-
-sub-slope : tie.Need-sub-slope
-sub-slope c = search needs
-
 mul-fixed : tie.Need-mul-fixed
 mul-fixed c = omega (arith, fixed-fits c)
 
@@ -30,9 +21,6 @@ mul-t7 c = omega (arith, rest-fits c)
 
 add-t8 : tie.Need-add-t8
 add-t8 c = omega (arith, fixed-fits c, rest-fits c)
-
-mul-t9 : tie.Need-mul-t9
-mul-t9 c = search needs
 
 add-t10 : tie.Need-add-t10
 add-t10 c = omega (arith, fixed-fits c)
@@ -48,4 +36,4 @@ returns c =
 pub value-at-spec : {M : Type 1} → statement M
 value-at-spec =
     tie.close
-    (tie.spec mul-slope mul-slope-2 sub-slope mul-fixed mul-t7 add-t8 mul-t9 add-t10 returns)
+    (tie.spec (λ c. search needs) (λ c. search needs) (λ c. search needs) mul-fixed mul-t7 add-t8 (λ c. search needs) add-t10 returns)

@@ -11,12 +11,6 @@ returns : tie.Need-returns
 unfolding exponentialAnswer
 returns c = answered-outside (c .before .args .x) (expBracket (c .before .args .x)) (omega arith)
 
-stored-exponentials-requires : tie.Need-stored-exponentials-requires
-stored-exponentials-requires c κs = search needs
-
-exponential-with-requires : tie.Need-exponential-with-requires
-exponential-with-requires c κs = search needs
-
 returns-2 : tie.Need-returns-2
 unfolding exponentialAnswer
 returns-2 c =
@@ -26,4 +20,4 @@ returns-2 c =
 
 pub exponential-spec : {M : Type 1} → statement M
 exponential-spec =
-    tie.close (tie.spec returns stored-exponentials-requires exponential-with-requires returns-2)
+    tie.close (tie.spec returns (λ c κs. search needs) (λ c κs. search needs) returns-2)

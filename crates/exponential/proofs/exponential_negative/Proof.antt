@@ -11,12 +11,6 @@ returns : tie.Need-returns
 unfolding exponentialNegativeAnswer
 returns c = answered-outside (c .before .args .x) (expNegBracket (c .before .args .x)) (omega arith)
 
-stored-exponentials-requires : tie.Need-stored-exponentials-requires
-stored-exponentials-requires c κs = search needs
-
-exponential-negative-with-requires : tie.Need-exponential-negative-with-requires
-exponential-negative-with-requires c κs = search needs
-
 returns-2 : tie.Need-returns-2
 unfolding exponentialNegativeAnswer
 returns-2 c =
@@ -27,4 +21,4 @@ returns-2 c =
 pub exponential-negative-spec : {M : Type 1} → statement M
 exponential-negative-spec =
     tie.close
-    (tie.spec returns stored-exponentials-requires exponential-negative-with-requires returns-2)
+    (tie.spec returns (λ c κs. search needs) (λ c κs. search needs) returns-2)

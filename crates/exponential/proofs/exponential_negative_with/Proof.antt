@@ -5,12 +5,9 @@ use borrow.Author.Needs.{needs}
 use Rattle.exponential.proofs.exponential_negative_with.Statement.{statement}
 use Rattle.exponential.proofs.exponential_negative_with.Tie as tie
 
-exponential-with-requires : tie.Need-exponential-with-requires
-exponential-with-requires c κs = search needs
-
 returns : tie.Need-returns
 unfolding expNegBracket
 returns c = ap reciprocal (c .exponential-with .ensures)
 
 pub exponential-negative-with-spec : {M : Type 1} → statement M
-exponential-negative-with-spec = tie.close (tie.spec exponential-with-requires returns)
+exponential-negative-with-spec = tie.close (tie.spec (λ c κs. search needs) returns)

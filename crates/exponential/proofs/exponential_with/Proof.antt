@@ -10,15 +10,6 @@ use borrow.Author.Needs.{needs}
 use Rattle.exponential.proofs.exponential_with.Statement.{statement}
 use Rattle.exponential.proofs.exponential_with.Tie as tie
 
-mul-e : tie.Need-mul-e
-mul-e c = search needs
-
-element-copy-out-e : tie.Need-element-copy-out-e
-element-copy-out-e c = search needs
-
-taylor-requires : tie.Need-taylor-requires
-taylor-requires c κs = search needs
-
 entry : (c : tie.After-taylor) → let a = c .before .before .args in getD (a .stored .now) (a .x / 10000) 0 ≡ storedExp (a .x / 10000)
 entry c = c .before .before .pre .0 .entry (c .before .before .args .x / 10000) (omega arith)
 
@@ -44,9 +35,9 @@ pub exponential-with-spec : {M : Type 1} → statement M
 exponential-with-spec =
     tie.close
     (tie.spec
-    mul-e
-    element-copy-out-e
-    taylor-requires
+    (λ c. search needs)
+    (λ c. search needs)
+    (λ c κs. search needs)
     times-down-requires
     add-times-up
     times-up-requires

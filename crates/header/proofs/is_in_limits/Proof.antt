@@ -5,15 +5,9 @@ use Rattle.model.specs.Predicted.{inLimits}
 use Rattle.header.proofs.is_in_limits.Statement.{statement}
 use Rattle.header.proofs.is_in_limits.Tie as tie
 
-is-up-to-requires : tie.Need-is-up-to-requires
-is-up-to-requires c κs = search needs
-
 returns : tie.Need-returns
 unfolding inLimits
 returns c = simp (← c .before .is-up-to .ensures, not-true (c .before .is-up-to .result) (c .if1 .taken))
-
-is-up-to-requires-2 : tie.Need-is-up-to-requires-2
-is-up-to-requires-2 c κs = search needs
 
 returns-2 : tie.Need-returns-2
 unfolding inLimits
@@ -23,9 +17,6 @@ returns-2 c = simp (
   ← c .before .is-up-to2 .ensures,
   not-true (c .before .is-up-to2 .result) (c .if2 .taken),
 )
-
-is-up-to-requires-3 : tie.Need-is-up-to-requires-3
-is-up-to-requires-3 c κs = search needs
 
 returns-3 : tie.Need-returns-3
 unfolding inLimits
@@ -40,9 +31,9 @@ pub is-in-limits-spec : {M : Type 1} → statement M
 is-in-limits-spec =
     tie.close
     (tie.spec
-    is-up-to-requires
+    (λ c κs. search needs)
     returns
-    is-up-to-requires-2
+    (λ c κs. search needs)
     returns-2
-    is-up-to-requires-3
+    (λ c κs. search needs)
     returns-3)

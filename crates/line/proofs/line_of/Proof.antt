@@ -6,14 +6,8 @@ use borrow.Author.Needs.{needs}
 use Rattle.line.proofs.line_of.Statement.{statement}
 use Rattle.line.proofs.line_of.Tie as tie
 
-is-in-limits-requires : tie.Need-is-in-limits-requires
-is-in-limits-requires c κs = search needs
-
 returns : tie.Need-returns
 returns c = header-outside _ _ (c .before .is-in-limits .result) (c .before .is-in-limits .ensures) (not-true _ (c .if1 .taken))
-
-is-sound-requires : tie.Need-is-sound-requires
-is-sound-requires c κs = search needs
 
 returns-2 : tie.Need-returns-2
 returns-2 c =
@@ -21,15 +15,6 @@ returns-2 c =
     let limits = c .before .before .before .is-in-limits in
     let within = not-false _ (c .before .before .if1 .left) in
     site-outside _ _ (limits .result) (sound .result) (limits .ensures) within (sound .ensures) (not-true _ (c .if2 .taken))
-
-stored-powers-requires : tie.Need-stored-powers-requires
-stored-powers-requires c κs = search needs
-
-stored-logarithms-requires : tie.Need-stored-logarithms-requires
-stored-logarithms-requires c κs = search needs
-
-stored-exponentials-requires : tie.Need-stored-exponentials-requires
-stored-exponentials-requires c κs = search needs
 
 line-with-requires : tie.Need-line-with-requires
 line-with-requires c κs =
@@ -61,12 +46,12 @@ pub line-of-spec : {M : Type 1} → statement M
 line-of-spec =
     tie.close
     (tie.spec
-    is-in-limits-requires
+    (λ c κs. search needs)
     returns
-    is-sound-requires
+    (λ c κs. search needs)
     returns-2
-    stored-powers-requires
-    stored-logarithms-requires
-    stored-exponentials-requires
+    (λ c κs. search needs)
+    (λ c κs. search needs)
+    (λ c κs. search needs)
     line-with-requires
     returns-3)

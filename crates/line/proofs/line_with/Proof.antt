@@ -15,14 +15,8 @@ use Rattle.line.proofs.line_with.Tie as tie
 limits : (c : tie.Start) → HeaderMost (headerOf (c .args .years) (c .args .segments) (c .args .crossings))
 limits c = record { years-most = c .pre .3; segments-most = c .pre .4; crossings-most = c .pre .5 }
 
-number-requires : tie.Need-number-requires
-number-requires c κs = search needs
-
 overdispersion-requires : tie.Need-overdispersion-requires
 overdispersion-requires c κs = valid-kind (c .before .args .site) (c .before .pre .6)
-
-predicted-with-requires : tie.Need-predicted-with-requires
-predicted-with-requires c κs = search needs
 
 weigh-requires : tie.Need-weigh-requires
 weigh-requires c κs =
@@ -41,8 +35,8 @@ pub line-with-spec : {M : Type 1} → statement M
 line-with-spec =
     tie.close
     (tie.spec
-    number-requires
+    (λ c κs. search needs)
     overdispersion-requires
-    predicted-with-requires
+    (λ c κs. search needs)
     weigh-requires
     returns)

@@ -20,30 +20,6 @@ Inv-loop powers logarithms exponentials lines records start sum₀ at₀ sum at 
 abbrev μ-loop : tie.MeasureT-loop
 μ-loop powers logarithms exponentials lines records start sum₀ at₀ sum at = length records - at
 
-loop-holds : tie.Need-loop-holds Inv-loop μ-loop
-loop-holds c = search needs
-
-sub-read-site : tie.Need-sub-read-site Inv-loop μ-loop
-sub-read-site c = search needs
-
-part-read-site-start : tie.Need-part-read-site-start Inv-loop μ-loop
-part-read-site-start c = search needs
-
-part-read-site-end : tie.Need-part-read-site-end Inv-loop μ-loop
-part-read-site-end c = search needs
-
-read-site-requires : tie.Need-read-site-requires Inv-loop μ-loop
-read-site-requires c κs = search needs
-
-enum-known-answer : tie.Need-enum-known-answer Inv-loop μ-loop
-enum-known-answer c = search needs
-
-enum-told : tie.Need-enum-told Inv-loop μ-loop
-enum-told c = search needs
-
-returns : tie.Need-returns Inv-loop μ-loop
-returns c = search needs
-
 site-added-requires : tie.Need-site-added-requires Inv-loop μ-loop
 site-added-requires c κs =
     let start = c .before .before .before .before .before .before .before .before in
@@ -68,25 +44,22 @@ loop-again c =
     let w = within (now (c .before .before .before .before .before .before .before .before .before .args .records)) (loop .at) _ (loop .inv .0) (c .before .before .before .before .read-site .ensures .bounds _ _ (c .before .before .answer .given .1)) in
     (w .1, c .site-added .ensures)
 
-returns-2 : tie.Need-returns-2 Inv-loop μ-loop
-returns-2 c = search needs
-
 pub round-spec : {M : Type 1} → statement M
 round-spec =
     tie.close
     (tie.spec
     Inv-loop
     μ-loop
-    loop-holds
-    sub-read-site
-    part-read-site-start
-    part-read-site-end
-    read-site-requires
-    enum-known-answer
-    enum-told
-    returns
+    (λ c. search needs)
+    (λ c. search needs)
+    (λ c. search needs)
+    (λ c. search needs)
+    (λ c κs. search needs)
+    (λ c. search needs)
+    (λ c. search needs)
+    (λ c. search needs)
     site-added-requires
     add-at
     loop-less
     loop-again
-    returns-2)
+    (λ c. search needs))

@@ -10,16 +10,10 @@ returns c = refused (c .before .args .a) (λ r. omega (arith, r .from-one))
 returns-2 : tie.Need-returns-2
 returns-2 c = refused (c .before .before .args .a) (λ r. omega (arith, r .to-20000))
 
-stored-logarithms-requires : tie.Need-stored-logarithms-requires
-stored-logarithms-requires c κs = search needs
-
-logarithm-with-requires : tie.Need-logarithm-with-requires
-logarithm-with-requires c κs = search needs
-
 returns-3 : tie.Need-returns-3
 returns-3 c = let a = c .before .before .before .before .before .args in given (a .a) (record { from-one = omega arith; to-20000 = omega arith }) (c .logarithm-with .ensures)
 
 pub logarithm-spec : {M : Type 1} → statement M
 logarithm-spec =
     tie.close
-    (tie.spec returns returns-2 stored-logarithms-requires logarithm-with-requires returns-3)
+    (tie.spec returns returns-2 (λ c κs. search needs) (λ c κs. search needs) returns-3)

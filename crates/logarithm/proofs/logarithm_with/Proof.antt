@@ -39,9 +39,6 @@ first-high-fits c = let f = low-parts (c .before) in rw (c .stored-high .ensures
 second-high-fits : (c : tie.After-stored-high2) → c .stored-high2 .result ≤ 10 * scale
 second-high-fits c = let f = low-parts (c .before .before) in rw (c .stored-high2 .ensures) (stored-high-small _ (f .m-from) (omega (arith, f .m-to)))
 
-split-requires : tie.Need-split-requires
-split-requires c κs = search needs
-
 mul-log-bounds : tie.Need-mul-log-bounds
 mul-log-bounds c = omega (arith, parts c .rest .few)
 
@@ -90,7 +87,7 @@ pub logarithm-with-spec : {M : Type 1} → statement M
 logarithm-with-spec =
     tie.close
     (tie.spec
-    split-requires
+    (λ c κs. search needs)
     mul-log-bounds
     log-bounds-requires
     stored-low-requires

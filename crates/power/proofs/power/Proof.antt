@@ -14,20 +14,11 @@ returns-2 c = let a = c .before .before .args in refused (a .base) (a .num) (a .
 returns-3 : tie.Need-returns-3
 returns-3 c = let a = c .before .before .before .args in refused (a .base) (a .num) (a .den) (λ r. c .if3 .taken (r .hundredths))
 
-exponent-place-requires : tie.Need-exponent-place-requires
-exponent-place-requires c κs = search needs
-
 returns-4 : tie.Need-returns-4
 returns-4 c =
     let b = c .before in
     let a = b .before .before .before .before .args in
     refused (a .base) (a .num) (a .den) (λ r. omega (arith, r .stored, b .exponent-place .ensures))
-
-stored-powers-requires : tie.Need-stored-powers-requires
-stored-powers-requires c κs = search needs
-
-power-with-requires : tie.Need-power-with-requires
-power-with-requires c κs = search needs
 
 returns-5 : tie.Need-returns-5
 returns-5 c =
@@ -46,8 +37,8 @@ power-spec =
     returns
     returns-2
     returns-3
-    exponent-place-requires
+    (λ c κs. search needs)
     returns-4
-    stored-powers-requires
-    power-with-requires
+    (λ c κs. search needs)
+    (λ c κs. search needs)
     returns-5)

@@ -31,9 +31,6 @@ second-fits c =
 exponent : (c : tie.After-hundredths) → Exponent (c .hundredths .result) 100
 exponent c = rw (c .hundredths .ensures) (exponent-is (c .before .before .before .before .before .args .exponent) (omega arith))
 
-split-requires : tie.Need-split-requires
-split-requires c κs = search needs
-
 stored-high-requires : tie.Need-stored-high-requires
 stored-high-requires c κs = let f = parts c in (c .before .pre .0, c .before .pre .3, f .n-from, f .n-to)
 
@@ -42,9 +39,6 @@ stored-high-requires-2 c κs = let f = parts (c .before) in (c .before .before .
 
 mul-remainder-high : tie.Need-mul-remainder-high
 mul-remainder-high c = omega (arith, parts (c .before .before .before) .rest .few)
-
-hundredths-requires : tie.Need-hundredths-requires
-hundredths-requires c κs = search needs
 
 remainder-high-requires : tie.Need-remainder-high-requires
 remainder-high-requires c κs = (parts (c .before .before .before .before) .rest, exponent c, lit≤ tt)
@@ -72,11 +66,11 @@ pub power-high-with-spec : {M : Type 1} → statement M
 power-high-with-spec =
     tie.close
     (tie.spec
-    split-requires
+    (λ c κs. search needs)
     stored-high-requires
     stored-high-requires-2
     mul-remainder-high
-    hundredths-requires
+    (λ c κs. search needs)
     remainder-high-requires
     times-up-requires
     times-up-requires-2

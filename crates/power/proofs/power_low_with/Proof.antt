@@ -31,9 +31,6 @@ second-fits c =
 exponent : (c : tie.After-hundredths) → Exponent (c .hundredths .result) 100
 exponent c = rw (c .hundredths .ensures) (exponent-is (c .before .before .before .before .before .args .exponent) (omega arith))
 
-split-requires : tie.Need-split-requires
-split-requires c κs = search needs
-
 stored-low-requires : tie.Need-stored-low-requires
 stored-low-requires c κs = let f = parts c in (c .before .pre .0, c .before .pre .3, f .n-from, f .n-to)
 
@@ -42,9 +39,6 @@ stored-low-requires-2 c κs = let f = parts (c .before) in (c .before .before .p
 
 mul-remainder-low : tie.Need-mul-remainder-low
 mul-remainder-low c = omega (arith, parts (c .before .before .before) .rest .few)
-
-hundredths-requires : tie.Need-hundredths-requires
-hundredths-requires c κs = search needs
 
 remainder-low-requires : tie.Need-remainder-low-requires
 remainder-low-requires c κs = (parts (c .before .before .before .before) .rest, exponent c, lit≤ tt)
@@ -72,11 +66,11 @@ pub power-low-with-spec : {M : Type 1} → statement M
 power-low-with-spec =
     tie.close
     (tie.spec
-    split-requires
+    (λ c κs. search needs)
     stored-low-requires
     stored-low-requires-2
     mul-remainder-low
-    hundredths-requires
+    (λ c κs. search needs)
     remainder-low-requires
     times-down-requires
     times-down-requires-2

@@ -6,17 +6,11 @@ use borrow.Author.Needs.{needs}
 use Rattle.prediction.proofs.predicted_with.Statement.{statement}
 use Rattle.prediction.proofs.predicted_with.Tie as tie
 
-segment-of-requires : tie.Need-segment-of-requires
-segment-of-requires c κs = search needs
-
 carry-segment-requires : tie.Need-carry-segment-requires
 carry-segment-requires c κs =
     let s = c .before .before .before in
     let p = s .pre in
     (p .1, p .3, p .4, rw (c .segment-of .ensures) (segment-sizes _ (segment-numbers _ (p .6) (c .before .if1 .taken))))
-
-round-outward-requires : tie.Need-round-outward-requires
-round-outward-requires c κs = search needs
 
 returns : tie.Need-returns
 returns c =
@@ -25,17 +19,11 @@ returns c =
     rw (← segment-pair (a .years) (a .segments) (a .crossings) (a .site) (s .segment-of .ensures) (s .before .if1 .taken), ← c .before .carry-segment .ensures)
     (c .round-outward .ensures)
 
-crossing-of-requires : tie.Need-crossing-of-requires
-crossing-of-requires c κs = search needs
-
 carry-crossing-requires : tie.Need-carry-crossing-requires
 carry-crossing-requires c κs =
     let s = c .before .before .before in
     let p = s .pre in
     (p .0, p .2, p .3, p .5, rw (c .crossing-of .ensures) (crossing-sizes _ (crossing-numbers _ (p .6) (pos-of-ne-zero (c .before .if1 .left)))))
-
-round-outward-requires-2 : tie.Need-round-outward-requires-2
-round-outward-requires-2 c κs = search needs
 
 returns-2 : tie.Need-returns-2
 returns-2 c =
@@ -48,11 +36,11 @@ pub predicted-with-spec : {M : Type 1} → statement M
 predicted-with-spec =
     tie.close
     (tie.spec
-    segment-of-requires
+    (λ c κs. search needs)
     carry-segment-requires
-    round-outward-requires
+    (λ c κs. search needs)
     returns
-    crossing-of-requires
+    (λ c κs. search needs)
     carry-crossing-requires
-    round-outward-requires-2
+    (λ c κs. search needs)
     returns-2)

@@ -10,18 +10,9 @@ returns : tie.Need-returns
 unfolding headerNumber
 returns c = simp (lt-ltb _ _ (c .if1 .taken))
 
-shared-slice-read-if2 : tie.Need-shared-slice-read-if2
-shared-slice-read-if2 c = search needs
-
 returns-2 : tie.Need-returns-2
 unfolding headerNumber
 returns-2 c = simp (le-ltb _ _ (c .before .before .if1 .left), ne-eqb _ _ (c .if2 .taken))
-
-header-of-requires : tie.Need-header-of-requires
-header-of-requires c κs = search needs
-
-is-in-limits-requires : tie.Need-is-in-limits-requires
-is-in-limits-requires c κs = search needs
 
 returns-3 : tie.Need-returns-3
 unfolding headerNumber
@@ -48,9 +39,9 @@ header-number-spec =
     tie.close
     (tie.spec
     returns
-    shared-slice-read-if2
+    (λ c. search needs)
     returns-2
-    header-of-requires
-    is-in-limits-requires
+    (λ c κs. search needs)
+    (λ c κs. search needs)
     returns-3
     returns-4)

@@ -8,9 +8,6 @@ use Rattle.project.specs.Headed.{header-accepted}
 use Rattle.project.proofs.scan.Statement.{statement}
 use Rattle.project.proofs.scan.Tie as tie
 
-header-number-requires : tie.Need-header-number-requires
-header-number-requires c κs = search needs
-
 returns : tie.Need-returns
 unfolding scanFile
 returns c = scans-file _ _ (simp (← c .before .header-number .ensures, ne-eqb _ _ (c .if1 .taken)))
@@ -33,4 +30,4 @@ returns-2 c = scans-file _ _ (simp (
 pub scan-spec : {M : Type 1} → statement M
 scan-spec =
     tie.close
-    (tie.spec header-number-requires returns header-of-requires scan-records-requires returns-2)
+    (tie.spec (λ c κs. search needs) returns header-of-requires scan-records-requires returns-2)

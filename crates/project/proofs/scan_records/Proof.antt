@@ -20,40 +20,16 @@ abbrev μ-loop : tie.MeasureT-loop
 loop-holds : tie.Need-loop-holds Inv-loop μ-loop
 loop-holds c = (search needs, search needs, start _ _ _)
 
-sub-read-site : tie.Need-sub-read-site Inv-loop μ-loop
-sub-read-site c = search needs
-
-part-read-site-start : tie.Need-part-read-site-start Inv-loop μ-loop
-part-read-site-start c = search needs
-
-part-read-site-end : tie.Need-part-read-site-end Inv-loop μ-loop
-part-read-site-end c = search needs
-
-read-site-requires : tie.Need-read-site-requires Inv-loop μ-loop
-read-site-requires c κs = search needs
-
-enum-known-answer : tie.Need-enum-known-answer Inv-loop μ-loop
-enum-known-answer c = search needs
-
 returns : tie.Need-returns Inv-loop μ-loop
 returns c =
     let turn = c .before .before .before .before .before in
     record-refused _ _ _ _ _ (turn .before .loop .inv .2) _ (c .before .before .before .read-site .ensures) _ (turn .loop-test .taken) (c .before .answer .given .1)
-
-enum-known-answer-2 : tie.Need-enum-known-answer-2 Inv-loop μ-loop
-enum-known-answer-2 c = search needs
 
 add-at : tie.Need-add-at Inv-loop μ-loop
 add-at c =
     let inv = c .before .before .before .before .before .before .loop .inv in
     let w = record-within _ _ _ _ _ (inv .2) _ (c .before .before .before .read-site .ensures) _ _ (inv .1) (c .before .answer2 .given .1) in
     omega arith
-
-add-i : tie.Need-add-i Inv-loop μ-loop
-add-i c = omega arith
-
-loop-less : tie.Need-loop-less Inv-loop μ-loop
-loop-less c = omega arith
 
 loop-again : tie.Need-loop-again Inv-loop μ-loop
 loop-again c =
@@ -79,16 +55,16 @@ scan-records-spec =
     Inv-loop
     μ-loop
     loop-holds
-    sub-read-site
-    part-read-site-start
-    part-read-site-end
-    read-site-requires
-    enum-known-answer
+    (λ c. search needs)
+    (λ c. search needs)
+    (λ c. search needs)
+    (λ c κs. search needs)
+    (λ c. search needs)
     returns
-    enum-known-answer-2
+    (λ c. search needs)
     add-at
-    add-i
-    loop-less
+    (λ c. omega arith)
+    (λ c. omega arith)
     loop-again
     returns-2
     returns-3)

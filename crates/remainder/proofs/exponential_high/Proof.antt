@@ -25,17 +25,11 @@ cube-small c = cube-up-small (c .before .before .pre) (square-up (c .before)) (c
 mul-up : tie.Need-mul-up
 mul-up c = omega (arith, square-fits (c .pre))
 
-mul-up-2 : tie.Need-mul-up-2
-mul-up-2 c = search needs
-
 up-requires : tie.Need-up-requires
 up-requires c κs = omega (arith, square-fits (c .pre))
 
 mul-up-3 : tie.Need-mul-up-3
 mul-up-3 c = omega (arith, term-fits (c .before .pre) (square-small c))
-
-mul-up-4 : tie.Need-mul-up-4
-mul-up-4 c = search needs
 
 up-requires-2 : tie.Need-up-requires-2
 up-requires-2 c κs = omega (arith, term-fits (c .before .pre) (square-small c))
@@ -43,14 +37,8 @@ up-requires-2 c κs = omega (arith, term-fits (c .before .pre) (square-small c))
 mul-up-5 : tie.Need-mul-up-5
 mul-up-5 c = omega (arith, term-fits (c .before .before .pre) (cube-small c))
 
-mul-up-6 : tie.Need-mul-up-6
-mul-up-6 c = search needs
-
 up-requires-3 : tie.Need-up-requires-3
 up-requires-3 c κs = omega (arith, term-fits (c .before .before .pre) (cube-small c))
-
-add-result : tie.Need-add-result
-add-result c = search needs
 
 add-result-2 : tie.Need-add-result-2
 add-result-2 c = omega (arith, square-small (c .before .before))
@@ -78,15 +66,15 @@ exponential-high-spec =
     tie.close
     (tie.spec
     mul-up
-    mul-up-2
+    (λ c. search needs)
     up-requires
     mul-up-3
-    mul-up-4
+    (λ c. search needs)
     up-requires-2
     mul-up-5
-    mul-up-6
+    (λ c. search needs)
     up-requires-3
-    add-result
+    (λ c. search needs)
     add-result-2
     add-result-3
     mul-result

@@ -12,23 +12,8 @@ use Rattle.remainder.proofs.exponential_low.Tie as tie
 mul-square : tie.Need-mul-square
 mul-square c = omega (arith, square-fits (c .pre))
 
-mul-square-2 : tie.Need-mul-square-2
-mul-square-2 c = search needs
-
-div-square : tie.Need-div-square
-div-square c = search needs
-
 mul-cube : tie.Need-mul-cube
 mul-cube c = omega (arith, term-fits (c .pre) (square-down-small (c .pre) (rounded-down _ _ (lit< tt))))
-
-mul-cube-2 : tie.Need-mul-cube-2
-mul-cube-2 c = search needs
-
-div-cube : tie.Need-div-cube
-div-cube c = search needs
-
-add-result : tie.Need-add-result
-add-result c = search needs
 
 add-result-2 : tie.Need-add-result-2
 add-result-2 c = omega (arith, square-down-small (c .pre) (rounded-down _ _ (lit< tt)))
@@ -47,12 +32,12 @@ exponential-low-spec =
     tie.close
     (tie.spec
     mul-square
-    mul-square-2
-    div-square
+    (λ c. search needs)
+    (λ c. search needs)
     mul-cube
-    mul-cube-2
-    div-cube
-    add-result
+    (λ c. search needs)
+    (λ c. search needs)
+    (λ c. search needs)
     add-result-2
     add-result-3
     returns)

@@ -6,21 +6,6 @@ use borrow.Author.Needs.{needs}
 use Rattle.remainder.proofs.log_bounds.Statement.{statement}
 use Rattle.remainder.proofs.log_bounds.Tie as tie
 
-log-low-requires : tie.Need-log-low-requires
-log-low-requires c κs = search needs
-
-mul-up-from : tie.Need-mul-up-from
-mul-up-from c = search needs
-
-mul-up-from-2 : tie.Need-mul-up-from-2
-mul-up-from-2 c = search needs
-
-mul-up-from-3 : tie.Need-mul-up-from-3
-mul-up-from-3 c = search needs
-
-add-up-from : tie.Need-add-up-from
-add-up-from c = search needs
-
 up-from-requires : tie.Need-up-from-requires
 unfolding logLow
 up-from-requires c κs = (omega arith, c .log-low .ensures)
@@ -38,11 +23,11 @@ pub log-bounds-spec : {M : Type 1} → statement M
 log-bounds-spec =
     tie.close
     (tie.spec
-    log-low-requires
-    mul-up-from
-    mul-up-from-2
-    mul-up-from-3
-    add-up-from
+    (λ c κs. search needs)
+    (λ c. search needs)
+    (λ c. search needs)
+    (λ c. search needs)
+    (λ c. search needs)
     up-from-requires
     with-cube-requires
     returns)

@@ -10,9 +10,6 @@ use Rattle.remainder.proofs.remainder_high.Tie as tie
 small : (c : tie.After-log-bounds) → c .log-bounds .result .high ≤ 3914000000
 small c = rw (c .log-bounds .ensures) (log-high-small _ _ (c .before .pre .0))
 
-log-bounds-requires : tie.Need-log-bounds-requires
-log-bounds-requires c κs = search needs
-
 mul-up : tie.Need-mul-up
 mul-up c = omega (arith, part-fits (c .before .before .pre .1) (c .before .before .pre .2) (small (c .before)))
 
@@ -30,4 +27,4 @@ returns c = rw (c .exponential-high .ensures, c .before .up .ensures, c .before 
 
 pub remainder-high-spec : {M : Type 1} → statement M
 remainder-high-spec =
-    tie.close (tie.spec log-bounds-requires mul-up up-requires exponential-high-requires returns)
+    tie.close (tie.spec (λ c κs. search needs) mul-up up-requires exponential-high-requires returns)

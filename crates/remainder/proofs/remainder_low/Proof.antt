@@ -7,16 +7,10 @@ use borrow.Author.Needs.{needs}
 use Rattle.remainder.proofs.remainder_low.Statement.{statement}
 use Rattle.remainder.proofs.remainder_low.Tie as tie
 
-log-low-requires : tie.Need-log-low-requires
-log-low-requires c κs = search needs
-
 mul-exponential-low : tie.Need-mul-exponential-low
 mul-exponential-low c =
     let small : c .log-low .result ≤ 3914000000 = rw (c .log-low .ensures) (log-low-small _ _ (c .before .pre .0)) in
     omega (arith, part-fits (c .before .pre .1) (c .before .pre .2) small)
-
-div-exponential-low : tie.Need-div-exponential-low
-div-exponential-low c = search needs
 
 exponential-low-requires : tie.Need-exponential-low-requires
 exponential-low-requires c κs = rw (c .log-low .ensures) (low-part-small _ _ _ _ (c .before .pre .0) (c .before .pre .1))
@@ -29,8 +23,8 @@ pub remainder-low-spec : {M : Type 1} → statement M
 remainder-low-spec =
     tie.close
     (tie.spec
-    log-low-requires
+    (λ c κs. search needs)
     mul-exponential-low
-    div-exponential-low
+    (λ c. search needs)
     exponential-low-requires
     returns)

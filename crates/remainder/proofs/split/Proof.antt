@@ -11,9 +11,6 @@ use Rattle.remainder.proofs.split.Tie as tie
 n-positive : (c : tie.After-up) → 0 < c .up .result
 n-positive c = let f = rounded-up (lit< tt) (c .up .ensures) in omega (arith, f .above)
 
-up-requires : tie.Need-up-requires
-up-requires c κs = search needs
-
 div-m : tie.Need-div-m
 div-m c = omega (arith, n-positive c)
 
@@ -25,4 +22,4 @@ unfolding firstFactor secondFactor restOf
 returns c = rw (mod-def (c .before .args .a) (c .up .result), c .up .ensures)
 
 pub split-spec : {M : Type 1} → statement M
-split-spec = tie.close (tie.spec up-requires div-m rem-t4 returns)
+split-spec = tie.close (tie.spec (λ c κs. search needs) div-m rem-t4 returns)

@@ -15,9 +15,6 @@ z-small c = half-small (c .before .pre) (rounded-up (lit< tt) (c .up .ensures))
 square-up : (c : tie.After-up2) → RoundedUp (c .before .up .result * c .before .up .result) scale (c .up2 .result)
 square-up c = rounded-up (lit< tt) (c .up2 .ensures)
 
-up-requires : tie.Need-up-requires
-up-requires c κs = search needs
-
 mul-up : tie.Need-mul-up
 mul-up c = omega (arith, square-fits (z-small c))
 
@@ -39,4 +36,4 @@ returns c = cc
 
 pub with-cube-spec : {M : Type 1} → statement M
 with-cube-spec =
-    tie.close (tie.spec up-requires mul-up up-requires-2 mul-up-2 up-requires-3 add-result returns)
+    tie.close (tie.spec (λ c κs. search needs) mul-up up-requires-2 mul-up-2 up-requires-3 add-result returns)

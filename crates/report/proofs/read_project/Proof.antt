@@ -5,23 +5,8 @@ use borrow.Author.Needs.{needs}
 use Rattle.report.proofs.read_project.Statement.{statement}
 use Rattle.report.proofs.read_project.Tie as tie
 
-scan-requires : tie.Need-scan-requires
-scan-requires c κs = search needs
-
-enum-known-found : tie.Need-enum-known-found
-enum-known-found c = search needs
-
-enum-known-found-2 : tie.Need-enum-known-found-2
-enum-known-found-2 c = search needs
-
 space-requires : tie.Need-space-requires
 space-requires c κs = accepted-sites _ _ (sym (c .before .before .before .scan .ensures .answer-is) ∙ c .before .found2 .given .1) .few
-
-enum-known-answer : tie.Need-enum-known-answer
-enum-known-answer c = search needs
-
-enum-known-answer-2 : tie.Need-enum-known-answer-2
-enum-known-answer-2 c = search needs
 
 fill-requires : tie.Need-fill-requires
 fill-requires c κs =
@@ -39,9 +24,6 @@ returns-2 c =
     let scanned = sym (found .before .before .scan .ensures .answer-is) ∙ found .found2 .given .1 in
     refused-by-room _ _ _ scanned _ _ (sym (c .before .answer .given .1) ∙ c .before .before .before .space .ensures)
 
-same-length : tie.Need-same-length
-same-length c = search needs
-
 returns-3 : tie.Need-returns-3
 returns-3 c =
     let fill = c .before .before .fill .ensures in
@@ -53,14 +35,14 @@ pub read-project-spec : {M : Type 1} → statement M
 read-project-spec =
     tie.close
     (tie.spec
-    scan-requires
-    enum-known-found
-    enum-known-found-2
+    (λ c κs. search needs)
+    (λ c. search needs)
+    (λ c. search needs)
     space-requires
-    enum-known-answer
-    enum-known-answer-2
+    (λ c. search needs)
+    (λ c. search needs)
     fill-requires
     returns
     returns-2
-    same-length
+    (λ c. search needs)
     returns-3)

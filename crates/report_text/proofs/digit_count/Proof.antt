@@ -15,9 +15,6 @@ Inv-loop n rest₀ count₀ rest count = (count + length (decimalText rest) ≡ 
 abbrev μ-loop : tie.MeasureT-loop
 μ-loop n rest₀ count₀ rest count = rest
 
-loop-holds : tie.Need-loop-holds Inv-loop μ-loop
-loop-holds c = search needs
-
 add-count : tie.Need-add-count Inv-loop μ-loop
 add-count c = omega (arith, decimal-short (c .before .before .args .n) (search needs))
 
@@ -35,4 +32,4 @@ returns c = let one = decimal-one (c .before .loop .rest) (search needs) in let 
 
 pub digit-count-spec : {M : Type 1} → statement M
 digit-count-spec =
-    tie.close (tie.spec Inv-loop μ-loop loop-holds add-count loop-less loop-again returns)
+    tie.close (tie.spec Inv-loop μ-loop (λ c. search needs) add-count loop-less loop-again returns)

@@ -18,17 +18,8 @@ Inv-loop n out₀ at end rest₀ i₀ out rest i =
 abbrev μ-loop : tie.MeasureT-loop
 μ-loop n out₀ at end rest₀ i₀ out rest i = rest
 
-loop-holds : tie.Need-loop-holds Inv-loop μ-loop
-loop-holds c = search needs
-
 sub-i : tie.Need-sub-i Inv-loop μ-loop
 sub-i c = omega (arith, decimal-some (c .before .loop .rest))
-
-cast-out : tie.Need-cast-out Inv-loop μ-loop
-cast-out c = search needs
-
-add-out : tie.Need-add-out Inv-loop μ-loop
-add-out c = search needs
 
 slice-write-out : tie.Need-slice-write-out Inv-loop μ-loop
 slice-write-out c = omega (arith, decimal-some (c .before .loop .rest))
@@ -43,12 +34,6 @@ loop-again c = (
   simp length-set (search needs),
   digit-stored _ _ _ _ _ (c .loop-test .taken) (c .before .loop .inv .0) (c .before .loop .inv .3),
 )
-
-cast-out-2 : tie.Need-cast-out-2 Inv-loop μ-loop
-cast-out-2 c = search needs
-
-add-out-2 : tie.Need-add-out-2 Inv-loop μ-loop
-add-out-2 c = search needs
 
 slice-write-out-2 : tie.Need-slice-write-out-2 Inv-loop μ-loop
 slice-write-out-2 c = omega (arith, decimal-some (c .before .loop .rest))
@@ -65,15 +50,15 @@ put-digits-spec =
     (tie.spec
     Inv-loop
     μ-loop
-    loop-holds
+    (λ c. search needs)
     sub-i
-    cast-out
-    add-out
+    (λ c. search needs)
+    (λ c. search needs)
     slice-write-out
     loop-less
     loop-again
-    cast-out-2
-    add-out-2
+    (λ c. search needs)
+    (λ c. search needs)
     slice-write-out-2
     same-length
     returns)

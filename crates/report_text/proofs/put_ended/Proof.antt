@@ -5,9 +5,6 @@ use Rattle.report_text.specs.Lines.{ended-stored}
 use Rattle.report_text.proofs.put_ended.Statement.{statement}
 use Rattle.report_text.proofs.put_ended.Tie as tie
 
-digit-count-requires : tie.Need-digit-count-requires
-digit-count-requires c κs = search needs
-
 add-end : tie.Need-add-end
 add-end c = omega (arith, decimal-short (c .before .before .args .n) (search needs))
 
@@ -20,9 +17,6 @@ slice-write-out c = omega (arith, decimal-short (c .before .before .before .befo
 add-result : tie.Need-add-result
 add-result c = omega (arith, decimal-short (c .before .before .before .before .before .before .args .n) (search needs))
 
-same-length : tie.Need-same-length
-same-length c = search needs
-
 returns : tie.Need-returns
 returns c = ended-stored _ _ _ _ _ _ (search needs) (omega arith) (c .before .before .put-digits .ensures)
 
@@ -30,10 +24,10 @@ pub put-ended-spec : {M : Type 1} → statement M
 put-ended-spec =
     tie.close
     (tie.spec
-    digit-count-requires
+    (λ c κs. search needs)
     add-end
     put-digits-requires
     slice-write-out
     add-result
-    same-length
+    (λ c. search needs)
     returns)

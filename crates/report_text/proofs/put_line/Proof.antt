@@ -5,21 +5,6 @@ use Rattle.report_text.specs.Stores.{puts-more}
 use Rattle.report_text.proofs.put_line.Statement.{statement}
 use Rattle.report_text.proofs.put_line.Tie as tie
 
-put-ended-requires : tie.Need-put-ended-requires
-put-ended-requires c κs = search needs
-
-put-ended-requires-2 : tie.Need-put-ended-requires-2
-put-ended-requires-2 c κs = search needs
-
-put-ended-requires-3 : tie.Need-put-ended-requires-3
-put-ended-requires-3 c κs = search needs
-
-put-ended-requires-4 : tie.Need-put-ended-requires-4
-put-ended-requires-4 c κs = search needs
-
-same-length : tie.Need-same-length
-same-length c = search needs
-
 returns : tie.Need-returns
 unfolding lineText
 returns c = (puts-more (c .before .before .before .before .before .before .before .before .before .before .before .before .before .before .put-ended .ensures .0) (puts-more (c .before .before .before .before .before .before .before .before .before .before .put-ended2 .ensures .0) (puts-more (c .before .before .before .before .before .before .put-ended3 .ensures .0) (c .before .before .put-ended4 .ensures .0))), omega arith)
@@ -28,9 +13,9 @@ pub put-line-spec : {M : Type 1} → statement M
 put-line-spec =
     tie.close
     (tie.spec
-    put-ended-requires
-    put-ended-requires-2
-    put-ended-requires-3
-    put-ended-requires-4
-    same-length
+    (λ c κs. search needs)
+    (λ c κs. search needs)
+    (λ c κs. search needs)
+    (λ c κs. search needs)
+    (λ c. search needs)
     returns)

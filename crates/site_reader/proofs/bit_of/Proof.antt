@@ -7,15 +7,6 @@ use borrow.Author.Needs.{needs}
 use Rattle.site_reader.proofs.bit_of.Statement.{statement}
 use Rattle.site_reader.proofs.bit_of.Tie as tie
 
-bits-of-requires : tie.Need-bits-of-requires
-bits-of-requires c κs = search needs
-
-add-result : tie.Need-add-result
-add-result c = search needs
-
-rem-result : tie.Need-rem-result
-rem-result c = search needs
-
 returns : tie.Need-returns
 returns c = (
   ap (λ (b : ℕ). c .before .args .map % (1 + b)) (c .bits-of .ensures .0),
@@ -23,4 +14,4 @@ returns c = (
 )
 
 pub bit-of-spec : {M : Type 1} → statement M
-bit-of-spec = tie.close (tie.spec bits-of-requires add-result rem-result returns)
+bit-of-spec = tie.close (tie.spec (λ c κs. search needs) (λ c. search needs) (λ c. search needs) returns)

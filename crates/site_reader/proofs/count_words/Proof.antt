@@ -16,30 +16,6 @@ Inv-loop map rules rest₀ count₀ i₀ rest count i = (i ≤ slotCount) × (co
 abbrev μ-loop : tie.MeasureT-loop
 μ-loop map rules rest₀ count₀ i₀ rest count i = slotCount - i
 
-loop-holds : tie.Need-loop-holds Inv-loop μ-loop
-loop-holds c = omega arith
-
-mul-rule : tie.Need-mul-rule Inv-loop μ-loop
-mul-rule c = omega arith
-
-array-copy-out-rule : tie.Need-array-copy-out-rule Inv-loop μ-loop
-array-copy-out-rule c = omega arith
-
-field-words-requires : tie.Need-field-words-requires Inv-loop μ-loop
-field-words-requires c κs = search needs
-
-add-count : tie.Need-add-count Inv-loop μ-loop
-add-count c = omega arith
-
-rest-of-requires : tie.Need-rest-of-requires Inv-loop μ-loop
-rest-of-requires c κs = search needs
-
-add-i : tie.Need-add-i Inv-loop μ-loop
-add-i c = omega arith
-
-loop-less : tie.Need-loop-less Inv-loop μ-loop
-loop-less c = omega arith
-
 loop-again : tie.Need-loop-again Inv-loop μ-loop
 loop-again c =
     let turn = c .before .before .before in
@@ -55,13 +31,13 @@ count-words-spec =
     (tie.spec
     Inv-loop
     μ-loop
-    loop-holds
-    mul-rule
-    array-copy-out-rule
-    field-words-requires
-    add-count
-    rest-of-requires
-    add-i
-    loop-less
+    (λ c. omega arith)
+    (λ c. omega arith)
+    (λ c. omega arith)
+    (λ c κs. search needs)
+    (λ c. omega arith)
+    (λ c κs. search needs)
+    (λ c. omega arith)
+    (λ c. omega arith)
     loop-again
     returns)

@@ -7,14 +7,8 @@ use borrow.Author.Needs.{needs}
 use Rattle.site_reader.proofs.field_number.Statement.{statement}
 use Rattle.site_reader.proofs.field_number.Tie as tie
 
-does-stand-requires : tie.Need-does-stand-requires
-does-stand-requires c κs = search needs
-
 word-at-requires : tie.Need-word-at-requires
 word-at-requires c κs = let b = eqb-true (bitOf (c .before .before .before .args .rule) (c .before .before .before .args .map)) 1 (sym (c .before .does-stand .ensures) ∙ c .if1 .taken) in omega arith
-
-value-number-requires : tie.Need-value-number-requires
-value-number-requires c κs = search needs
 
 returns : tie.Need-returns
 returns c = simp (← c .before .before .before .does-stand .ensures, c .before .before .if1 .taken, c .value-number .ensures, c .before .word-at .ensures)
@@ -25,4 +19,4 @@ returns-2 c = simp (← c .before .does-stand .ensures, c .if1 .left)
 pub field-number-spec : {M : Type 1} → statement M
 field-number-spec =
     tie.close
-    (tie.spec does-stand-requires word-at-requires value-number-requires returns returns-2)
+    (tie.spec (λ c κs. search needs) word-at-requires (λ c κs. search needs) returns returns-2)

@@ -7,14 +7,8 @@ use borrow.Author.Needs.{needs}
 use Rattle.site_reader.proofs.field_value.Statement.{statement}
 use Rattle.site_reader.proofs.field_value.Tie as tie
 
-does-stand-requires : tie.Need-does-stand-requires
-does-stand-requires c κs = search needs
-
 word-at-requires : tie.Need-word-at-requires
 word-at-requires c κs = let b = eqb-true (bitOf (c .before .before .before .args .rule) (c .before .before .before .args .map)) 1 (sym (c .before .does-stand .ensures) ∙ c .if1 .taken) in omega arith
-
-absent-of-requires : tie.Need-absent-of-requires
-absent-of-requires c κs = search needs
 
 returns : tie.Need-returns
 returns c = simp (← c .before .before .does-stand .ensures, c .before .if1 .taken, c .word-at .ensures)
@@ -24,4 +18,4 @@ returns-2 c = simp (← c .before .before .does-stand .ensures, c .before .if1 .
 
 pub field-value-spec : {M : Type 1} → statement M
 field-value-spec =
-    tie.close (tie.spec does-stand-requires word-at-requires absent-of-requires returns returns-2)
+    tie.close (tie.spec (λ c κs. search needs) word-at-requires (λ c κs. search needs) returns returns-2)

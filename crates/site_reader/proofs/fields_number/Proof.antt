@@ -18,15 +18,6 @@ Inv-loop map s rules rest₀ at₀ i₀ rest at i =
 abbrev μ-loop : tie.MeasureT-loop
 μ-loop map s rules rest₀ at₀ i₀ rest at i = slotCount - i
 
-loop-holds : tie.Need-loop-holds Inv-loop μ-loop
-loop-holds c = search needs
-
-mul-rule : tie.Need-mul-rule Inv-loop μ-loop
-mul-rule c = omega arith
-
-array-copy-out-rule : tie.Need-array-copy-out-rule Inv-loop μ-loop
-array-copy-out-rule c = omega arith
-
 field-number-requires : tie.Need-field-number-requires Inv-loop μ-loop
 field-number-requires c κs =
     let turn = c .before in
@@ -37,24 +28,6 @@ returns c =
     let turn = c .before .before .before in
     let loop = turn .before .loop in
     number-hit _ _ _ (turn .before .before .before .pre .0) _ (loop .at) _ (loop .inv .2) _ _ (turn .loop-test .taken) (c .before .field-number .ensures) (c .if1 .taken)
-
-field-words-requires : tie.Need-field-words-requires Inv-loop μ-loop
-field-words-requires c κs = search needs
-
-mul-at : tie.Need-mul-at Inv-loop μ-loop
-mul-at c = omega arith
-
-add-at : tie.Need-add-at Inv-loop μ-loop
-add-at c = omega arith
-
-rest-of-requires : tie.Need-rest-of-requires Inv-loop μ-loop
-rest-of-requires c κs = search needs
-
-add-i : tie.Need-add-i Inv-loop μ-loop
-add-i c = omega arith
-
-loop-less : tie.Need-loop-less Inv-loop μ-loop
-loop-less c = omega arith
 
 loop-again : tie.Need-loop-again Inv-loop μ-loop
 loop-again c =
@@ -79,16 +52,16 @@ fields-number-spec =
     (tie.spec
     Inv-loop
     μ-loop
-    loop-holds
-    mul-rule
-    array-copy-out-rule
+    (λ c. search needs)
+    (λ c. omega arith)
+    (λ c. omega arith)
     field-number-requires
     returns
-    field-words-requires
-    mul-at
-    add-at
-    rest-of-requires
-    add-i
-    loop-less
+    (λ c κs. search needs)
+    (λ c. omega arith)
+    (λ c. omega arith)
+    (λ c κs. search needs)
+    (λ c. omega arith)
+    (λ c. omega arith)
     loop-again
     returns-2)

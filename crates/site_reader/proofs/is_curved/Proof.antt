@@ -17,34 +17,10 @@ Inv-loop map entries rest₀ i₀ rest i = (i ≤ slotCount) × (curved (drop i 
 abbrev μ-loop : tie.MeasureT-loop
 μ-loop map entries rest₀ i₀ rest i = slotCount - i
 
-loop-holds : tie.Need-loop-holds Inv-loop μ-loop
-loop-holds c = search needs
-
-mul-entry : tie.Need-mul-entry Inv-loop μ-loop
-mul-entry c = omega arith
-
-array-copy-out-entry : tie.Need-array-copy-out-entry Inv-loop μ-loop
-array-copy-out-entry c = omega arith
-
-curve-bit-stands-requires : tie.Need-curve-bit-stands-requires Inv-loop μ-loop
-curve-bit-stands-requires c κs = search needs
-
 returns : tie.Need-returns Inv-loop μ-loop
 returns c =
     let turn = c .before .before .before in
     any-hit _ _ _ _ _ _ _ (turn .before .before .pre) (turn .before .loop .inv .1) _ _ (turn .loop-test .taken) (c .before .curve-bit-stands .ensures) (c .if1 .taken)
-
-rule-of-requires : tie.Need-rule-of-requires Inv-loop μ-loop
-rule-of-requires c κs = search needs
-
-rest-of-requires : tie.Need-rest-of-requires Inv-loop μ-loop
-rest-of-requires c κs = search needs
-
-add-i : tie.Need-add-i Inv-loop μ-loop
-add-i c = omega arith
-
-loop-less : tie.Need-loop-less Inv-loop μ-loop
-loop-less c = omega arith
 
 loop-again : tie.Need-loop-again Inv-loop μ-loop
 loop-again c =
@@ -63,14 +39,14 @@ is-curved-spec =
     (tie.spec
     Inv-loop
     μ-loop
-    loop-holds
-    mul-entry
-    array-copy-out-entry
-    curve-bit-stands-requires
+    (λ c. search needs)
+    (λ c. omega arith)
+    (λ c. omega arith)
+    (λ c κs. search needs)
     returns
-    rule-of-requires
-    rest-of-requires
-    add-i
-    loop-less
+    (λ c κs. search needs)
+    (λ c κs. search needs)
+    (λ c. omega arith)
+    (λ c. omega arith)
     loop-again
     returns-2)

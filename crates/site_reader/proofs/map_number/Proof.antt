@@ -20,34 +20,10 @@ Inv-loop map rules rest₀ number₀ i₀ rest number i =
 abbrev μ-loop : tie.MeasureT-loop
 μ-loop map rules rest₀ number₀ i₀ rest number i = slotCount - i
 
-loop-holds : tie.Need-loop-holds Inv-loop μ-loop
-loop-holds c = search needs
-
-mul-rule : tie.Need-mul-rule Inv-loop μ-loop
-mul-rule c = omega arith
-
-array-copy-out-rule : tie.Need-array-copy-out-rule Inv-loop μ-loop
-array-copy-out-rule c = omega arith
-
-lacked-bit-stands-requires : tie.Need-lacked-bit-stands-requires Inv-loop μ-loop
-lacked-bit-stands-requires c κs = search needs
-
 returns : tie.Need-returns Inv-loop μ-loop
 returns c =
     let turn = c .before .before .before in
     rw (← any-hit _ _ _ _ _ _ _ (turn .before .before .pre) (turn .before .loop .inv .1) _ _ (turn .loop-test .taken) (c .before .lacked-bit-stands .ensures) (c .if1 .taken))
-
-number-after-requires : tie.Need-number-after-requires Inv-loop μ-loop
-number-after-requires c κs = search needs
-
-rest-of-requires : tie.Need-rest-of-requires Inv-loop μ-loop
-rest-of-requires c κs = search needs
-
-add-i : tie.Need-add-i Inv-loop μ-loop
-add-i c = omega arith
-
-loop-less : tie.Need-loop-less Inv-loop μ-loop
-loop-less c = omega arith
 
 loop-again : tie.Need-loop-again Inv-loop μ-loop
 loop-again c =
@@ -77,15 +53,15 @@ map-number-spec =
     (tie.spec
     Inv-loop
     μ-loop
-    loop-holds
-    mul-rule
-    array-copy-out-rule
-    lacked-bit-stands-requires
+    (λ c. search needs)
+    (λ c. omega arith)
+    (λ c. omega arith)
+    (λ c κs. search needs)
     returns
-    number-after-requires
-    rest-of-requires
-    add-i
-    loop-less
+    (λ c κs. search needs)
+    (λ c κs. search needs)
+    (λ c. omega arith)
+    (λ c. omega arith)
     loop-again
     returns-2
     returns-3)

@@ -3,20 +3,11 @@ use borrow.Author.Needs.{needs}
 use Rattle.site_reader.proofs.number_after.Statement.{statement}
 use Rattle.site_reader.proofs.number_after.Tie as tie
 
-is-needed-requires : tie.Need-is-needed-requires
-is-needed-requires c κs = search needs
-
-does-stand-requires : tie.Need-does-stand-requires
-does-stand-requires c κs = search needs
-
 returns : tie.Need-returns
 returns c = simp (← c .before .before .before .is-needed .ensures, c .before .before .if1 .taken, ← c .before .does-stand .ensures, c .if2 .taken)
 
 returns-2 : tie.Need-returns-2
 returns-2 c = simp (← c .before .before .before .is-needed .ensures, c .before .before .if1 .taken, ← c .before .does-stand .ensures, c .if2 .left)
 
-returns-3 : tie.Need-returns-3
-returns-3 c = search needs
-
 pub number-after-spec : {M : Type 1} → statement M
-number-after-spec = tie.close (tie.spec is-needed-requires does-stand-requires returns returns-2 returns-3)
+number-after-spec = tie.close (tie.spec (λ c κs. search needs) (λ c κs. search needs) returns returns-2 (λ c. search needs))

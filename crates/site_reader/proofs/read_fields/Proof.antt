@@ -32,20 +32,11 @@ module _ (rules : List Rule) (map fault : ℕ) (is : fault ≡ cond (lacks rules
       let lack = passed (lacks rules map) 5 (cond (misses rules map) 7 0) (sym is ∙ none) in
       rw (lack .0, passed (misses rules map) 6 0 (lack .1) .0)
 
-map-number-requires : tie.Need-map-number-requires
-map-number-requires c κs = search needs
-
 returns : tie.Need-returns
 returns c = simp (
   map-tells _ _ _ (c .before .map-number .ensures) (c .if1 .taken),
   ne-eqb _ _ (c .if1 .taken),
 )
-
-count-words-requires : tie.Need-count-words-requires
-count-words-requires c κs = search needs
-
-mul-n : tie.Need-mul-n
-mul-n c = search needs
 
 returns-2 : tie.Need-returns-2
 returns-2 c = simp (
@@ -53,9 +44,6 @@ returns-2 c = simp (
   ← c .before .count-words .ensures .0,
   lt-ltb _ _ (c .if2 .taken),
 )
-
-fields-number-requires : tie.Need-fields-number-requires
-fields-number-requires c κs = search needs
 
 returns-3 : tie.Need-returns-3
 returns-3 c = simp (
@@ -65,15 +53,6 @@ returns-3 c = simp (
   ← c .before .fields-number .ensures,
   ne-eqb _ _ (c .if3 .taken),
 )
-
-fields-values-requires : tie.Need-fields-values-requires
-fields-values-requires c κs = search needs
-
-site-of-requires : tie.Need-site-of-requires
-site-of-requires c κs = search needs
-
-add-t10 : tie.Need-add-t10
-add-t10 c = search needs
 
 returns-4 : tie.Need-returns-4
 returns-4 c = simp (
@@ -90,14 +69,14 @@ pub read-fields-spec : {M : Type 1} → statement M
 read-fields-spec =
     tie.close
     (tie.spec
-    map-number-requires
+    (λ c κs. search needs)
     returns
-    count-words-requires
-    mul-n
+    (λ c κs. search needs)
+    (λ c. search needs)
     returns-2
-    fields-number-requires
+    (λ c κs. search needs)
     returns-3
-    fields-values-requires
-    site-of-requires
-    add-t10
+    (λ c κs. search needs)
+    (λ c κs. search needs)
+    (λ c. search needs)
     returns-4)

@@ -12,30 +12,9 @@ returns : tie.Need-returns
 unfolding readSite refusalOf
 returns c = reads-site _ _ (simp (lt-ltb _ _ (c .if1 .taken)))
 
-shared-slice-read-kind : tie.Need-shared-slice-read-kind
-shared-slice-read-kind c = search needs
-
 returns-2 : tie.Need-returns-2
 unfolding readSite refusalOf
 returns-2 c = reads-site _ _ (simp (le-ltb _ _ (c .before .before .if1 .left), lt-ltb _ _ (c .if2 .taken)))
-
-word-at-requires : tie.Need-word-at-requires
-word-at-requires c κs = search needs
-
-rules-read-requires : tie.Need-rules-read-requires
-rules-read-requires c κs = search needs
-
-sub-read-fields : tie.Need-sub-read-fields
-sub-read-fields c = search needs
-
-part-read-fields-start : tie.Need-part-read-fields-start
-part-read-fields-start c = search needs
-
-part-read-fields-end : tie.Need-part-read-fields-end
-part-read-fields-end c = search needs
-
-read-fields-requires : tie.Need-read-fields-requires
-read-fields-requires c κs = search needs
 
 returns-3 : tie.Need-returns-3
 unfolding readSite refusalOf
@@ -55,12 +34,12 @@ read-site-spec =
     tie.close
     (tie.spec
     returns
-    shared-slice-read-kind
+    (λ c. search needs)
     returns-2
-    word-at-requires
-    rules-read-requires
-    sub-read-fields
-    part-read-fields-start
-    part-read-fields-end
-    read-fields-requires
+    (λ c κs. search needs)
+    (λ c κs. search needs)
+    (λ c. search needs)
+    (λ c. search needs)
+    (λ c. search needs)
+    (λ c κs. search needs)
     returns-3)

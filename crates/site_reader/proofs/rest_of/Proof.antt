@@ -5,17 +5,8 @@ use borrow.Author.Needs.{needs}
 use Rattle.site_reader.proofs.rest_of.Statement.{statement}
 use Rattle.site_reader.proofs.rest_of.Tie as tie
 
-bits-of-requires : tie.Need-bits-of-requires
-bits-of-requires c κs = search needs
-
-add-result : tie.Need-add-result
-add-result c = search needs
-
-div-result : tie.Need-div-result
-div-result c = search needs
-
 returns : tie.Need-returns
 returns c = ap (λ (b : ℕ). c .before .args .map / (1 + b)) (c .bits-of .ensures .0)
 
 pub rest-of-spec : {M : Type 1} → statement M
-rest-of-spec = tie.close (tie.spec bits-of-requires add-result div-result returns)
+rest-of-spec = tie.close (tie.spec (λ c κs. search needs) (λ c. search needs) (λ c. search needs) returns)

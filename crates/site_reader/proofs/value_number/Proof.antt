@@ -3,15 +3,6 @@ use borrow.Author.Needs.{needs}
 use Rattle.site_reader.proofs.value_number.Statement.{statement}
 use Rattle.site_reader.proofs.value_number.Tie as tie
 
-does-allow-requires : tie.Need-does-allow-requires
-does-allow-requires c κs = search needs
-
-absent-of-requires : tie.Need-absent-of-requires
-absent-of-requires c κs = search needs
-
-does-hold-requires : tie.Need-does-hold-requires
-does-hold-requires c κs = search needs
-
 returns : tie.Need-returns
 returns c = simp (← c .before .before .before .before .does-allow .ensures, c .before .before .before .if1 .taken, ← c .before .before .absent-of .ensures, ← c .before .does-hold .ensures, c .if2 .taken)
 
@@ -25,9 +16,9 @@ pub value-number-spec : {M : Type 1} → statement M
 value-number-spec =
     tie.close
     (tie.spec
-    does-allow-requires
-    absent-of-requires
-    does-hold-requires
+    (λ c κs. search needs)
+    (λ c κs. search needs)
+    (λ c κs. search needs)
     returns
     returns-2
     returns-3)

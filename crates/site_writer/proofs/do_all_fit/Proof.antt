@@ -19,24 +19,6 @@ Inv-loop rules slots i₀ i = (i ≤ slotCount) × (allFit (drop i rules) (drop 
 abbrev μ-loop : tie.MeasureT-loop
 μ-loop rules slots i₀ i = slotCount - i
 
-loop-holds : tie.Need-loop-holds Inv-loop μ-loop
-loop-holds c = search needs
-
-mul-does-fit : tie.Need-mul-does-fit Inv-loop μ-loop
-mul-does-fit c = omega arith
-
-array-copy-out-does-fit : tie.Need-array-copy-out-does-fit Inv-loop μ-loop
-array-copy-out-does-fit c = omega arith
-
-mul-does-fit-2 : tie.Need-mul-does-fit-2 Inv-loop μ-loop
-mul-does-fit-2 c = omega arith
-
-array-copy-out-does-fit-2 : tie.Need-array-copy-out-does-fit-2 Inv-loop μ-loop
-array-copy-out-does-fit-2 c = omega arith
-
-does-fit-requires : tie.Need-does-fit-requires Inv-loop μ-loop
-does-fit-requires c κs = search needs
-
 returns : tie.Need-returns Inv-loop μ-loop
 unfolding allFit
 returns c =
@@ -44,12 +26,6 @@ returns c =
     let pre = turn .before .before .pre in
     let step = walk-next allFit _ _ _ (pre .0) (pre .1) Foreign Absent (turn .loop-test .taken) in
     rw (sym (c .before .does-fit .ensures) ∙ not-true (c .before .does-fit .result) (c .if1 .taken)) at (sym step ∙ turn .before .loop .inv .1)
-
-add-i : tie.Need-add-i Inv-loop μ-loop
-add-i c = omega arith
-
-loop-less : tie.Need-loop-less Inv-loop μ-loop
-loop-less c = omega arith
 
 loop-again : tie.Need-loop-again Inv-loop μ-loop
 unfolding allFit
@@ -70,14 +46,14 @@ do-all-fit-spec =
     (tie.spec
     Inv-loop
     μ-loop
-    loop-holds
-    mul-does-fit
-    array-copy-out-does-fit
-    mul-does-fit-2
-    array-copy-out-does-fit-2
-    does-fit-requires
+    (λ c. search needs)
+    (λ c. omega arith)
+    (λ c. omega arith)
+    (λ c. omega arith)
+    (λ c. omega arith)
+    (λ c κs. search needs)
     returns
-    add-i
-    loop-less
+    (λ c. omega arith)
+    (λ c. omega arith)
     loop-again
     returns-2)

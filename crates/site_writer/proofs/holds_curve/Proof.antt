@@ -19,24 +19,6 @@ Inv-loop entries slots i₀ i = (i ≤ slotCount) × (curveHeld (drop i entries)
 abbrev μ-loop : tie.MeasureT-loop
 μ-loop entries slots i₀ i = slotCount - i
 
-loop-holds : tie.Need-loop-holds Inv-loop μ-loop
-loop-holds c = search needs
-
-mul-is-held : tie.Need-mul-is-held Inv-loop μ-loop
-mul-is-held c = omega arith
-
-array-copy-out-is-held : tie.Need-array-copy-out-is-held Inv-loop μ-loop
-array-copy-out-is-held c = omega arith
-
-mul-is-held-2 : tie.Need-mul-is-held-2 Inv-loop μ-loop
-mul-is-held-2 c = omega arith
-
-array-copy-out-is-held-2 : tie.Need-array-copy-out-is-held-2 Inv-loop μ-loop
-array-copy-out-is-held-2 c = omega arith
-
-is-held-requires : tie.Need-is-held-requires Inv-loop μ-loop
-is-held-requires c κs = search needs
-
 returns : tie.Need-returns Inv-loop μ-loop
 unfolding curveHeld
 returns c =
@@ -44,12 +26,6 @@ returns c =
     let pre = turn .before .before .pre in
     let step = walk-next curveHeld _ _ _ (pre .0) (pre .1) (Always Foreign) Absent (turn .loop-test .taken) in
     rw (sym (c .before .is-held .ensures) ∙ c .if1 .taken) at (sym step ∙ turn .before .loop .inv .1)
-
-add-i : tie.Need-add-i Inv-loop μ-loop
-add-i c = omega arith
-
-loop-less : tie.Need-loop-less Inv-loop μ-loop
-loop-less c = omega arith
 
 loop-again : tie.Need-loop-again Inv-loop μ-loop
 unfolding curveHeld
@@ -69,14 +45,14 @@ holds-curve-spec =
     (tie.spec
     Inv-loop
     μ-loop
-    loop-holds
-    mul-is-held
-    array-copy-out-is-held
-    mul-is-held-2
-    array-copy-out-is-held-2
-    is-held-requires
+    (λ c. search needs)
+    (λ c. omega arith)
+    (λ c. omega arith)
+    (λ c. omega arith)
+    (λ c. omega arith)
+    (λ c κs. search needs)
     returns
-    add-i
-    loop-less
+    (λ c. omega arith)
+    (λ c. omega arith)
     loop-again
     returns-2)

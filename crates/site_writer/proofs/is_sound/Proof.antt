@@ -7,15 +7,6 @@ use Rattle.site_writer.proofs.is_sound.Tie as tie
 returns : tie.Need-returns
 returns c = sym (kind-outside (c .before .args .site) (c .if1 .taken))
 
-slots-of-requires : tie.Need-slots-of-requires
-slots-of-requires c κs = search needs
-
-rules-held-requires : tie.Need-rules-held-requires
-rules-held-requires c κs = search needs
-
-do-all-fit-requires : tie.Need-do-all-fit-requires
-do-all-fit-requires c κs = search needs
-
 returns-2 : tie.Need-returns-2
 returns-2 c =
     let rules = c .before in
@@ -24,4 +15,4 @@ returns-2 c =
 pub is-sound-spec : {M : Type 1} → statement M
 is-sound-spec =
     tie.close
-    (tie.spec returns slots-of-requires rules-held-requires do-all-fit-requires returns-2)
+    (tie.spec returns (λ c κs. search needs) (λ c κs. search needs) (λ c κs. search needs) returns-2)

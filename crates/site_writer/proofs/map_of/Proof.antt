@@ -20,28 +20,10 @@ loop-holds : tie.Need-loop-holds Inv-loop μ-loop
 unfolding mapOf
 loop-holds c = (omega arith, sym (walk-end mapOf (c .args .t1) (c .args .t2) slotCount (c .pre .0) (c .pre .1) (omega arith)))
 
-sub-i : tie.Need-sub-i Inv-loop μ-loop
-sub-i c = omega arith
-
-mul-map-with : tie.Need-mul-map-with Inv-loop μ-loop
-mul-map-with c = omega arith
-
-array-copy-out-map-with : tie.Need-array-copy-out-map-with Inv-loop μ-loop
-array-copy-out-map-with c = omega arith
-
-mul-map-with-2 : tie.Need-mul-map-with-2 Inv-loop μ-loop
-mul-map-with-2 c = omega arith
-
-array-copy-out-map-with-2 : tie.Need-array-copy-out-map-with-2 Inv-loop μ-loop
-array-copy-out-map-with-2 c = omega arith
-
 map-with-requires : tie.Need-map-with-requires Inv-loop μ-loop
 map-with-requires c κs =
     let start = c .before .before .before .before in
     omega (arith, map-small (start .args .t1) (start .args .t2) (c .before .before .before .loop .i) (start .pre .2))
-
-loop-less : tie.Need-loop-less Inv-loop μ-loop
-loop-less c = omega arith
 
 loop-again : tie.Need-loop-again Inv-loop μ-loop
 loop-again c =
@@ -62,12 +44,12 @@ map-of-spec =
     Inv-loop
     μ-loop
     loop-holds
-    sub-i
-    mul-map-with
-    array-copy-out-map-with
-    mul-map-with-2
-    array-copy-out-map-with-2
+    (λ c. omega arith)
+    (λ c. omega arith)
+    (λ c. omega arith)
+    (λ c. omega arith)
+    (λ c. omega arith)
     map-with-requires
-    loop-less
+    (λ c. omega arith)
     loop-again
     returns)

@@ -7,15 +7,6 @@ use borrow.Author.Needs.{needs}
 use Rattle.site_writer.proofs.map_with.Statement.{statement}
 use Rattle.site_writer.proofs.map_with.Tie as tie
 
-slot-bit-requires : tie.Need-slot-bit-requires
-slot-bit-requires c κs = search needs
-
-bits-of-requires : tie.Need-bits-of-requires
-bits-of-requires c κs = search needs
-
-add-result : tie.Need-add-result
-add-result c = search needs
-
 mul-result : tie.Need-mul-result
 mul-result c = omega (arith, mul-le-mul-right (c .before .before .args .later) (c .bits-of .ensures .1))
 
@@ -33,4 +24,4 @@ returns c = simp (c .before .slot-bit .ensures, c .bits-of .ensures .0)
 pub map-with-spec : {M : Type 1} → statement M
 map-with-spec =
     tie.close
-    (tie.spec slot-bit-requires bits-of-requires add-result mul-result add-result-2 returns)
+    (tie.spec (λ c κs. search needs) (λ c κs. search needs) (λ c. search needs) mul-result add-result-2 returns)

@@ -17,38 +17,14 @@ bytes-are c =
     let bit = c .before .before .before in
     field-is _ _ _ _ (c .slot .given .1) (bit .slot-bit .ensures) (c .before .before .if1 .taken)
 
-slot-bit-requires : tie.Need-slot-bit-requires
-slot-bit-requires c κs = search needs
-
-enum-told : tie.Need-enum-told
-enum-told c = search needs
-
-enum-known-slot : tie.Need-enum-known-slot
-enum-known-slot c = search needs
-
-cast-buffer : tie.Need-cast-buffer
-cast-buffer c = search needs
-
 slice-write-buffer : tie.Need-slice-write-buffer
 slice-write-buffer c = omega (arith, ap length (bytes-are (c .before)))
-
-cast-buffer-2 : tie.Need-cast-buffer-2
-cast-buffer-2 c = search needs
-
-add-buffer : tie.Need-add-buffer
-add-buffer c = search needs
 
 slice-write-buffer-2 : tie.Need-slice-write-buffer-2
 slice-write-buffer-2 c = simp length-set (omega (arith, ap length (bytes-are (c .before))))
 
-add-result : tie.Need-add-result
-add-result c = search needs
-
 returns : tie.Need-returns
 returns c = let a = c .before .before .before .before .before .args in put-none _ _ (a .rule) (a .slot) (ap (fieldBytes (a .rule)) (c .enum-told .given .1))
-
-same-length : tie.Need-same-length
-same-length c = search needs
 
 returns-2 : tie.Need-returns-2
 returns-2 c = let a = c .before .before .before .before .before .before .args in put-two _ _ (a .rule) (a .slot) _ _ (bytes-are (c .before))
@@ -62,16 +38,16 @@ pub put-field-spec : {M : Type 1} → statement M
 put-field-spec =
     tie.close
     (tie.spec
-    slot-bit-requires
-    enum-told
-    enum-known-slot
-    cast-buffer
+    (λ c κs. search needs)
+    (λ c. search needs)
+    (λ c. search needs)
+    (λ c. search needs)
     slice-write-buffer
-    cast-buffer-2
-    add-buffer
+    (λ c. search needs)
+    (λ c. search needs)
     slice-write-buffer-2
-    add-result
+    (λ c. search needs)
     returns
-    same-length
+    (λ c. search needs)
     returns-2
     returns-3)

@@ -21,32 +21,11 @@ Inv-loop buffer₀ rules slots at₀ i₀ buffer at i =
 abbrev μ-loop : tie.MeasureT-loop
 μ-loop buffer₀ rules slots at₀ i₀ buffer at i = slotCount - i
 
-loop-holds : tie.Need-loop-holds Inv-loop μ-loop
-loop-holds c = search needs
-
-mul-put-field : tie.Need-mul-put-field Inv-loop μ-loop
-mul-put-field c = omega arith
-
-array-copy-out-put-field : tie.Need-array-copy-out-put-field Inv-loop μ-loop
-array-copy-out-put-field c = omega arith
-
-mul-put-field-2 : tie.Need-mul-put-field-2 Inv-loop μ-loop
-mul-put-field-2 c = omega arith
-
-array-copy-out-put-field-2 : tie.Need-array-copy-out-put-field-2 Inv-loop μ-loop
-array-copy-out-put-field-2 c = omega arith
-
 put-field-requires : tie.Need-put-field-requires Inv-loop μ-loop
 put-field-requires c κs =
     let turn = c .before .before .before in
     let start = turn .before .before .before in
     omega (arith, bytes-length (start .args .t1) (start .args .t2) (turn .before .loop .i) (start .pre .0) (start .pre .1) Foreign Absent (turn .loop-test .taken))
-
-add-i : tie.Need-add-i Inv-loop μ-loop
-add-i c = omega arith
-
-loop-less : tie.Need-loop-less Inv-loop μ-loop
-loop-less c = omega arith
 
 loop-again : tie.Need-loop-again Inv-loop μ-loop
 loop-again c =
@@ -63,9 +42,6 @@ loop-again c =
       put-more _ _ _ count count′ _ _ _ _ _ _ _ more (loop .inv .3) (put .ensures .0) (put .ensures .1),
     )
 
-same-length : tie.Need-same-length Inv-loop μ-loop
-same-length c = search needs
-
 returns : tie.Need-returns Inv-loop μ-loop
 returns c = put-end _ _ _ (c .before .before .before .pre .0) (c .before .before .before .pre .1) _ _ _ (c .loop-test .left) (c .before .loop .inv .3)
 
@@ -75,14 +51,14 @@ put-fields-spec =
     (tie.spec
     Inv-loop
     μ-loop
-    loop-holds
-    mul-put-field
-    array-copy-out-put-field
-    mul-put-field-2
-    array-copy-out-put-field-2
+    (λ c. search needs)
+    (λ c. omega arith)
+    (λ c. omega arith)
+    (λ c. omega arith)
+    (λ c. omega arith)
     put-field-requires
-    add-i
-    loop-less
+    (λ c. omega arith)
+    (λ c. omega arith)
     loop-again
-    same-length
+    (λ c. search needs)
     returns)

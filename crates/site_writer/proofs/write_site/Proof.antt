@@ -29,15 +29,6 @@ found c =
 returns : tie.Need-returns
 returns c = let start = c .before .before in outside (start .args .site) _ (kind-outside (start .args .site) (c .if1 .taken))
 
-slots-of-requires : tie.Need-slots-of-requires
-slots-of-requires c κs = search needs
-
-rules-held-requires : tie.Need-rules-held-requires
-rules-held-requires c κs = search needs
-
-do-all-fit-requires : tie.Need-do-all-fit-requires
-do-all-fit-requires c κs = search needs
-
 returns-2 : tie.Need-returns-2
 returns-2 c =
     let fit = c .before in
@@ -50,29 +41,11 @@ map-of-requires c κs =
     let rules = c .before .before in
     (search needs, search needs, rw (rules .rules-held .ensures) (tested-rules _ _ (rules .before .before .if1 .left) .few))
 
-count-words-requires : tie.Need-count-words-requires
-count-words-requires c κs = search needs
-
-mul-n : tie.Need-mul-n
-mul-n c = search needs
-
-add-n : tie.Need-add-n
-add-n c = search needs
-
 returns-3 : tie.Need-returns-3
 returns-3 c = room-refused _ _ (found (c .before)) (c .if3 .taken)
 
-slice-write-buffer : tie.Need-slice-write-buffer
-slice-write-buffer c = search needs
-
-cast-buffer : tie.Need-cast-buffer
-cast-buffer c = search needs
-
 slice-write-buffer-2 : tie.Need-slice-write-buffer-2
 slice-write-buffer-2 c = simp length-set (omega arith)
-
-cast-buffer-2 : tie.Need-cast-buffer-2
-cast-buffer-2 c = search needs
 
 slice-write-buffer-3 : tie.Need-slice-write-buffer-3
 slice-write-buffer-3 c = simp length-set (omega arith)
@@ -93,19 +66,19 @@ write-site-spec =
     tie.close
     (tie.spec
     returns
-    slots-of-requires
-    rules-held-requires
-    do-all-fit-requires
+    (λ c κs. search needs)
+    (λ c κs. search needs)
+    (λ c κs. search needs)
     returns-2
     map-of-requires
-    count-words-requires
-    mul-n
-    add-n
+    (λ c κs. search needs)
+    (λ c. search needs)
+    (λ c. search needs)
     returns-3
-    slice-write-buffer
-    cast-buffer
+    (λ c. search needs)
+    (λ c. search needs)
     slice-write-buffer-2
-    cast-buffer-2
+    (λ c. search needs)
     slice-write-buffer-3
     put-fields-requires
     same-length

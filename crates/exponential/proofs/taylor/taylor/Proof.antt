@@ -19,41 +19,20 @@ returns c = none (c .if1 .taken)
 loop-holds : tie.Need-loop-holds Inv-loop μ-loop
 loop-holds c = first (c .before .args .f)
 
-add-d : tie.Need-add-d Inv-loop μ-loop
-add-d c = search needs
-
-mul-d : tie.Need-mul-d Inv-loop μ-loop
-mul-d c = search needs
-
 mul-low-term : tie.Need-mul-low-term Inv-loop μ-loop
 mul-low-term c = let w = fit (c .before .loop .inv) (c .before .before .before .pre) in omega arith
-
-div-low-term : tie.Need-div-low-term Inv-loop μ-loop
-div-low-term c = search needs
 
 mul-high-term : tie.Need-mul-high-term Inv-loop μ-loop
 mul-high-term c = let w = fit (c .before .loop .inv) (c .before .before .before .pre) in omega arith
 
-sub-high-term : tie.Need-sub-high-term Inv-loop μ-loop
-sub-high-term c = search needs
-
 add-high-term : tie.Need-add-high-term Inv-loop μ-loop
 add-high-term c = let w = fit (c .before .loop .inv) (c .before .before .before .pre) in omega arith
-
-div-high-term : tie.Need-div-high-term Inv-loop μ-loop
-div-high-term c = search needs
 
 add-low : tie.Need-add-low Inv-loop μ-loop
 add-low c = let w = fit (next (c .before .loop .inv) (omega arith)) (c .before .before .before .pre) in omega arith
 
 add-high : tie.Need-add-high Inv-loop μ-loop
 add-high c = let w = fit (next (c .before .loop .inv) (omega arith)) (c .before .before .before .pre) in omega arith
-
-add-k : tie.Need-add-k Inv-loop μ-loop
-add-k c = search needs
-
-loop-less : tie.Need-loop-less Inv-loop μ-loop
-loop-less c = search needs
 
 loop-again : tie.Need-loop-again Inv-loop μ-loop
 loop-again c = next (c .before .loop .inv) (omega arith)
@@ -81,18 +60,18 @@ taylor-spec =
     μ-loop
     returns
     loop-holds
-    add-d
-    mul-d
+    (λ c. search needs)
+    (λ c. search needs)
     mul-low-term
-    div-low-term
+    (λ c. search needs)
     mul-high-term
-    sub-high-term
+    (λ c. search needs)
     add-high-term
-    div-high-term
+    (λ c. search needs)
     add-low
     add-high
-    add-k
-    loop-less
+    (λ c. search needs)
+    (λ c. search needs)
     loop-again
     mul-tail
     add-tail

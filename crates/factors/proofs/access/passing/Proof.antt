@@ -9,12 +9,6 @@ use Rattle.model.specs.Access.{passing}
 use Rattle.factors.proofs.access.passing.Statement.{statement}
 use Rattle.factors.proofs.access.passing.Tie as tie
 
-mul-t4 : tie.Need-mul-t4
-mul-t4 c = search needs
-
-array-read-t7 : tie.Need-array-read-t7
-array-read-t7 c = search needs
-
 returns : tie.Need-returns
 unfolding passing _//_ fraction allBelow
 returns c =
@@ -22,4 +16,4 @@ returns c =
     rw (agree-below (λ k. getD (100 ∷ 75 ∷ 65 ∷ []) k 0) (λ k. getD (100 ∷ 75 ∷ 65 ∷ []) k 100) 3 tt (c .args .kind) h)
 
 pub passing-spec : {M : Type 1} → statement M
-passing-spec = tie.close (tie.spec mul-t4 array-read-t7 returns)
+passing-spec = tie.close (tie.spec (λ c. search needs) (λ c. search needs) returns)

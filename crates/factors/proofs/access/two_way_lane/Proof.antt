@@ -9,9 +9,6 @@ use Rattle.factors.specs.Ratio.{coded-quotient}
 use Rattle.factors.proofs.access.two_way_lane.Statement.{statement}
 use Rattle.factors.proofs.access.two_way_lane.Tie as tie
 
-mul-density : tie.Need-mul-density
-mul-density c = search needs
-
 mul-density-2 : tie.Need-mul-density-2
 mul-density-2 c = omega (arith, mul-le-mul (c .before .before .pre) (c .before .before .pre))
 
@@ -49,7 +46,7 @@ pub two-way-lane-spec : {M : Type 1} → statement M
 two-way-lane-spec =
     tie.close
     (tie.spec
-    mul-density
+    (λ c. search needs)
     mul-density-2
     mul-density-3
     add-density

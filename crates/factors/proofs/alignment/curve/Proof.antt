@@ -9,18 +9,12 @@ use Rattle.factors.specs.Ratio.{coded-quotient}
 use Rattle.factors.proofs.alignment.curve.Statement.{statement}
 use Rattle.factors.proofs.alignment.curve.Tie as tie
 
-mul-spiral : tie.Need-mul-spiral
-mul-spiral c = search needs
-
 mul-spiral-2 : tie.Need-mul-spiral-2
 mul-spiral-2 c = omega (arith, mul-le-mul (c .pre .4) (c .pre .3))
 
 returns : tie.Need-returns
 unfolding curve whole fraction
 returns c = simp (lt-ltb _ _ (c .if1 .taken))
-
-mul-straight : tie.Need-mul-straight
-mul-straight c = search needs
 
 mul-straight-2 : tie.Need-mul-straight-2
 mul-straight-2 c = omega (arith, mul-le-mul (c .before .pre .1) (c .before .pre .3))
@@ -35,4 +29,4 @@ returns-2 c = simp (le-ltb _ _ (c .if1 .left)) (sym (coded-quotient _ _ (omega (
 pub curve-spec : {M : Type 1} → statement M
 curve-spec =
     tie.close
-    (tie.spec mul-spiral mul-spiral-2 returns mul-straight mul-straight-2 add-t8 returns-2)
+    (tie.spec (λ c. search needs) mul-spiral-2 returns (λ c. search needs) mul-straight-2 add-t8 returns-2)

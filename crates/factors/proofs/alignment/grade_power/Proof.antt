@@ -8,18 +8,6 @@ use Rattle.estimate.specs.Fraction.{_//_, fraction, _^ᶠ_}
 use Rattle.factors.proofs.alignment.grade_power.Statement.{statement}
 use Rattle.factors.proofs.alignment.grade_power.Tie as tie
 
-mul-t4 : tie.Need-mul-t4
-mul-t4 c = search needs
-
-array-read-t7 : tie.Need-array-read-t7
-array-read-t7 c = search needs
-
-mul-t9 : tie.Need-mul-t9
-mul-t9 c = search needs
-
-array-read-t12 : tie.Need-array-read-t12
-array-read-t12 c = search needs
-
 -- the code's tables
 powersOf127 : List ℕ
 powersOf127 = 1 ∷ 127 ∷ 16129 ∷ 2048383 ∷ 260144641 ∷ 33038369407 ∷ 4195872914689 ∷ []
@@ -36,4 +24,4 @@ returns c =
     rw (num, den)
 
 pub grade-power-spec : {M : Type 1} → statement M
-grade-power-spec = tie.close (tie.spec mul-t4 array-read-t7 mul-t9 array-read-t12 returns)
+grade-power-spec = tie.close (tie.spec (λ c. search needs) (λ c. search needs) (λ c. search needs) (λ c. search needs) returns)

@@ -8,15 +8,9 @@ use Rattle.factors.specs.Ratio.{coded}
 use Rattle.factors.proofs.alignment.grade_second.Statement.{statement}
 use Rattle.factors.proofs.alignment.grade_second.Tie as tie
 
-grade-power-requires : tie.Need-grade-power-requires
-grade-power-requires c κs = search needs
-
 returns : tie.Need-returns
 unfolding gradeSecond
 returns c = let e : 0 ≡ c .before .before .args .percent - 6 = omega (arith, c .before .if1 .taken) in c .grade-power .ensures ∙ ap (λ k. coded (onePercent ^ᶠ k)) e
-
-grade-power-requires-2 : tie.Need-grade-power-requires-2
-grade-power-requires-2 c κs = search needs
 
 returns-2 : tie.Need-returns-2
 unfolding gradeSecond
@@ -24,4 +18,4 @@ returns-2 c = c .grade-power2 .ensures
 
 pub grade-second-spec : {M : Type 1} → statement M
 grade-second-spec =
-    tie.close (tie.spec grade-power-requires returns grade-power-requires-2 returns-2)
+    tie.close (tie.spec (λ c κs. search needs) returns (λ c κs. search needs) returns-2)

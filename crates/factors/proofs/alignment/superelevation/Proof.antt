@@ -9,25 +9,13 @@ returns : tie.Need-returns
 unfolding superelevation whole fraction
 returns c = simp (lt-ltb _ _ (c .if1 .taken))
 
-mul-t3 : tie.Need-mul-t3
-mul-t3 c = search needs
-
-add-t4 : tie.Need-add-t4
-add-t4 c = search needs
-
 returns-2 : tie.Need-returns-2
 unfolding superelevation _//_ fraction
 returns-2 c = simp (le-ltb _ _ (c .before .if1 .left), le-leb _ _ (c .if2 .taken))
-
-mul-t5 : tie.Need-mul-t5
-mul-t5 c = search needs
-
-add-t6 : tie.Need-add-t6
-add-t6 c = search needs
 
 returns-3 : tie.Need-returns-3
 unfolding superelevation _//_ fraction
 returns-3 c = simp (le-ltb _ _ (c .before .if1 .left), lt-leb _ _ (c .if2 .left))
 
 pub superelevation-spec : {M : Type 1} → statement M
-superelevation-spec = tie.close (tie.spec returns mul-t3 add-t4 returns-2 mul-t5 add-t6 returns-3)
+superelevation-spec = tie.close (tie.spec returns (λ c. search needs) (λ c. search needs) returns-2 (λ c. search needs) (λ c. search needs) returns-3)

@@ -7,18 +7,6 @@ use Rattle.factors.specs.TurnLanes.{turn-lanes}
 use Rattle.factors.proofs.crossings.right_turn.Statement.{statement}
 use Rattle.factors.proofs.crossings.right_turn.Tie as tie
 
-mul-t10 : tie.Need-mul-t10
-mul-t10 c = search needs
-
-mul-t13 : tie.Need-mul-t13
-mul-t13 c = search needs
-
-index-1-t16 : tie.Need-index-1-t16
-index-1-t16 c = search needs
-
-index-2-t16 : tie.Need-index-2-t16
-index-2-t16 c = search needs
-
 returns : tie.Need-returns
 unfolding rightTurn editionOne _//_ fraction allBelow
 returns c =
@@ -26,4 +14,4 @@ returns c =
     rw (turn-lanes rightTurnOne (editionOne .right-turn) tt (args .kind) (args .lanes) (c .before .pre))
 
 pub right-turn-spec : {M : Type 1} → statement M
-right-turn-spec = tie.close (tie.spec mul-t10 mul-t13 index-1-t16 index-2-t16 returns)
+right-turn-spec = tie.close (tie.spec (λ c. search needs) (λ c. search needs) (λ c. search needs) (λ c. search needs) returns)

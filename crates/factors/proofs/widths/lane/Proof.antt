@@ -12,9 +12,6 @@ value : (c : tie.After-at-traffic) → c .at-traffic .result ≡ laneValue (c .b
 unfolding laneValue
 value c = c .at-traffic .ensures ∙ ap (λ column. atTraffic column (c .before .before .args .traffic)) (c .before .lane-column .ensures)
 
-lane-column-requires : tie.Need-lane-column-requires
-lane-column-requires c κs = search needs
-
 at-traffic-requires : tie.Need-at-traffic-requires
 at-traffic-requires c κs = rw (c .lane-column .ensures) (column-alone (lane-column-within (c .before .args .feet)))
 
@@ -26,4 +23,4 @@ returns c = c .of-related .ensures ∙ ap (λ r. coded (ofRelated (c .before .be
 
 pub lane-spec : {M : Type 1} → statement M
 lane-spec =
-    tie.close (tie.spec lane-column-requires at-traffic-requires of-related-requires returns)
+    tie.close (tie.spec (λ c κs. search needs) at-traffic-requires of-related-requires returns)

@@ -8,9 +8,6 @@ use Rattle.factors.specs.Column.{column-at}
 use Rattle.factors.proofs.widths.lane_column.Statement.{statement}
 use Rattle.factors.proofs.widths.lane_column.Tie as tie
 
-lane-place-requires : tie.Need-lane-place-requires
-lane-place-requires c κs = search needs
-
 mul-result : tie.Need-mul-result
 mul-result c = omega (arith, c .lane-place .ensures, lane-column-below (c .before .args .feet))
 
@@ -22,4 +19,4 @@ returns c = column-at laneColumns (c .before .lane-place .result) ∙ ap (λ i. 
 
 pub lane-column-spec : {M : Type 1} → statement M
 lane-column-spec =
-    tie.close (tie.spec lane-place-requires mul-result array-copy-out-result returns)
+    tie.close (tie.spec (λ c κs. search needs) mul-result array-copy-out-result returns)

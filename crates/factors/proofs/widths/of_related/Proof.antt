@@ -13,9 +13,6 @@ products c =
     let rest : 1000 - c .args .share ≤ 1000 = omega arith in
     (mul-le-mul rest (c .pre .2), mul-le-mul (c .pre .0) (c .pre .3))
 
-sub-t4 : tie.Need-sub-t4
-sub-t4 c = search needs
-
 mul-t5 : tie.Need-mul-t5
 mul-t5 c = omega (arith, products c .0)
 
@@ -25,11 +22,8 @@ mul-t6 c = omega (arith, products c .1)
 add-t7 : tie.Need-add-t7
 add-t7 c = omega (arith, products c .0, products c .1)
 
-mul-t8 : tie.Need-mul-t8
-mul-t8 c = search needs
-
 returns : tie.Need-returns
 returns c = sym (coded-quotient _ _ (omega arith))
 
 pub of-related-spec : {M : Type 1} → statement M
-of-related-spec = tie.close (tie.spec sub-t4 mul-t5 mul-t6 add-t7 mul-t8 returns)
+of-related-spec = tie.close (tie.spec (λ c. search needs) mul-t5 mul-t6 add-t7 (λ c. search needs) returns)

@@ -23,14 +23,8 @@ small c =
     let s = c .before .before .before in
     rw (value c) (shoulder-value-within (s .args .surface) (s .args .feet) (s .args .traffic) (s .pre .1) .at-most)
 
-shoulder-column-requires : tie.Need-shoulder-column-requires
-shoulder-column-requires c κs = search needs
-
 at-traffic-requires : tie.Need-at-traffic-requires
 at-traffic-requires c κs = rw (c .shoulder-column .ensures) (column-alone (shoulder-column-within 0 (c .before .args .feet) (lit≤ tt)))
-
-type-multiplier-requires : tie.Need-type-multiplier-requires
-type-multiplier-requires c κs = search needs
 
 mul-of-related : tie.Need-mul-of-related
 mul-of-related c = omega (arith, small c)
@@ -45,9 +39,9 @@ pub shoulder-spec : {M : Type 1} → statement M
 shoulder-spec =
     tie.close
     (tie.spec
-    shoulder-column-requires
+    (λ c κs. search needs)
     at-traffic-requires
-    type-multiplier-requires
+    (λ c κs. search needs)
     mul-of-related
     of-related-requires
     returns)

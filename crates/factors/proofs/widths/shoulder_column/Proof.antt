@@ -8,9 +8,6 @@ use Rattle.factors.specs.Column.{column-at}
 use Rattle.factors.proofs.widths.shoulder_column.Statement.{statement}
 use Rattle.factors.proofs.widths.shoulder_column.Tie as tie
 
-shoulder-place-requires : tie.Need-shoulder-place-requires
-shoulder-place-requires c κs = search needs
-
 mul-result : tie.Need-mul-result
 mul-result c = omega (arith, c .shoulder-place .ensures, shoulder-column-below (c .before .args .feet))
 
@@ -22,4 +19,4 @@ returns c = column-at shoulderColumns (c .before .shoulder-place .result) ∙ ap
 
 pub shoulder-column-spec : {M : Type 1} → statement M
 shoulder-column-spec =
-    tie.close (tie.spec shoulder-place-requires mul-result array-copy-out-result returns)
+    tie.close (tie.spec (λ c κs. search needs) mul-result array-copy-out-result returns)

@@ -8,17 +8,8 @@ use Rattle.model.specs.FactorBounds.{shoulder-column-below}
 use Rattle.factors.proofs.widths.type_multiplier.Statement.{statement}
 use Rattle.factors.proofs.widths.type_multiplier.Tie as tie
 
-shoulder-place-requires : tie.Need-shoulder-place-requires
-shoulder-place-requires c κs = search needs
-
-mul-result : tie.Need-mul-result
-mul-result c = search needs
-
 mul-result-2 : tie.Need-mul-result-2
 mul-result-2 c = omega (arith, c .shoulder-place .ensures, shoulder-column-below (c .before .args .feet))
-
-index-1-result : tie.Need-index-1-result
-index-1-result c = search needs
 
 index-2-result : tie.Need-index-2-result
 index-2-result c = omega (arith, c .shoulder-place .ensures, shoulder-column-below (c .before .args .feet))
@@ -31,9 +22,9 @@ pub type-multiplier-spec : {M : Type 1} → statement M
 type-multiplier-spec =
     tie.close
     (tie.spec
-    shoulder-place-requires
-    mul-result
+    (λ c κs. search needs)
+    (λ c. search needs)
     mul-result-2
-    index-1-result
+    (λ c. search needs)
     index-2-result
     returns)

@@ -18,8 +18,5 @@ add-result c = omega (arith, product c)
 mul-result-2 : tie.Need-mul-result-2
 mul-result-2 c = omega (arith, product c)
 
-returns : tie.Need-returns
-returns c = search needs
-
 pub over-of-spec : {M : Type 1} → statement M
-over-of-spec = tie.close (tie.spec mul-result add-result mul-result-2 returns)
+over-of-spec = tie.close (tie.spec mul-result add-result mul-result-2 (λ c. search needs))

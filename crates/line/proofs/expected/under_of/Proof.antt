@@ -9,17 +9,11 @@ use Rattle.line.proofs.expected.under_of.Tie as tie
 product : (c : tie.Start) → let a = c .args in a .kn * a .n ≤ 1000 * 100000000000000
 product c = mul-le-mul (c .pre .0) (c .pre .2)
 
-mul-result : tie.Need-mul-result
-mul-result c = search needs
-
 mul-result-2 : tie.Need-mul-result-2
 mul-result-2 c = omega (arith, product c)
 
 add-result : tie.Need-add-result
 add-result c = omega (arith, product c)
 
-returns : tie.Need-returns
-returns c = search needs
-
 pub under-of-spec : {M : Type 1} → statement M
-under-of-spec = tie.close (tie.spec mul-result mul-result-2 add-result returns)
+under-of-spec = tie.close (tie.spec (λ c. search needs) mul-result-2 add-result (λ c. search needs))

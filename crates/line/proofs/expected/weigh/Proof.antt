@@ -3,26 +3,11 @@ use borrow.Author.Needs.{needs}
 use Rattle.line.proofs.expected.weigh.Statement.{statement}
 use Rattle.line.proofs.expected.weigh.Tie as tie
 
-enum-told : tie.Need-enum-told
-enum-told c = search needs
-
-enum-known-observed : tie.Need-enum-known-observed
-enum-known-observed c = search needs
-
-cast-weigh-low : tie.Need-cast-weigh-low
-cast-weigh-low c = search needs
-
 weigh-low-requires : tie.Need-weigh-low-requires
 weigh-low-requires c κs = rw (c .before .observed .given .1) at (c .before .before .before .pre .0)
 
-cast-weigh-high : tie.Need-cast-weigh-high
-cast-weigh-high c = search needs
-
 weigh-high-requires : tie.Need-weigh-high-requires
 weigh-high-requires c κs = rw (c .before .before .observed .given .1) at (c .before .before .before .before .pre .1)
-
-returns : tie.Need-returns
-returns c = search needs
 
 returns-2 : tie.Need-returns-2
 returns-2 c = simp (c .before .before .before .observed .given .1, ← c .before .weigh-low .ensures, ← c .weigh-high .ensures)
@@ -31,11 +16,11 @@ pub weigh-spec : {M : Type 1} → statement M
 weigh-spec =
     tie.close
     (tie.spec
-    enum-told
-    enum-known-observed
-    cast-weigh-low
+    (λ c. search needs)
+    (λ c. search needs)
+    (λ c. search needs)
     weigh-low-requires
-    cast-weigh-high
+    (λ c. search needs)
     weigh-high-requires
-    returns
+    (λ c. search needs)
     returns-2)

@@ -4,12 +4,6 @@ use borrow.Author.Needs.{needs}
 use Rattle.line.proofs.expected.weigh_high.Statement.{statement}
 use Rattle.line.proofs.expected.weigh_high.Tie as tie
 
-over-of-requires : tie.Need-over-of-requires
-over-of-requires c κs = search needs
-
-under-of-requires : tie.Need-under-of-requires
-under-of-requires c κs = search needs
-
 times-up-requires : tie.Need-times-up-requires
 times-up-requires c κs = rw (c .before .over-of .ensures, c .under-of .ensures) (under-positive _ _ _ _ (c .before .before .pre), high-fits _ _ _ _ (c .before .before .pre))
 
@@ -17,4 +11,4 @@ returns : tie.Need-returns
 returns c = rw (← c .before .before .over-of .ensures, ← c .before .under-of .ensures) (c .times-up .ensures)
 
 pub weigh-high-spec : {M : Type 1} → statement M
-weigh-high-spec = tie.close (tie.spec over-of-requires under-of-requires times-up-requires returns)
+weigh-high-spec = tie.close (tie.spec (λ c κs. search needs) (λ c κs. search needs) times-up-requires returns)

@@ -4,12 +4,6 @@ use borrow.Author.Needs.{needs}
 use Rattle.line.proofs.expected.weigh_low.Statement.{statement}
 use Rattle.line.proofs.expected.weigh_low.Tie as tie
 
-over-of-requires : tie.Need-over-of-requires
-over-of-requires c κs = search needs
-
-under-of-requires : tie.Need-under-of-requires
-under-of-requires c κs = search needs
-
 times-down-requires : tie.Need-times-down-requires
 times-down-requires c κs = rw (c .before .over-of .ensures, c .under-of .ensures) (under-positive _ _ _ _ (c .before .before .pre), low-fits _ _ _ _ (c .before .before .pre))
 
@@ -18,4 +12,4 @@ returns c = rw (← c .before .before .over-of .ensures, ← c .before .under-of
 
 pub weigh-low-spec : {M : Type 1} → statement M
 weigh-low-spec =
-    tie.close (tie.spec over-of-requires under-of-requires times-down-requires returns)
+    tie.close (tie.spec (λ c κs. search needs) (λ c κs. search needs) times-down-requires returns)

@@ -9,9 +9,6 @@ use Rattle.logarithm.proofs.stored.stored_high.Tie as tie
 returns : tie.Need-returns
 returns c = rw (c .if1 .taken) (sym stored-high-one)
 
-stored-low-requires : tie.Need-stored-low-requires
-stored-low-requires c κs = search needs
-
 add-result : tie.Need-add-result
 add-result c = let k = c .before .before .args .k in omega (arith, c .stored-low .ensures, stored-low-small k (omega arith) (omega arith))
 
@@ -23,4 +20,4 @@ returns-2 c =
     ap (λ (t : ℕ). t + 1) (c .stored-low .ensures ∙ sym (b .pre .0 .low k (b .pre .1) (b .pre .2))) ∙ b .pre .0 .high k from (b .pre .2)
 
 pub stored-high-spec : {M : Type 1} → statement M
-stored-high-spec = tie.close (tie.spec returns stored-low-requires add-result returns-2)
+stored-high-spec = tie.close (tie.spec returns (λ c κs. search needs) add-result returns-2)

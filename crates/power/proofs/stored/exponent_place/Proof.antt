@@ -20,21 +20,12 @@ abbrev μ-loop : tie.MeasureT-loop
 loop-holds : tie.Need-loop-holds Inv-loop μ-loop
 loop-holds c = (search needs, below-none (Passed (c .args .num)))
 
-hundredths-requires : tie.Need-hundredths-requires Inv-loop μ-loop
-hundredths-requires c κs = search needs
-
 returns : tie.Need-returns Inv-loop μ-loop
 unfolding placeOf
 returns c =
     let b = c .before .before in
     let l = b .before .loop in
     sym (place-is exponents (b .before .before .args .num) (l .e) (b .loop-test .taken) (sym (c .before .hundredths .ensures) ∙ c .if1 .taken) (l .inv .1))
-
-add-e : tie.Need-add-e Inv-loop μ-loop
-add-e c = omega arith
-
-loop-less : tie.Need-loop-less Inv-loop μ-loop
-loop-less c = omega arith
 
 loop-again : tie.Need-loop-again Inv-loop μ-loop
 loop-again c =
@@ -55,9 +46,9 @@ exponent-place-spec =
     Inv-loop
     μ-loop
     loop-holds
-    hundredths-requires
+    (λ c κs. search needs)
     returns
-    add-e
-    loop-less
+    (λ c. omega arith)
+    (λ c. omega arith)
     loop-again
     returns-2)

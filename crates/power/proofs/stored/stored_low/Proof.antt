@@ -2,24 +2,6 @@ use borrow.Author.Needs.{needs}
 use Rattle.power.proofs.stored.stored_low.Statement.{statement}
 use Rattle.power.proofs.stored.stored_low.Tie as tie
 
-mul-i : tie.Need-mul-i
-mul-i c = search needs
-
-sub-i : tie.Need-sub-i
-sub-i c = search needs
-
-add-i : tie.Need-add-i
-add-i c = search needs
-
-mul-i-2 : tie.Need-mul-i-2
-mul-i-2 c = search needs
-
-mul-result : tie.Need-mul-result
-mul-result c = search needs
-
-element-copy-out-result : tie.Need-element-copy-out-result
-element-copy-out-result c = search needs
-
 returns : tie.Need-returns
 returns c =
     let b = c .before in
@@ -27,4 +9,4 @@ returns c =
 
 pub stored-low-spec : {M : Type 1} → statement M
 stored-low-spec =
-    tie.close (tie.spec mul-i sub-i add-i mul-i-2 mul-result element-copy-out-result returns)
+    tie.close (tie.spec (λ c. search needs) (λ c. search needs) (λ c. search needs) (λ c. search needs) (λ c. search needs) (λ c. search needs) returns)

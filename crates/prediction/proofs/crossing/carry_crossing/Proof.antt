@@ -15,47 +15,8 @@ mul-start c = omega (arith, mul-le-mul (c .pre .2) (c .pre .3))
 mul-start-2 : tie.Need-mul-start-2
 mul-start-2 c = omega (arith, mul-le-mul (c .pre .2) (c .pre .3))
 
-major-factor-requires : tie.Need-major-factor-requires
-major-factor-requires c κs = search needs
-
-through-requires : tie.Need-through-requires
-through-requires c κs = search needs
-
-minor-factor-requires : tie.Need-minor-factor-requires
-minor-factor-requires c κs = search needs
-
-through-requires-2 : tie.Need-through-requires-2
-through-requires-2 c κs = search needs
-
-left-factor-requires : tie.Need-left-factor-requires
-left-factor-requires c κs = search needs
-
-through-requires-3 : tie.Need-through-requires-3
-through-requires-3 c κs = search needs
-
-right-factor-requires : tie.Need-right-factor-requires
-right-factor-requires c κs = search needs
-
-through-requires-4 : tie.Need-through-requires-4
-through-requires-4 c κs = search needs
-
-sight-factor-requires : tie.Need-sight-factor-requires
-sight-factor-requires c κs = search needs
-
-through-requires-5 : tie.Need-through-requires-5
-through-requires-5 c κs = search needs
-
-skew-factor-requires : tie.Need-skew-factor-requires
-skew-factor-requires c κs = search needs
-
-through-requires-6 : tie.Need-through-requires-6
-through-requires-6 c κs = search needs
-
 base-factor-requires : tie.Need-base-factor-requires
 base-factor-requires c κs = c .before .before .before .before .before .before .before .before .before .before .before .before .pre .4 .kind-most
-
-through-requires-7 : tie.Need-through-requires-7
-through-requires-7 c κs = search needs
 
 returns : tie.Need-returns
 unfolding crossingBrackets
@@ -83,18 +44,18 @@ carry-crossing-spec =
     (tie.spec
     mul-start
     mul-start-2
-    major-factor-requires
-    through-requires
-    minor-factor-requires
-    through-requires-2
-    left-factor-requires
-    through-requires-3
-    right-factor-requires
-    through-requires-4
-    sight-factor-requires
-    through-requires-5
-    skew-factor-requires
-    through-requires-6
+    (λ c κs. search needs)
+    (λ c κs. search needs)
+    (λ c κs. search needs)
+    (λ c κs. search needs)
+    (λ c κs. search needs)
+    (λ c κs. search needs)
+    (λ c κs. search needs)
+    (λ c κs. search needs)
+    (λ c κs. search needs)
+    (λ c κs. search needs)
+    (λ c κs. search needs)
+    (λ c κs. search needs)
     base-factor-requires
-    through-requires-7
+    (λ c κs. search needs)
     returns)

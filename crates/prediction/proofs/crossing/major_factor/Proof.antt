@@ -7,9 +7,6 @@ use borrow.Author.Needs.{needs}
 use Rattle.prediction.proofs.crossing.major_factor.Statement.{statement}
 use Rattle.prediction.proofs.crossing.major_factor.Tie as tie
 
-major-place-requires : tie.Need-major-place-requires
-major-place-requires c κs = search needs
-
 power-with-requires : tie.Need-power-with-requires
 power-with-requires c κs =
     let s = c .before .pre .1 in
@@ -21,4 +18,4 @@ returns c =
     c .power-with .ensures ∙ ap (λ p. powerBracket (c .before .before .args .v .traffic) p 100) (ap exponentAt (c .before .major-place .ensures) ∙ major-placed _ (s .kind-least) (s .kind-most) .is)
 
 pub major-factor-spec : {M : Type 1} → statement M
-major-factor-spec = tie.close (tie.spec major-place-requires power-with-requires returns)
+major-factor-spec = tie.close (tie.spec (λ c κs. search needs) power-with-requires returns)

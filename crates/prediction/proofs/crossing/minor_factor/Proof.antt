@@ -7,9 +7,6 @@ use borrow.Author.Needs.{needs}
 use Rattle.prediction.proofs.crossing.minor_factor.Statement.{statement}
 use Rattle.prediction.proofs.crossing.minor_factor.Tie as tie
 
-minor-place-requires : tie.Need-minor-place-requires
-minor-place-requires c κs = search needs
-
 power-with-requires : tie.Need-power-with-requires
 power-with-requires c κs =
     let s = c .before .pre .1 in
@@ -21,4 +18,4 @@ returns c =
     c .power-with .ensures ∙ ap (λ p. powerBracket (c .before .before .args .v .minor) p 100) (ap exponentAt (c .before .minor-place .ensures) ∙ minor-placed _ (s .kind-least) (s .kind-most) .is)
 
 pub minor-factor-spec : {M : Type 1} → statement M
-minor-factor-spec = tie.close (tie.spec minor-place-requires power-with-requires returns)
+minor-factor-spec = tie.close (tie.spec (λ c κs. search needs) power-with-requires returns)

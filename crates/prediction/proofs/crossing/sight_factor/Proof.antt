@@ -4,14 +4,8 @@ use borrow.Author.Needs.{needs}
 use Rattle.prediction.proofs.crossing.sight_factor.Statement.{statement}
 use Rattle.prediction.proofs.crossing.sight_factor.Tie as tie
 
-sight-requires : tie.Need-sight-requires
-sight-requires c κs = search needs
-
-exact-requires : tie.Need-exact-requires
-exact-requires c κs = search needs
-
 returns : tie.Need-returns
 returns c = exact-is _ (c .exact .ensures) (c .before .sight .ensures)
 
 pub sight-factor-spec : {M : Type 1} → statement M
-sight-factor-spec = tie.close (tie.spec sight-requires exact-requires returns)
+sight-factor-spec = tie.close (tie.spec (λ c κs. search needs) (λ c κs. search needs) returns)

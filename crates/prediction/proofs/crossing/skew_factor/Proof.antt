@@ -10,9 +10,6 @@ use Rattle.prediction.proofs.crossing.skew_factor.Tie as tie
 most : (c : tie.After-skew-exponent) → c .skew-exponent .result * c .before .args .v .skew ≤ 3240
 most c = let s = c .before .pre .1 in rw (c .skew-exponent .ensures) (skew-most _ _ (s .kind-most) (s .skew-most))
 
-skew-exponent-requires : tie.Need-skew-exponent-requires
-skew-exponent-requires c κs = search needs
-
 mul-exponential-with : tie.Need-mul-exponential-with
 mul-exponential-with c = omega (arith, most (c .before))
 
@@ -25,4 +22,4 @@ returns c = rw (← c .before .before .skew-exponent .ensures) (c .exponential-w
 pub skew-factor-spec : {M : Type 1} → statement M
 skew-factor-spec =
     tie.close
-    (tie.spec skew-exponent-requires mul-exponential-with exponential-with-requires returns)
+    (tie.spec (λ c κs. search needs) mul-exponential-with exponential-with-requires returns)

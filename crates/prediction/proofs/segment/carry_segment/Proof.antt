@@ -4,12 +4,6 @@ use borrow.Author.Needs.{needs}
 use Rattle.prediction.proofs.segment.carry_segment.Statement.{statement}
 use Rattle.prediction.proofs.segment.carry_segment.Tie as tie
 
-segment-start-requires : tie.Need-segment-start-requires
-segment-start-requires c κs = search needs
-
-carry-straight-requires : tie.Need-carry-straight-requires
-carry-straight-requires c κs = search needs
-
 carry-curve-requires : tie.Need-carry-curve-requires
 carry-curve-requires c κs = c .before .before .before .pre .3 .bend (c .if1 .taken)
 
@@ -27,8 +21,8 @@ pub carry-segment-spec : {M : Type 1} → statement M
 carry-segment-spec =
     tie.close
     (tie.spec
-    segment-start-requires
-    carry-straight-requires
+    (λ c κs. search needs)
+    (λ c κs. search needs)
     carry-curve-requires
     returns
     returns-2)

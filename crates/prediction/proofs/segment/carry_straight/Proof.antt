@@ -7,61 +7,16 @@ use borrow.Author.Needs.{needs}
 use Rattle.prediction.proofs.segment.carry_straight.Statement.{statement}
 use Rattle.prediction.proofs.segment.carry_straight.Tie as tie
 
-base-factor-requires : tie.Need-base-factor-requires
-base-factor-requires c κs = search needs
-
-through-requires : tie.Need-through-requires
-through-requires c κs = search needs
-
-lane-factor-requires : tie.Need-lane-factor-requires
-lane-factor-requires c κs = search needs
-
-through-requires-2 : tie.Need-through-requires-2
-through-requires-2 c κs = search needs
-
-shoulder-factor-requires : tie.Need-shoulder-factor-requires
-shoulder-factor-requires c κs = search needs
-
-through-requires-3 : tie.Need-through-requires-3
-through-requires-3 c κs = search needs
-
-first-grade-factor-requires : tie.Need-first-grade-factor-requires
-first-grade-factor-requires c κs = search needs
-
-through-requires-4 : tie.Need-through-requires-4
-through-requires-4 c κs = search needs
-
-second-grade-factor-requires : tie.Need-second-grade-factor-requires
-second-grade-factor-requires c κs = search needs
-
-through-requires-5 : tie.Need-through-requires-5
-through-requires-5 c κs = search needs
-
-two-way-factor-requires : tie.Need-two-way-factor-requires
-two-way-factor-requires c κs = search needs
-
-through-requires-6 : tie.Need-through-requires-6
-through-requires-6 c κs = search needs
-
 passing-factor-requires : tie.Need-passing-factor-requires
 passing-factor-requires c κs = c .before .before .before .before .before .before .before .before .before .before .before .before .pre .1
-
-through-requires-7 : tie.Need-through-requires-7
-through-requires-7 c κs = search needs
 
 hazard-factor-requires : tie.Need-hazard-factor-requires
 hazard-factor-requires c κs =
     let sizes = c .before .before .before .before .before .before .before .before .before .before .before .before .before .before .pre .1 in
     (sizes .rating-least, sizes .rating-most)
 
-through-requires-8 : tie.Need-through-requires-8
-through-requires-8 c κs = search needs
-
 driveway-factor-requires : tie.Need-driveway-factor-requires
 driveway-factor-requires c κs = c .before .before .before .before .before .before .before .before .before .before .before .before .before .before .before .before .pre
-
-through-requires-9 : tie.Need-through-requires-9
-through-requires-9 c κs = search needs
 
 returns : tie.Need-returns
 unfolding straightBrackets
@@ -91,22 +46,22 @@ pub carry-straight-spec : {M : Type 1} → statement M
 carry-straight-spec =
     tie.close
     (tie.spec
-    base-factor-requires
-    through-requires
-    lane-factor-requires
-    through-requires-2
-    shoulder-factor-requires
-    through-requires-3
-    first-grade-factor-requires
-    through-requires-4
-    second-grade-factor-requires
-    through-requires-5
-    two-way-factor-requires
-    through-requires-6
+    (λ c κs. search needs)
+    (λ c κs. search needs)
+    (λ c κs. search needs)
+    (λ c κs. search needs)
+    (λ c κs. search needs)
+    (λ c κs. search needs)
+    (λ c κs. search needs)
+    (λ c κs. search needs)
+    (λ c κs. search needs)
+    (λ c κs. search needs)
+    (λ c κs. search needs)
+    (λ c κs. search needs)
     passing-factor-requires
-    through-requires-7
+    (λ c κs. search needs)
     hazard-factor-requires
-    through-requires-8
+    (λ c κs. search needs)
     driveway-factor-requires
-    through-requires-9
+    (λ c κs. search needs)
     returns)

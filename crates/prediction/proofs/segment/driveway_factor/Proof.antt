@@ -4,9 +4,6 @@ use borrow.Author.Needs.{needs}
 use Rattle.prediction.proofs.segment.driveway_factor.Statement.{statement}
 use Rattle.prediction.proofs.segment.driveway_factor.Tie as tie
 
-edition-one-requires : tie.Need-edition-one-requires
-edition-one-requires c κs = search needs
-
 driveways-with-requires : tie.Need-driveways-with-requires
 unfolding editionOne
 driveways-with-requires c κs = search needs
@@ -15,4 +12,4 @@ returns : tie.Need-returns
 returns c = rw (← c .before .edition-one .ensures .1, ← c .before .edition-one .ensures .2) (c .driveways-with .ensures)
 
 pub driveway-factor-spec : {M : Type 1} → statement M
-driveway-factor-spec = tie.close (tie.spec edition-one-requires driveways-with-requires returns)
+driveway-factor-spec = tie.close (tie.spec (λ c κs. search needs) driveways-with-requires returns)

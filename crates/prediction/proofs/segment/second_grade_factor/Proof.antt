@@ -4,14 +4,8 @@ use borrow.Author.Needs.{needs}
 use Rattle.prediction.proofs.segment.second_grade_factor.Statement.{statement}
 use Rattle.prediction.proofs.segment.second_grade_factor.Tie as tie
 
-grade-second-requires : tie.Need-grade-second-requires
-grade-second-requires c κs = search needs
-
-exact-requires : tie.Need-exact-requires
-exact-requires c κs = search needs
-
 returns : tie.Need-returns
 returns c = exact-is _ (c .exact .ensures) (c .before .grade-second .ensures)
 
 pub second-grade-factor-spec : {M : Type 1} → statement M
-second-grade-factor-spec = tie.close (tie.spec grade-second-requires exact-requires returns)
+second-grade-factor-spec = tie.close (tie.spec (λ c κs. search needs) (λ c κs. search needs) returns)

@@ -21,8 +21,5 @@ mul-result-3 c = omega (arith, room (c .before .before) .third)
 mul-result-4 : tie.Need-mul-result-4
 mul-result-4 c = omega (arith, room (c .before .before) .third)
 
-returns : tie.Need-returns
-returns c = search needs
-
 pub segment-start-spec : {M : Type 1} → statement M
-segment-start-spec = tie.close (tie.spec mul-result mul-result-2 mul-result-3 mul-result-4 returns)
+segment-start-spec = tie.close (tie.spec mul-result mul-result-2 mul-result-3 mul-result-4 (λ c. search needs))

@@ -6,15 +6,9 @@ use borrow.Author.Needs.{needs}
 use Rattle.prediction.proofs.segment.shoulder_factor.Statement.{statement}
 use Rattle.prediction.proofs.segment.shoulder_factor.Tie as tie
 
-edition-one-requires : tie.Need-edition-one-requires
-edition-one-requires c κs = search needs
-
 shoulder-requires : tie.Need-shoulder-requires
 unfolding editionOne
 shoulder-requires c κs = search needs
-
-exact-requires : tie.Need-exact-requires
-exact-requires c κs = search needs
 
 returns : tie.Need-returns
 unfolding widths.shoulder
@@ -22,4 +16,4 @@ returns c = exact-is _ (c .exact .ensures) (rw (c .before .before .edition-one .
 
 pub shoulder-factor-spec : {M : Type 1} → statement M
 shoulder-factor-spec =
-    tie.close (tie.spec edition-one-requires shoulder-requires exact-requires returns)
+    tie.close (tie.spec (λ c κs. search needs) shoulder-requires (λ c κs. search needs) returns)

@@ -4,14 +4,8 @@ use borrow.Author.Needs.{needs}
 use Rattle.prediction.proofs.segment.two_way_factor.Statement.{statement}
 use Rattle.prediction.proofs.segment.two_way_factor.Tie as tie
 
-two-way-lane-requires : tie.Need-two-way-lane-requires
-two-way-lane-requires c κs = search needs
-
-exact-requires : tie.Need-exact-requires
-exact-requires c κs = search needs
-
 returns : tie.Need-returns
 returns c = exact-is _ (c .exact .ensures) (c .before .two-way-lane .ensures)
 
 pub two-way-factor-spec : {M : Type 1} → statement M
-two-way-factor-spec = tie.close (tie.spec two-way-lane-requires exact-requires returns)
+two-way-factor-spec = tie.close (tie.spec (λ c κs. search needs) (λ c κs. search needs) returns)

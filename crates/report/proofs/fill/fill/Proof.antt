@@ -7,15 +7,6 @@ use borrow.Author.Needs.{needs}
 use Rattle.report.proofs.fill.fill.Statement.{statement}
 use Rattle.report.proofs.fill.fill.Tie as tie
 
-stored-powers-requires : tie.Need-stored-powers-requires
-stored-powers-requires c κs = search needs
-
-stored-logarithms-requires : tie.Need-stored-logarithms-requires
-stored-logarithms-requires c κs = search needs
-
-stored-exponentials-requires : tie.Need-stored-exponentials-requires
-stored-exponentials-requires c κs = search needs
-
 header-of-requires : tie.Need-header-of-requires
 header-of-requires c κs = let a = c .before .before .before .before .before .pre in accepted-sites _ (a .sites) (a .scanned) .long
 
@@ -29,9 +20,6 @@ fill-lines-requires c κs =
       tables .stored-exponentials .ensures,
       fillable _ (a .sites) (a .scanned) _ _ (header .header-of .ensures) (a .room-for),
     )
-
-same-length : tie.Need-same-length
-same-length c = search needs
 
 returns : tie.Need-returns
 returns c =
@@ -47,10 +35,10 @@ pub fill-spec : {M : Type 1} → statement M
 fill-spec =
     tie.close
     (tie.spec
-    stored-powers-requires
-    stored-logarithms-requires
-    stored-exponentials-requires
+    (λ c κs. search needs)
+    (λ c κs. search needs)
+    (λ c κs. search needs)
     header-of-requires
     fill-lines-requires
-    same-length
+    (λ c. search needs)
     returns)

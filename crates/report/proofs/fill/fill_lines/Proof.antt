@@ -31,12 +31,6 @@ line-at-requires c κs =
     let f = start .pre .3 in
     (start .pre .0, start .pre .1, start .pre .2, c .before .before .loop .inv .1 .inside, f .limits .years-most, f .limits .segments-most, f .limits .crossings-most)
 
-enum-known-next : tie.Need-enum-known-next Inv-loop μ-loop
-enum-known-next c = search needs
-
-enum-told : tie.Need-enum-told Inv-loop μ-loop
-enum-told c = search needs
-
 -- a record of an accepted file is always read
 never : (c : tie.After-enum-told Inv-loop μ-loop) → ⊥
 never c =
@@ -126,8 +120,8 @@ fill-lines-spec =
     μ-loop
     loop-holds
     line-at-requires
-    enum-known-next
-    enum-told
+    (λ c. search needs)
+    (λ c. search needs)
     same-length
     returns
     mul-put-line

@@ -8,24 +8,6 @@ use Rattle.report.proofs.fill.line_at.Tie as tie
 abbrev header : tie.Start → Header
 header start = headerOf (start .args .header .years) (start .args .header .segments) (start .args .header .crossings)
 
-sub-read-site : tie.Need-sub-read-site
-sub-read-site c = search needs
-
-part-read-site-start : tie.Need-part-read-site-start
-part-read-site-start c = search needs
-
-part-read-site-end : tie.Need-part-read-site-end
-part-read-site-end c = search needs
-
-read-site-requires : tie.Need-read-site-requires
-read-site-requires c κs = search needs
-
-enum-told : tie.Need-enum-told
-enum-told c = search needs
-
-enum-known-answer : tie.Need-enum-known-answer
-enum-known-answer c = search needs
-
 line-with-requires : tie.Need-line-with-requires
 line-with-requires c κs =
     let read = c .before .before .before in
@@ -48,12 +30,12 @@ pub line-at-spec : {M : Type 1} → statement M
 line-at-spec =
     tie.close
     (tie.spec
-    sub-read-site
-    part-read-site-start
-    part-read-site-end
-    read-site-requires
-    enum-told
-    enum-known-answer
+    (λ c. search needs)
+    (λ c. search needs)
+    (λ c. search needs)
+    (λ c κs. search needs)
+    (λ c. search needs)
+    (λ c. search needs)
     line-with-requires
     returns
     returns-2)

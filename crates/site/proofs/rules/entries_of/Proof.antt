@@ -6,18 +6,6 @@ use borrow.Author.Needs.{needs}
 use Rattle.site.proofs.rules.entries_of.Statement.{statement}
 use Rattle.site.proofs.rules.entries_of.Tie as tie
 
-segment-entries-requires : tie.Need-segment-entries-requires
-segment-entries-requires c κs = search needs
-
-crossing-entries-requires : tie.Need-crossing-entries-requires
-crossing-entries-requires c κs = search needs
-
-crossing-entries-requires-2 : tie.Need-crossing-entries-requires-2
-crossing-entries-requires-2 c κs = search needs
-
-crossing-entries-requires-3 : tie.Need-crossing-entries-requires-3
-crossing-entries-requires-3 c κs = search needs
-
 returns : tie.Need-returns
 unfolding entriesOf
 returns c = c .segment-entries .ensures ∙ ap entriesOf (sym (c .before .match .keys1))
@@ -45,10 +33,10 @@ pub entries-of-spec : {M : Type 1} → statement M
 entries-of-spec =
     tie.close
     (tie.spec
-    segment-entries-requires
-    crossing-entries-requires
-    crossing-entries-requires-2
-    crossing-entries-requires-3
+    (λ c κs. search needs)
+    (λ c κs. search needs)
+    (λ c κs. search needs)
+    (λ c κs. search needs)
     returns
     returns-2
     returns-3

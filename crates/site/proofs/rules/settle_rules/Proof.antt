@@ -20,27 +20,6 @@ abbrev μ-loop : tie.MeasureT-loop
 loop-holds : tie.Need-loop-holds Inv-loop μ-loop
 loop-holds c = (omega arith, refl, map-start (settled (c .args .curved)) (c .args .t2) _ (c .pre) refl)
 
-mul-settled-rule : tie.Need-mul-settled-rule Inv-loop μ-loop
-mul-settled-rule c = omega arith
-
-array-copy-out-settled-rule : tie.Need-array-copy-out-settled-rule Inv-loop μ-loop
-array-copy-out-settled-rule c = omega arith
-
-settled-rule-requires : tie.Need-settled-rule-requires Inv-loop μ-loop
-settled-rule-requires c κs = search needs
-
-mul-rules : tie.Need-mul-rules Inv-loop μ-loop
-mul-rules c = omega arith
-
-array-set-from-rules : tie.Need-array-set-from-rules Inv-loop μ-loop
-array-set-from-rules c = omega arith
-
-add-i : tie.Need-add-i Inv-loop μ-loop
-add-i c = omega arith
-
-loop-less : tie.Need-loop-less Inv-loop μ-loop
-loop-less c = omega arith
-
 loop-again : tie.Need-loop-again Inv-loop μ-loop
 loop-again c =
     let loop = c .before .before .before .loop in (
@@ -59,12 +38,12 @@ settle-rules-spec =
     Inv-loop
     μ-loop
     loop-holds
-    mul-settled-rule
-    array-copy-out-settled-rule
-    settled-rule-requires
-    mul-rules
-    array-set-from-rules
-    add-i
-    loop-less
+    (λ c. omega arith)
+    (λ c. omega arith)
+    (λ c κs. search needs)
+    (λ c. omega arith)
+    (λ c. omega arith)
+    (λ c. omega arith)
+    (λ c. omega arith)
     loop-again
     returns)

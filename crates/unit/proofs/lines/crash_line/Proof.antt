@@ -4,18 +4,6 @@ use borrow.Author.Needs.{needs}
 use Rattle.unit.proofs.lines.crash_line.Statement.{statement}
 use Rattle.unit.proofs.lines.crash_line.Tie as tie
 
-site-from-requires : tie.Need-site-from-requires
-site-from-requires c κs = search needs
-
-line-of-requires : tie.Need-line-of-requires
-line-of-requires c κs = search needs
-
-lend-line-requires : tie.Need-lend-line-requires
-lend-line-requires c κs = search needs
-
-same-length : tie.Need-same-length
-same-length c = search needs
-
 returns : tie.Need-returns
 returns c =
     let line = c .before .before .before .before in
@@ -24,4 +12,4 @@ returns c =
 pub crash-line-spec : {M : Type 1} → statement M
 crash-line-spec =
     tie.close
-    (tie.spec site-from-requires line-of-requires lend-line-requires same-length returns)
+    (tie.spec (λ c κs. search needs) (λ c κs. search needs) (λ c κs. search needs) (λ c. search needs) returns)

@@ -7,31 +7,16 @@ use Rattle.unit.proofs.Lending.{refused, no-space, lent}
 use Rattle.unit.proofs.lines.lend_line.Statement.{statement}
 use Rattle.unit.proofs.lines.lend_line.Tie as tie
 
-enum-told : tie.Need-enum-told
-enum-told c = search needs
-
-enum-told-2 : tie.Need-enum-told-2
-enum-told-2 c = search needs
-
-enum-known-answer : tie.Need-enum-known-answer
-enum-known-answer c = search needs
-
 returns : tie.Need-returns
 returns c =
     let told = no-space _ _ _ _ _ (c .if1 .taken) in
     rw (c .before .before .answer .given .1) (record { number-is = told .0; run-is = told .1 })
-
-slice-write-run : tie.Need-slice-write-run
-slice-write-run c = search needs
 
 slice-write-run-2 : tie.Need-slice-write-run-2
 slice-write-run-2 c = simp length-set (omega arith)
 
 slice-write-run-3 : tie.Need-slice-write-run-3
 slice-write-run-3 c = simp length-set (omega arith)
-
-slice-write-run-4 : tie.Need-slice-write-run-4
-slice-write-run-4 c = search needs
 
 returns-2 : tie.Need-returns-2
 returns-2 c =
@@ -42,9 +27,6 @@ returns-3 : tie.Need-returns-3
 returns-3 c =
     let told = refused _ 8 in
     rw (c .enum-told2 .given .1) (record { number-is = told .0; run-is = told .1 })
-
-same-length : tie.Need-same-length
-same-length c = search needs
 
 returns-4 : tie.Need-returns-4
 returns-4 c =
@@ -58,15 +40,15 @@ pub lend-line-spec : {M : Type 1} → statement M
 lend-line-spec =
     tie.close
     (tie.spec
-    enum-told
-    enum-told-2
-    enum-known-answer
+    (λ c. search needs)
+    (λ c. search needs)
+    (λ c. search needs)
     returns
-    slice-write-run
+    (λ c. search needs)
     slice-write-run-2
     slice-write-run-3
-    slice-write-run-4
+    (λ c. search needs)
     returns-2
     returns-3
-    same-length
+    (λ c. search needs)
     returns-4)

@@ -8,20 +8,8 @@ use borrow.Author.Needs.{needs}
 use Rattle.unit.proofs.sites.put_site.Statement.{statement}
 use Rattle.unit.proofs.sites.put_site.Tie as tie
 
-slots-of-requires : tie.Need-slots-of-requires
-slots-of-requires c κs = search needs
-
-cast-values : tie.Need-cast-values
-cast-values c = search needs
-
-slice-write-values : tie.Need-slice-write-values
-slice-write-values c = search needs
-
 put-slots-requires : tie.Need-put-slots-requires
 put-slots-requires c κs = (search needs, simp length-set (omega arith))
-
-slice-write-values-2 : tie.Need-slice-write-values-2
-slice-write-values-2 c = search needs
 
 same-length : tie.Need-same-length
 same-length c = simp length-set (c .before .before .put-slots .kept .1 .0 ∙ simp length-set)
@@ -36,10 +24,10 @@ pub put-site-spec : {M : Type 1} → statement M
 put-site-spec =
     tie.close
     (tie.spec
-    slots-of-requires
-    cast-values
-    slice-write-values
+    (λ c κs. search needs)
+    (λ c. search needs)
+    (λ c. search needs)
     put-slots-requires
-    slice-write-values-2
+    (λ c. search needs)
     same-length
     returns)

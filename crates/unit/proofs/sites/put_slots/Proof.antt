@@ -19,33 +19,6 @@ Inv-loop values₀ slots i₀ values i =
 abbrev μ-loop : tie.MeasureT-loop
 μ-loop values₀ slots i₀ values i = slotCount - i
 
-loop-holds : tie.Need-loop-holds Inv-loop μ-loop
-loop-holds c = search needs
-
-mul-code-of : tie.Need-mul-code-of Inv-loop μ-loop
-mul-code-of c = omega arith
-
-array-copy-out-code-of : tie.Need-array-copy-out-code-of Inv-loop μ-loop
-array-copy-out-code-of c = omega arith
-
-code-of-requires : tie.Need-code-of-requires Inv-loop μ-loop
-code-of-requires c κs = search needs
-
-add-values : tie.Need-add-values Inv-loop μ-loop
-add-values c = omega arith
-
-mul-values : tie.Need-mul-values Inv-loop μ-loop
-mul-values c = omega arith
-
-slice-write-values : tie.Need-slice-write-values Inv-loop μ-loop
-slice-write-values c = omega arith
-
-add-i : tie.Need-add-i Inv-loop μ-loop
-add-i c = omega arith
-
-loop-less : tie.Need-loop-less Inv-loop μ-loop
-loop-less c = omega arith
-
 loop-again : tie.Need-loop-again Inv-loop μ-loop
 loop-again c =
     let count = c .before .before .before .before .before .pre .0 in
@@ -54,9 +27,6 @@ loop-again c =
       simp length-set (loop .inv .1),
       store-more code _ _ _ _ count (loop .inv .2) _ _ (c .before .before .loop-test .taken) (c .code-of .ensures),
     )
-
-same-length : tie.Need-same-length Inv-loop μ-loop
-same-length c = search needs
 
 returns : tie.Need-returns Inv-loop μ-loop
 returns c = store-end code _ _ _ _ (c .before .before .before .pre .0) (c .before .loop .inv .2) (c .loop-test .left)
@@ -67,15 +37,15 @@ put-slots-spec =
     (tie.spec
     Inv-loop
     μ-loop
-    loop-holds
-    mul-code-of
-    array-copy-out-code-of
-    code-of-requires
-    add-values
-    mul-values
-    slice-write-values
-    add-i
-    loop-less
+    (λ c. search needs)
+    (λ c. omega arith)
+    (λ c. omega arith)
+    (λ c κs. search needs)
+    (λ c. omega arith)
+    (λ c. omega arith)
+    (λ c. omega arith)
+    (λ c. omega arith)
+    (λ c. omega arith)
     loop-again
-    same-length
+    (λ c. search needs)
     returns)

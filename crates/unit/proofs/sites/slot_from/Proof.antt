@@ -4,9 +4,6 @@ use borrow.Author.Needs.{needs}
 use Rattle.unit.proofs.sites.slot_from.Statement.{statement}
 use Rattle.unit.proofs.sites.slot_from.Tie as tie
 
-cast-t4 : tie.Need-cast-t4
-cast-t4 c = search needs
-
 returns : tie.Need-returns
 returns c = simp (lt-ltb _ _ (c .if1 .taken))
 
@@ -17,4 +14,4 @@ returns-3 : tie.Need-returns-3
 returns-3 c = simp (le-ltb _ _ (c .before .if1 .left), ne-eqb _ _ (c .if2 .left))
 
 pub slot-from-spec : {M : Type 1} → statement M
-slot-from-spec = tie.close (tie.spec cast-t4 returns returns-2 returns-3)
+slot-from-spec = tie.close (tie.spec (λ c. search needs) returns returns-2 returns-3)

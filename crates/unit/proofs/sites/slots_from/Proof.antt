@@ -23,27 +23,6 @@ abbrev μ-loop : tie.MeasureT-loop
 loop-holds : tie.Need-loop-holds Inv-loop μ-loop
 loop-holds c = (omega arith, refl, map-start slotFrom (now (c .before .args .numbers)) _ (c .before .pre) refl)
 
-mul-slot-from : tie.Need-mul-slot-from Inv-loop μ-loop
-mul-slot-from c = omega arith
-
-shared-slice-read-slot-from : tie.Need-shared-slice-read-slot-from Inv-loop μ-loop
-shared-slice-read-slot-from c = omega arith
-
-slot-from-requires : tie.Need-slot-from-requires Inv-loop μ-loop
-slot-from-requires c κs = search needs
-
-mul-slots : tie.Need-mul-slots Inv-loop μ-loop
-mul-slots c = omega arith
-
-array-set-from-slots : tie.Need-array-set-from-slots Inv-loop μ-loop
-array-set-from-slots c = omega arith
-
-add-i : tie.Need-add-i Inv-loop μ-loop
-add-i c = omega arith
-
-loop-less : tie.Need-loop-less Inv-loop μ-loop
-loop-less c = omega arith
-
 loop-again : tie.Need-loop-again Inv-loop μ-loop
 loop-again c =
     let count = c .before .before .before .before .before .pre in
@@ -63,12 +42,12 @@ slots-from-spec =
     Inv-loop
     μ-loop
     loop-holds
-    mul-slot-from
-    shared-slice-read-slot-from
-    slot-from-requires
-    mul-slots
-    array-set-from-slots
-    add-i
-    loop-less
+    (λ c. omega arith)
+    (λ c. omega arith)
+    (λ c κs. search needs)
+    (λ c. omega arith)
+    (λ c. omega arith)
+    (λ c. omega arith)
+    (λ c. omega arith)
     loop-again
     returns)

@@ -1,15 +1,13 @@
 -- `wide::division::digit` meets its contract. The invariant: q and r divide rest by d's upper digit, and q is not too small.
 use mathlib.Core.Path.{_≡_}
 use mathlib.Core.Logic.{⊎-elim}
-use Prim.Native.Nat.{ℕ, _+_, _*_, _/_, _%_, _^_, _≤_, _<_}
+use Prim.Native.Nat.{_+_, _*_, _/_, _%_, _^_, _<_}
 use native.Mathlib.Nat.{div-add-mod'}
 use native.Mathlib.Omega.{arith}
 use Rattle.wide.proofs.Words.{top}
 use Rattle.wide.proofs.division.Laws.{pos, first, failed, long, passed, past, again}
 use Rattle.wide.proofs.division.digit.Statement.{statement}
 use Rattle.wide.proofs.division.digit.Tie as tie
-use Rattle.wide.proofs.division.digit.Reads as reads
-use Rattle.wide.proofs.division.digit.Lts as lts
 
 abbrev Inv-loop : tie.InvT-loop
 Inv-loop rest next d d1 d0 q₀ r₀ q r = (q * d1 + r ≡ rest) × (rest * 2 ^ 32 + next < q * d + d)
@@ -17,23 +15,11 @@ Inv-loop rest next d d1 d0 q₀ r₀ q r = (q * d1 + r ≡ rest) × (rest * 2 ^ 
 abbrev μ-loop : tie.MeasureT-loop
 μ-loop rest next d d1 d0 q₀ r₀ q r = q
 
-div-q : tie.Need-div-q Inv-loop μ-loop
-div-q c = omega arith
-
-rem-r : tie.Need-rem-r Inv-loop μ-loop
-rem-r c = omega arith
-
 loop-holds : tie.Need-loop-holds Inv-loop μ-loop
 loop-holds c = (div-add-mod' _ _, first _ _ _ (c .args .d / 2 ^ 32) (c .args .d % 2 ^ 32) (omega arith) (omega arith) (omega arith))
 
 mul-if2 : tie.Need-mul-if2 Inv-loop μ-loop
 mul-if2 c = omega (arith, top (c .before .before .loop .q) (c .before .before .before .args .d % 2 ^ 32) (omega arith) (omega arith))
-
-mul-if2-2 : tie.Need-mul-if2-2 Inv-loop μ-loop
-mul-if2-2 c = omega arith
-
-add-if2 : tie.Need-add-if2 Inv-loop μ-loop
-add-if2 c = omega arith
 
 returns : tie.Need-returns Inv-loop μ-loop
 returns c =
@@ -57,9 +43,6 @@ above c = pos _ _ _ (large c)
 sub-q : tie.Need-sub-q Inv-loop μ-loop
 sub-q c = omega (arith, above c)
 
-add-r : tie.Need-add-r Inv-loop μ-loop
-add-r c = omega arith
-
 loop-less : tie.Need-loop-less Inv-loop μ-loop
 loop-less c = omega (arith, above c)
 
@@ -75,4 +58,4 @@ returns-2 c =
 pub digit-spec : {M : Type 1} → statement M
 digit-spec =
     tie.close
-    (tie.spec Inv-loop μ-loop div-q rem-r loop-holds mul-if2 mul-if2-2 add-if2 returns sub-q add-r loop-less loop-again returns-2)
+    (tie.spec Inv-loop μ-loop (λ c. omega arith) (λ c. omega arith) loop-holds mul-if2 (λ c. omega arith) (λ c. omega arith) returns sub-q (λ c. omega arith) loop-less loop-again returns-2)

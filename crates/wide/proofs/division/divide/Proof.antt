@@ -1,7 +1,6 @@
 -- `wide::division::divide` meets its contract: two digit steps on the number and the divisor, both scaled by `norm`.
 use borrow.Author.Needs.{needs}
-use mathlib.Core.Path.{_≡_}
-use Prim.Native.Nat.{ℕ, _+_, _*_, _/_, _%_, _^_, _≤_, _<_}
+use Prim.Native.Nat.{_+_, _*_, _^_, _<_}
 use native.Mathlib.Nat.{lt-trans, lt-of-le-of-lt, le-of-lt, mul-le-mul-right, mod-lt}
 use native.Mathlib.Omega.{arith}
 use mir.Facts.{fits-of-lt, fits-cat, fits-shl}
@@ -9,21 +8,6 @@ use lib.Pow.{pow-pos}
 use Rattle.wide.proofs.division.Laws.{pos, below, left-lt, short, upper, scaled, two-digits}
 use Rattle.wide.proofs.division.divide.Statement.{statement}
 use Rattle.wide.proofs.division.divide.Tie as tie
-use Rattle.wide.proofs.division.divide.Reads as reads
-use Rattle.wide.proofs.division.divide.Lts as lts
-use Rattle.wide.proofs.division.digit.Reads as digit-reads
-use Rattle.wide.proofs.division.left_over.Reads as left-over-reads
-use Rattle.wide.proofs.division.norm.Reads as norm-reads
-use Rattle.wide.proofs.word.product.Reads as product-reads
-
-norm-requires : tie.Need-norm-requires
-norm-requires c κs = search needs
-
-mul-dn : tie.Need-mul-dn
-mul-dn c = search needs
-
-product-requires : tie.Need-product-requires
-product-requires c κs = search needs
 
 -- the scaled high part is below the scaled divisor
 high-below : (c : tie.After-struct-known2)
@@ -49,9 +33,6 @@ digit-requires c κs = (c .before .before .before .norm .ensures .0, high-below 
 
 left-over-requires : tie.Need-left-over-requires
 left-over-requires c κs = (high-below (c .before), upper _ (low-fits (c .before)), c .digit .ensures .0, c .digit .ensures .1)
-
-digit-requires-2 : tie.Need-digit-requires-2
-digit-requires-2 c κs = search needs
 
 -- both digits are below 2 ^ 32
 first-short : (c : tie.After-digit) → c .digit .result < 2 ^ 32
@@ -80,4 +61,4 @@ returns c =
 pub divide-spec : {M : Type 1} → statement M
 divide-spec =
     tie.close
-    (tie.spec norm-requires mul-dn product-requires mul-top add-top digit-requires left-over-requires digit-requires-2 mul-result add-result returns)
+    (tie.spec (λ c κs. search needs) (λ c. search needs) (λ c κs. search needs) mul-top add-top digit-requires left-over-requires (λ c κs. search needs) mul-result add-result returns)

@@ -1,40 +1,15 @@
 -- `wide::division::divide_by` meets its contract: number and divisor without the divisor's twos.
 use borrow.Author.Needs.{needs}
-use Prim.Native.Nat.{ℕ, zero, _+_, _*_, _/_, _^_, _≤_, _<_}
+use Prim.Native.Nat.{ℕ, zero, _+_, _*_, _/_, _^_, _<_}
 use mathlib.Core.Path.{_≡_, ap, sym, _∙_}
 use native.Mathlib.Nat.{div-div-eq-div-mul, mul-comm, div-lt-iff-lt-mul, le-of-eq, lt-of-le-of-lt, lt-of-lt-of-le}
-use native.Mathlib.Omega.{arith}
 use lib.Pow.{pow-pos}
 use Rattle.wide.proofs.division.divide_by.Statement.{statement}
 use Rattle.wide.proofs.division.divide_by.Tie as tie
-use Rattle.wide.proofs.division.divide_by.Reads as reads
-use Rattle.wide.proofs.division.divide_by.Lts as lts
-use Rattle.wide.proofs.division.divide.Reads as divide-reads
-use Rattle.wide.proofs.division.shift.Reads as shift-reads
-use Rattle.wide.proofs.division.short.Reads as short-reads
-use Rattle.wide.proofs.division.twos.Reads as twos-reads
 
 -- the high word stays below the divisor. m is 2 ^ s
 still-below : (x high d m : ℕ) → zero < m → high < d → d / m * m ≡ d → x ≡ high / m → x < d / m
 still-below x high d m p h e q = lt-of-le-of-lt (le-of-eq q) (div-lt-iff-lt-mul {k = m} {x = high} {y = d / m} p .1 (lt-of-lt-of-le h (le-of-eq (sym e))))
-
-twos-requires : tie.Need-twos-requires
-twos-requires c κs = search needs
-
-cast-odd : tie.Need-cast-odd
-cast-odd c = search needs
-
-shr-odd : tie.Need-shr-odd
-shr-odd c = search needs
-
-divide-requires : tie.Need-divide-requires
-divide-requires c κs = search needs
-
-returns : tie.Need-returns
-returns c = search needs
-
-shift-requires : tie.Need-shift-requires
-shift-requires c κs = search needs
 
 short-requires : tie.Need-short-requires
 short-requires c κs =
@@ -57,11 +32,11 @@ pub divide-by-spec : {M : Type 1} → statement M
 divide-by-spec =
     tie.close
     (tie.spec
-    twos-requires
-    cast-odd
-    shr-odd
-    divide-requires
-    returns
-    shift-requires
+    (λ c κs. search needs)
+    (λ c. search needs)
+    (λ c. search needs)
+    (λ c κs. search needs)
+    (λ c. search needs)
+    (λ c κs. search needs)
     short-requires
     returns-2)

@@ -1,14 +1,12 @@
 -- `wide::division::left_over` meets its contract.
 use borrow.Author.Needs.{needs}
 use mathlib.Core.Path.{_≡_}
-use Prim.Native.Nat.{ℕ, _+_, _-_, _*_, _/_, _%_, _^_, _≤_, _<_}
+use Prim.Native.Nat.{_+_, _-_, _*_, _/_, _%_, _^_, _≤_}
 use native.Mathlib.Omega.{arith}
 use Rattle.wide.proofs.Words.{top}
 use Rattle.wide.proofs.division.Laws.{spread, short}
 use Rattle.wide.proofs.division.left_over.Statement.{statement}
 use Rattle.wide.proofs.division.left_over.Tie as tie
-use Rattle.wide.proofs.division.left_over.Reads as reads
-use Rattle.wide.proofs.division.left_over.Lts as lts
 
 -- q times d, by d's digits
 parts : (c : tie.Start) → c .args .q * c .args .d ≡ c .args .q * (c .args .d / 2 ^ 32) * 2 ^ 32 + c .args .q * (c .args .d % 2 ^ 32)
@@ -24,20 +22,11 @@ mul-r c = omega (arith, parts c)
 sub-r : tie.Need-sub-r
 sub-r c = omega (arith, parts c)
 
-mul-t : tie.Need-mul-t
-mul-t c = search needs
-
-add-t : tie.Need-add-t
-add-t c = search needs
-
 mul-w : tie.Need-mul-w
 mul-w c = omega (arith, most c)
 
 sub-result : tie.Need-sub-result
 sub-result c = omega (arith, most (c .before))
-
-add-result : tie.Need-add-result
-add-result c = search needs
 
 add-result-2 : tie.Need-add-result-2
 add-result-2 c = omega (arith, most (c .before))
@@ -51,4 +40,4 @@ returns-2 c = omega (arith, parts (c .before), most (c .before))
 pub left-over-spec : {M : Type 1} → statement M
 left-over-spec =
     tie.close
-    (tie.spec mul-r sub-r mul-t add-t mul-w sub-result add-result add-result-2 returns returns-2)
+    (tie.spec mul-r sub-r (λ c. search needs) (λ c. search needs) mul-w sub-result (λ c. search needs) add-result-2 returns returns-2)

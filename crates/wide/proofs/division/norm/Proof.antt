@@ -1,14 +1,12 @@
 -- `wide::division::norm` meets its contract: with k its highest set bit, d's leading zeros make 63 with k.
-use mathlib.Core.Path.{_≡_, sym, _∙_, ap, subst}
-use Prim.Native.Nat.{ℕ, zero, suc, _+_, _*_, _%_, _^_, _≤_, _<_}
+use mathlib.Core.Path.{_≡_, _∙_, ap}
+use Prim.Native.Nat.{ℕ, suc, _+_, _*_, _%_, _^_, _≤_, _<_}
 use native.Mathlib.Nat.{mul-le-mul-right, mul-lt-mul-of-pos-right, one-mul, mod-eq-of-lt}
 use native.Mathlib.Omega.{arith}
 use lib.Count.{leadingZeros, leading-top}
 use lib.Pow.{pow-pos, pow-add, pow-lt}
 use Rattle.wide.proofs.division.norm.Statement.{statement}
 use Rattle.wide.proofs.division.norm.Tie as tie
-use Rattle.wide.proofs.division.norm.Reads as reads
-use Rattle.wide.proofs.division.norm.Lts as lts
 
 -- `1 << s` is 2 ^ s
 shifted : (s : ℕ) → s < 64 → (1 * 2 ^ s) % 2 ^ 64 ≡ 2 ^ s

@@ -1,6 +1,6 @@
 -- `wide::division::shift` meets its contract: the low word takes in the bits that the high one loses.
 use borrow.Author.Needs.{needs}
-use Prim.Native.Nat.{ℕ, zero, _+_, _-_, _*_, _/_, _%_, _^_, _<_}
+use Prim.Native.Nat.{ℕ, _+_, _-_, _*_, _^_, _<_}
 use mathlib.Core.Path.{_≡_, refl, ap, sym, _∙_}
 use native.Mathlib.Omega.{arith}
 use lib.Pow.{pow-pos, pow-add}
@@ -8,8 +8,6 @@ use mir.Facts.{fits-of-lt}
 use Rattle.wide.proofs.division.Laws.{carried-bits, carried-room, shifted}
 use Rattle.wide.proofs.division.shift.Statement.{statement}
 use Rattle.wide.proofs.division.shift.Tie as tie
-use Rattle.wide.proofs.division.shift.Reads as reads
-use Rattle.wide.proofs.division.shift.Lts as lts
 
 -- 2 ^ s and 2 ^ (63 - s) make 2 ^ 63
 halves : (s : ℕ) → s < 64 → 2 ^ s * (2 * 2 ^ (63 - s)) ≡ 2 ^ 64
@@ -17,21 +15,6 @@ halves s h =
     let sum : s + (63 - s) ≡ 63 = omega arith in
     let e : 2 ^ s * 2 ^ (63 - s) ≡ 2 ^ 63 = sym (pow-add 2 s (63 - s)) ∙ ap (λ (n : ℕ). 2 ^ n) sum in
     omega arith
-
-shr-t4 : tie.Need-shr-t4
-shr-t4 c = search needs
-
-sub-t6 : tie.Need-sub-t6
-sub-t6 c = search needs
-
-cast-t7 : tie.Need-cast-t7
-cast-t7 c = search needs
-
-shl-t8 : tie.Need-shl-t8
-shl-t8 c = search needs
-
-shr-t10 : tie.Need-shr-t10
-shr-t10 c = search needs
 
 add-t11 : tie.Need-add-t11
 add-t11 c =
@@ -50,4 +33,4 @@ returns c =
     )
 
 pub shift-spec : {M : Type 1} → statement M
-shift-spec = tie.close (tie.spec shr-t4 sub-t6 cast-t7 shl-t8 shr-t10 add-t11 returns)
+shift-spec = tie.close (tie.spec (λ c. search needs) (λ c. search needs) (λ c. search needs) (λ c. search needs) (λ c. search needs) add-t11 returns)

@@ -9,8 +9,6 @@ use lib.Pow.{pow-pos}
 use Rattle.wide.proofs.division.Laws.{by-parts, digit-lt, upper}
 use Rattle.wide.proofs.division.short.Statement.{statement}
 use Rattle.wide.proofs.division.short.Tie as tie
-use Rattle.wide.proofs.division.short.Reads as reads
-use Rattle.wide.proofs.division.short.Lts as lts
 
 positive : (high d : ℕ) → high < d → 0 < d
 positive high d h = omega arith
@@ -18,23 +16,11 @@ positive high d h = omega arith
 words : (high low : ℕ) → (high * 2 ^ 32 + low / 2 ^ 32) * 2 ^ 32 + low % 2 ^ 32 ≡ high * 2 ^ 64 + low
 words high low = omega arith
 
-mul-top : tie.Need-mul-top
-mul-top c = search needs
-
-add-top : tie.Need-add-top
-add-top c = search needs
-
-rem-next : tie.Need-rem-next
-rem-next c = search needs
-
 mul-next : tie.Need-mul-next
 mul-next c = let a = c .before .before in fits-shl 32 32 tt (lt-trans (mod-lt _ (positive (a .args .w .high) (a .args .d) (a .pre .0))) (a .pre .1))
 
 add-next : tie.Need-add-next
 add-next c = let a = c .before .before .before in fits-cat 32 32 tt (lt-trans (mod-lt _ (positive (a .args .w .high) (a .args .d) (a .pre .0))) (a .pre .1)) (mod-lt _ (pow-pos 32))
-
-div-result : tie.Need-div-result
-div-result c = search needs
 
 first-digit : (c : tie.After-struct-known3)
     → (c .before .before .before .args .w .high * 2 ^ 32 + c .before .before .before .args .w .low / 2 ^ 32) / c .before .before .before .args .d < 2 ^ 32
@@ -42,9 +28,6 @@ first-digit c = let a = c .before .before .before in digit-lt (a .args .w .high)
 
 mul-result : tie.Need-mul-result
 mul-result c = fits-shl 32 32 tt (first-digit c)
-
-div-result-2 : tie.Need-div-result-2
-div-result-2 c = search needs
 
 add-result : tie.Need-add-result
 add-result c =
@@ -61,13 +44,13 @@ pub short-spec : {M : Type 1} → statement M
 short-spec =
     tie.close
     (tie.spec
-    mul-top
-    add-top
-    rem-next
+    (λ c. search needs)
+    (λ c. search needs)
+    (λ c. search needs)
     mul-next
     add-next
-    div-result
+    (λ c. search needs)
     mul-result
-    div-result-2
+    (λ c. search needs)
     add-result
     returns)

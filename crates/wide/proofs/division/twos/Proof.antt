@@ -7,8 +7,6 @@ use native.Mathlib.Omega.{arith}
 use lib.Count.{trailingZeros, trailing-le, under}
 use Rattle.wide.proofs.division.twos.Statement.{statement}
 use Rattle.wide.proofs.division.twos.Tie as tie
-use Rattle.wide.proofs.division.twos.Reads as reads
-use Rattle.wide.proofs.division.twos.Lts as lts
 
 -- halved once more while it is even
 divides : (k n : ℕ) → n / 2 ^ trailingZeros k n * 2 ^ trailingZeros k n ≡ n

@@ -6,17 +6,9 @@ use Prim.Native.Nat.{ℕ, _+_, _-_, _*_, _^_}
 use Rattle.wide.proofs.scale.Laws.{fits, large, room, one}
 use Rattle.wide.proofs.scale.scale.Statement.{statement}
 use Rattle.wide.proofs.scale.scale.Tie as tie
-use Rattle.wide.proofs.scale.scale.Reads as reads
-use Rattle.wide.proofs.scale.scale.Lts as lts
-use Rattle.wide.proofs.division.quotient.Reads as quotient-reads
-use Rattle.wide.proofs.word.plus.Reads as plus-reads
-use Rattle.wide.proofs.word.product.Reads as product-reads
 
 returns : tie.Need-returns
 returns c = one _ _ _ _ (c .if1 .taken) (c .before .pre) (omega (arith, c .before .fits .a))
-
-product-requires : tie.Need-product-requires
-product-requires c κs = search needs
 
 plus-requires : tie.Need-plus-requires
 plus-requires c κs = room (2 ^ 64 - 1) (c .product .result .high) (c .product .result .low) _ _ (omega arith) (omega (arith, c .before .before .fits .a)) (omega (arith, c .before .before .fits .n)) (c .product .ensures)
@@ -25,9 +17,6 @@ plus-requires c κs = room (2 ^ 64 - 1) (c .product .result .high) (c .product .
 sum : (c : tie.After-plus)
     → c .plus .result .high * 2 ^ 64 + c .plus .result .low ≡ c .before .before .before .args .a * c .before .before .before .args .n + c .before .before .before .args .more
 sum c = c .plus .ensures ∙ ap (λ (x : ℕ). x + c .before .before .before .args .more) (c .before .product .ensures)
-
-quotient-requires : tie.Need-quotient-requires
-quotient-requires c κs = search needs
 
 returns-2 : tie.Need-returns-2
 returns-2 c =
@@ -42,4 +31,4 @@ returns-3 c =
 pub scale-spec : {M : Type 1} → statement M
 scale-spec =
     tie.close
-    (tie.spec returns product-requires plus-requires quotient-requires returns-2 returns-3)
+    (tie.spec returns (λ c κs. search needs) plus-requires (λ c κs. search needs) returns-2 returns-3)

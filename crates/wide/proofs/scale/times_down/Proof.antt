@@ -3,19 +3,9 @@ use Rattle.wide.specs.Scaling.{floor}
 use borrow.Author.Needs.{needs}
 use Rattle.wide.proofs.scale.times_down.Statement.{statement}
 use Rattle.wide.proofs.scale.times_down.Tie as tie
-use Rattle.wide.proofs.scale.times_down.Reads as reads
-use Rattle.wide.proofs.scale.times_down.Lts as lts
-use Rattle.wide.proofs.scale.scale_down.Reads as scale-down-reads
-use Rattle.wide.proofs.scale.value.Reads as value-reads
-
-scale-down-requires : tie.Need-scale-down-requires
-scale-down-requires c κs = search needs
-
-value-requires : tie.Need-value-requires
-value-requires c κs = search needs
 
 returns : tie.Need-returns
 returns c = let s = c .before .before in let a = s .args in c .value .ensures (a .d) (floor (a .a) (a .n) (a .d)) (c .before .scale-down .ensures) (s .pre .0) (s .pre .1)
 
 pub times-down-spec : {M : Type 1} → statement M
-times-down-spec = tie.close (tie.spec scale-down-requires value-requires returns)
+times-down-spec = tie.close (tie.spec (λ c κs. search needs) (λ c κs. search needs) returns)

@@ -4,14 +4,6 @@ use Rattle.wide.specs.Scaling.{value-is, fits-never-large}
 use borrow.Author.Needs.{needs}
 use Rattle.wide.proofs.scale.value.Statement.{statement}
 use Rattle.wide.proofs.scale.value.Tie as tie
-use Rattle.wide.proofs.scale.value.Reads as reads
-use Rattle.wide.proofs.scale.value.Lts as lts
-
-enum-known-answer : tie.Need-enum-known-answer
-enum-known-answer c = search needs
-
-enum-told : tie.Need-enum-told
-enum-told c = search needs
 
 returns : tie.Need-returns
 returns c = λ d q e h l. value-is d q _ (sym e ∙ c .before .answer .given .1) .is
@@ -20,4 +12,4 @@ returns-2 : tie.Need-returns-2
 returns-2 c = λ d q e h l. absurd (fits-never-large d q h l (sym e ∙ c .enum-told .given .1))
 
 pub value-spec : {M : Type 1} → statement M
-value-spec = tie.close (tie.spec enum-known-answer enum-told returns returns-2)
+value-spec = tie.close (tie.spec (λ c. search needs) (λ c. search needs) returns returns-2)
