@@ -10,7 +10,7 @@ use lib.Dec.{T, ltb, ltb→lt}
 use Rattle.estimate.specs.Fraction.{Fraction, fraction, _≤ᶠ_, _*ᶠ_, whole}
 use Rattle.estimate.specs.FractionLaws.{≤ᶠ-refl}
 use Rattle.estimate.specs.Standing.{exact-low-right, exact-high-right}
-use Rattle.estimate.specs.Table.{both, both-left, both-right}
+use Rattle.laws.specs.Table.{both, both-left, both-right}
 use Rattle.wide.specs.Scaling.{floor, ceiling, scaledUp, answered-value}
 use Rattle.wide.specs.Rounding.{Narrow, floor-le, ceiling-ge, ceiling-≤, scaled-order, scaled-width}
 use Rattle.wide.specs.declared.scale.Scaled.{Scaled}

@@ -22,7 +22,7 @@ use Rattle.report.specs.Report.{reportNumbers, linesIn, projectAnswer, reportAf
 use Rattle.report.specs.DemandLaws.{length-lines}
 use Rattle.report.specs.Accepted.{length-report}
 use Rattle.report_text.specs.Text.{reportText, refusalText}
-use Rattle.report_text.specs.Stores.{Puts, puts-start}
+use Rattle.laws.specs.Stores.{Puts, puts-start}
 
 -- one byte more than the longest file
 abbrev pub inputRoom : ℕ

@@ -15,4 +15,3 @@ pub mod ExponentialBounds
 pub mod Logarithm
 pub mod LogarithmLaws
 pub mod Remainder
-pub mod Table

@@ -8,7 +8,7 @@ use lib.Dec.{T, leb, ltb, eqb, leb→le, ltb→lt, eqb→eq}
 use lib.ListN.{length, getD}
 use Rattle.estimate.specs.Fraction.{_≤ᶠ_, fraction, whole, leᶠ}
 use Rattle.estimate.specs.FractionLaws.{≤ᶠ-refl, leᶠ-sound, whole-mono}
-use Rattle.estimate.specs.Table.{both, both-left, both-right, every, at, allBelow, all-below}
+use Rattle.laws.specs.Table.{both, both-left, both-right, every, at, allBelow, all-below}
 use Rattle.estimate.specs.Exponential.{termNum, termDen, sumNum, partialSum, sumWithTail, expUnder, expOver}
 use Rattle.estimate.specs.ExponentialBounds.{AtMostExp, AtLeastExp, at-most-weaker, at-least-weaker, exp-under-at-most, exp-over-at-least}
 use Rattle.exponential.specs.Scale.{scale, scaled, rounded-down-≤}

@@ -5,7 +5,7 @@ use mathlib.Core.List.{List, [], _∷_, map}
 use native.Mathlib.Omega.{arith}
 use lib.ListN.{getD}
 use lib.Dec.{T, eqb}
-use Rattle.estimate.specs.Table.{allBelow, agree-below-both}
+use Rattle.laws.specs.Table.{allBelow, agree-below-both}
 
 abbrev pub heldFactor : List (List ℕ) → (kind lanes : ℕ) → ℕ
 heldFactor rows kind lanes = getD (getD (map (λ row. getD row 0 1000 ∷ getD row 1 1000 ∷ getD row 2 1000 ∷ []) rows) kind []) lanes 0

@@ -8,7 +8,7 @@ use native.Mathlib.Numerals.{add-one}
 use native.Mathlib.Omega.{arith}
 use lib.Dec.{T, leb, eqb, leb→le, eqb→eq, lit<}
 use lib.ListN.{length, getD}
-use Rattle.estimate.specs.Table.{both, both-left, both-right, every, at}
+use Rattle.laws.specs.Table.{both, both-left, both-right, every, at}
 use Rattle.estimate.specs.Fraction.{Fraction, _≤ᶠ_, _<ᶠ_, leᶠ, fraction, whole, decimal}
 use Rattle.estimate.specs.FractionLaws.{leᶠ-sound, whole-mono, ≤ᶠ-<ᶠ-trans, <ᶠ-≤ᶠ-trans}
 use Rattle.estimate.specs.Exponential.{termNum, termDen, partialSum, sumWithTail, expUnder, expOver, term-den-positive}

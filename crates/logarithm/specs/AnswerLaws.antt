@@ -5,7 +5,7 @@ use mathlib.Core.Path.{_≡_, refl}
 use native.Mathlib.Omega.{arith}
 use borrow.Author.Tests.{le-leb}
 use lib.Dec.{T, leb, leb→le}
-use Rattle.estimate.specs.Table.{both-left, both-right}
+use Rattle.laws.specs.Table.{both-left, both-right}
 use Rattle.bracket.specs.declared.BracketAnswer.the-variants.{Between, OutOfRange}
 use Rattle.logarithm.specs.Logarithm.{logarithmBracket, LogarithmRange, inRange, logarithmAnswer, LogarithmStands}
 use Rattle.logarithm.specs.LogarithmLaws.{logarithm-standing}

@@ -3,7 +3,7 @@ use Prim.Native.Nat.{ℕ, _+_, _*_, _≤_}
 use mathlib.Core.Bool.{Bool, cond}
 use lib.Dec.{leb}
 use Rattle.estimate.specs.Fraction.{whole}
-use Rattle.estimate.specs.Table.{both}
+use Rattle.laws.specs.Table.{both}
 use Rattle.estimate.specs.Logarithm.{lnUnder, lnOver}
 use Rattle.bracket.specs.Bracket.{Stands, AbsoluteWidth, logarithmWidth}
 use Rattle.bracket.specs.declared.Bracket.{Bracket}

@@ -11,7 +11,7 @@ use lib.ListN.{getD}
 use borrow.Author.Tests.{leb-true}
 use Rattle.estimate.specs.Fraction.{Fraction, _≤ᶠ_, fraction, _//_, whole, _^ᶠ_, leᶠ}
 use Rattle.estimate.specs.FractionLaws.{//-num, //-den, ≤ᶠ-refl, leᶠ-sound}
-use Rattle.estimate.specs.Table.{both, both-left, both-right, allBelow, all-below}
+use Rattle.laws.specs.Table.{both, both-left, both-right, allBelow, all-below}
 use Rattle.model.specs.Coefficients.{editionOne, leftTurnOne, rightTurnOne}
 use Rattle.model.specs.Widths.{Column, none, atTraffic, laneColumns, laneColumn, laneValue, shoulderColumns, shoulderColumn, shoulderValue, typeMultipliers, typeValue, ofRelated}
 use Rattle.model.specs.Alignment.{curve, superelevation}

@@ -10,7 +10,7 @@ use lib.Dec.{T, leb, leb→le}
 use Rattle.estimate.specs.Fraction.{Fraction, whole, fraction, _≤ᶠ_}
 use Rattle.estimate.specs.FractionLaws.{whole-mono}
 use Rattle.estimate.specs.Logarithm.{lnUnder, lnOver}
-use Rattle.estimate.specs.Table.{both, both-left, both-right}
+use Rattle.laws.specs.Table.{both, both-left, both-right}
 use Rattle.estimate.specs.LogarithmLaws.{ln-over-≤-ten, ln-under-≤-ten}
 use Rattle.model.specs.Widths.{Column, none, laneColumns, shoulderColumns}
 

@@ -7,7 +7,7 @@ use native.Mathlib.Nat.{add-zero}
 use native.Mathlib.Omega.{arith}
 use lib.Dec.{T, leb, ltb, eqb, leb→le, ltb→lt, eqb→eq, lit<}
 use lib.ListN.{length, getD}
-use Rattle.estimate.specs.Table.{both, both-left, both-right, every, at}
+use Rattle.laws.specs.Table.{both, both-left, both-right, every, at}
 use Rattle.estimate.specs.Power.{powerLargest, power-largest-value}
 use Rattle.power.specs.Exponents.{exponentAt}
 use Rattle.power.specs.Stored.{storedLow, storedHigh, entry, StoredPowers}

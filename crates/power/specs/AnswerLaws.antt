@@ -5,7 +5,7 @@ use mathlib.Core.Path.{_≡_, refl}
 use native.Mathlib.Omega.{arith}
 use borrow.Author.Tests.{le-leb, lt-ltb, eq-eqb}
 use lib.Dec.{T, leb, eqb, leb→le, ltb→lt, eqb→eq}
-use Rattle.estimate.specs.Table.{both-left, both-right}
+use Rattle.laws.specs.Table.{both-left, both-right}
 use Rattle.bracket.specs.declared.BracketAnswer.the-variants.{Between, OutOfRange}
 use Rattle.remainder.specs.Remainder.{Exponent}
 use Rattle.power.specs.Exponents.{placeOf, place-of-holds, exponent-small}

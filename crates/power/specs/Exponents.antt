@@ -9,7 +9,7 @@ use native.Mathlib.Decide.{ℕ-discrete}
 use borrow.Author.Tests.{eq-eqb, ne-eqb}
 use lib.Dec.{eqb, leb, leb→le}
 use lib.ListN.{length, getD}
-use Rattle.estimate.specs.Table.{at}
+use Rattle.laws.specs.Table.{at}
 use Rattle.remainder.specs.Remainder.{Exponent}
 
 -- "A^0.79", "B^0.49", "0.60, 0.61", "0.60, 0.20"

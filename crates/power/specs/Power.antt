@@ -3,7 +3,7 @@ use Prim.Native.Nat.{ℕ, _*_, _≤_, _<_}
 use mathlib.Core.Bool.{Bool, cond}
 use mathlib.Core.Path.{_≡_}
 use lib.Dec.{leb, ltb, eqb}
-use Rattle.estimate.specs.Table.{both}
+use Rattle.laws.specs.Table.{both}
 use Rattle.estimate.specs.Power.{powerUnder, powerOver}
 use Rattle.wide.specs.Scaling.{floor, ceiling}
 use Rattle.bracket.specs.Bracket.{Stands, RelativeWidth, powerWidth}

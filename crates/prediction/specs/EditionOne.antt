@@ -3,7 +3,7 @@ use Prim.Native.Nat.{ℕ, _*_, _≤_}
 use native.Mathlib.Omega.{arith}
 use lib.Dec.{T, lit≤}
 use Rattle.estimate.specs.Fraction.{fraction, _//_, whole, _^ᶠ_}
-use Rattle.estimate.specs.Table.{allBelow, all-below}
+use Rattle.laws.specs.Table.{allBelow, all-below}
 use Rattle.bracket.specs.Pieces.{Kept, bounds, hasRoom, grown, absoluteMost}
 use Rattle.site.specs.declared.values.Site.{Site}
 use Rattle.site.specs.declared.values.Slot.{Slot}

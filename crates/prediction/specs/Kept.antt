@@ -7,7 +7,7 @@ use native.Mathlib.Omega.{arith}
 use lib.Dec.{T, leb, leb→le, lit<, lit≤}
 use Rattle.estimate.specs.Fraction.{Fraction, fraction, _≤ᶠ_, _=ᶠ_, _//_, whole, _*ᶠ_, _^ᶠ_, tenThousandths}
 use Rattle.estimate.specs.FractionLaws.{≤ᶠ-trans}
-use Rattle.estimate.specs.Table.{both, both-left, both-right, allBelow, all-below}
+use Rattle.laws.specs.Table.{both, both-left, both-right, allBelow, all-below}
 use Rattle.estimate.specs.Exponential.{sumWithTail, sumNum, termNum, termDen}
 use Rattle.estimate.specs.ExponentialBounds.{exp-under-≤-over, exp-neg-under-≤-over}
 use Rattle.bracket.specs.declared.Bracket.{Bracket}

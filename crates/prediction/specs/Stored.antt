@@ -7,7 +7,7 @@ use lib.Dec.{T, eqb}
 use lib.ListN.{getD}
 use Rattle.estimate.specs.Fraction.{fraction, inverse, tenThousandths}
 use Rattle.estimate.specs.Exponential.{expUnder, expOver, expNegUnder, expNegOver, partialSum, sumWithTail, sumNum, termNum, termDen}
-use Rattle.estimate.specs.Table.{allBelow, agree-below}
+use Rattle.laws.specs.Table.{allBelow, agree-below}
 use Rattle.bracket.specs.declared.Bracket.{Bracket}
 use Rattle.bracket.specs.Rounded.{roundedOutward}
 use Rattle.model.specs.Coefficients.{Coefficients, editionOne}

@@ -12,7 +12,7 @@ use Rattle.site.specs.declared.values.SiteAnswer.{SiteAnswer}
 use Rattle.site.specs.declared.values.SiteAnswer.the-variants as site
 use Rattle.site.specs.Record.{readSite}
 use Rattle.site.specs.Promises.{ReadsSite}
-use Rattle.site.proofs.Walk.{part-from}
+use Rattle.laws.specs.Walk.{part-from}
 use Rattle.model.specs.Predicted.{inLimits}
 use Rattle.project.specs.declared.Header.{Header}
 use Rattle.project.specs.declared.ScanAnswer.{ScanAnswer}

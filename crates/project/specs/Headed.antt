@@ -7,7 +7,7 @@ use native.Mathlib.Omega.{arith}
 use lib.ListN.{length}
 use lib.Dec.{ltb, leb, eqb}
 use borrow.Author.Tests.{ltb-false, le-ltb, eqb-true, eq-eqb, leb-true, le-leb}
-use Rattle.site.specs.Truth.{and-left, and-right, passed}
+use Rattle.laws.specs.Truth.{and-left, and-right, passed}
 use Rattle.model.specs.Predicted.{inLimits}
 use Rattle.project.specs.File.{headerLength, editionIn, headerIn, countIn, mostSites, headerNumber}
 

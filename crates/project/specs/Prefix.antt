@@ -14,7 +14,7 @@ use Rattle.site.specs.declared.values.SiteAnswer.the-variants as site
 use Rattle.site.specs.Rules.{entriesOf, lastKind}
 use Rattle.site.specs.Record.{word, curved, kindIn, mapIn, rulesIn, lengthIn, readSite}
 use Rattle.site.specs.Tested.{tested-rules}
-use Rattle.site.specs.Truth.{or-left}
+use Rattle.laws.specs.Truth.{or-left}
 use Rattle.site.specs.BytesRead.{headRefused, bears, past-nothing}
 use Rattle.site.specs.Theorems.{words-most, longest, read-length}
 use Rattle.project.specs.declared.ScanAnswer.the-variants.{Refused}

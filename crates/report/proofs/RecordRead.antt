@@ -8,7 +8,7 @@ use Rattle.site.specs.declared.values.SiteAnswer.{SiteAnswer}
 use Rattle.site.specs.declared.values.SiteAnswer.the-variants.{Read, Refused}
 use Rattle.site.specs.Record.{readSite}
 use Rattle.site.specs.Promises.{ReadsSite}
-use Rattle.site.proofs.Walk.{part-from}
+use Rattle.laws.specs.Walk.{part-from}
 use Rattle.model.specs.Coefficients.{editionOne}
 use Rattle.model.specs.Predicted.{Header}
 use Rattle.line.specs.declared.Line.{Line}

@@ -19,7 +19,8 @@ use Rattle.project.specs.Headed.{accepted-header}
 use Rattle.project.specs.Scan.{scan-past-header, accepted-exactly}
 use Rattle.project.specs.SitesRead.{AcceptedFile, accepted-sites}
 use Rattle.project.specs.Causes.{reportLength}
-use Rattle.report.specs.Report.{numbersOf, allNumbers, noLine, totalOf, reportNumbers, linesIn, laidOver}
+use Rattle.laws.specs.Lent.{laidOver}
+use Rattle.report.specs.Report.{numbersOf, allNumbers, noLine, totalOf, reportNumbers, linesIn}
 use Rattle.report.specs.Demand.{Demand}
 use Rattle.report.specs.DemandLaws.{AllValid, length-lines, report-each, report-totals}
 use Rattle.report.specs.Fill.{fillFrom, fill-report}

@@ -8,7 +8,7 @@ use native.Mathlib.Omega.{arith}
 use Rattle.site.specs.Record.{readSite}
 use Rattle.site.specs.Theorems.{longest, read-length}
 use Rattle.site.specs.ReadWrite.{read-valid}
-use Rattle.site.proofs.Walk.{sets-append}
+use Rattle.laws.specs.Stores.{sets-more}
 use Rattle.model.specs.Coefficients.{editionOne}
 use Rattle.model.specs.Predicted.{Header}
 use Rattle.prediction.specs.PredictedLaws.{HeaderMost}
@@ -121,7 +121,7 @@ module _ {header : Header} (limits : HeaderMost header) {s : List ℕ} {n : ℕ}
         next : sets (sets report (4 * i) (numbersOf line)) (4 * (i + 1)) rest ≡ whole
         next =
             let e : 4 * (i + 1) ≡ 4 * i + 4 = omega arith in
-            rw e (sym (sets-append report (4 * i) (numbersOf line) rest) ∙ ap (sets report (4 * i)) (sym opened) ∙ k .filled)
+            rw e ((sets-more report (4 * i) (numbersOf line) rest) ∙ ap (sets report (4 * i)) (sym opened) ∙ k .filled)
 
 -- WHAT A FILL ASKS: a header within its limits, records that a scan has passed, and room for the report
 pub record Fillable (s : List ℕ) (header : file.Header) (room : ℕ) : Type 0 where

@@ -12,7 +12,8 @@ use Rattle.project.specs.File.{scanFile}
 use Rattle.report.specs.declared.ProjectAnswer.{ProjectAnswer}
 use Rattle.report.specs.declared.ProjectAnswer.the-variants.{Reported, Refused}
 use Rattle.project.specs.Causes.{reportLength}
-use Rattle.report.specs.Report.{reportNumbers, linesIn, laidOver, spaced, projectAnswer, answerValue, reportAfter}
+use Rattle.laws.specs.Lent.{laidOver}
+use Rattle.report.specs.Report.{reportNumbers, linesIn, spaced, projectAnswer, answerValue, reportAfter}
 use Rattle.report.specs.Demand.{Demand, AnswerMeets}
 use Rattle.report.specs.ReaderCauses.{reported-exactly, refused-by-first-cause}
 

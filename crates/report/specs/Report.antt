@@ -3,8 +3,9 @@
 use Prim.Native.Nat.{ℕ, _+_}
 use mathlib.Core.Bool.{cond}
 use mathlib.Core.List.{List, [], _∷_, _++_, map}
-use lib.ListN.{length, drop}
+use lib.ListN.{length}
 use lib.Dec.{leb}
+use Rattle.laws.specs.Lent.{laidOver}
 use Rattle.model.specs.Coefficients.{editionOne}
 use Rattle.line.specs.declared.Line.{Line}
 use Rattle.line.specs.Line.{lineOf}
@@ -64,10 +65,6 @@ answerNumber (Refused number place) = number
 abbrev pub answerValue : ProjectAnswer → ℕ
 answerValue (Reported count) = count
 answerValue (Refused number place) = place
-
--- numbers from the start of a run, the rest as it was
-abbrev pub laidOver : (numbers before : List ℕ) → List ℕ
-laidOver numbers before = numbers ++ drop (length numbers) before
 
 -- the report afterwards, number for number: "Left as it was: report"
 abbrev pub written : ProjectAnswer → (numbers before : List ℕ) → List ℕ

@@ -20,7 +20,7 @@ use Rattle.site.specs.declared.values.Slot.{Slot}
 use Rattle.site.specs.declared.values.Slot.the-variants.{Absent, Number}
 use Rattle.site.specs.Rules as rules
 use Rattle.site.specs.Ranges.{segment-ranges}
-use Rattle.site.specs.Truth.{and-left, and-right}
+use Rattle.laws.specs.Truth.{and-left, and-right}
 use Rattle.site.specs.Writing.{Valid}
 use Rattle.model.specs.Coefficients.{editionOne}
 use Rattle.model.specs.Widths.{lane, shoulder}

@@ -1,4 +1,3 @@
 pub mod Text
-pub mod Stores
 pub mod Decimal
 pub mod Lines

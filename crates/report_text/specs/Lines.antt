@@ -7,7 +7,7 @@ use native.Mathlib.Nat.{add-zero}
 use lib.ListN.{length, getD, drop, set, length-append, length-drop, length-set, drop-of-length-le}
 use lib.Seq.{sets, drop-cons, length-sets}
 use Rattle.report_text.specs.Text.{digit, decimalText, endedText, lineText, reportText}
-use Rattle.report_text.specs.Stores.{Puts, sets-more, set-first}
+use Rattle.laws.specs.Stores.{Puts, sets-more, set-first}
 use Rattle.report_text.specs.Decimal.{decimal-one, decimal-more, length-digits, decimal-short}
 
 -- one digit more, before those that are stored

@@ -4,7 +4,7 @@ ghost use Prim.Native.Nat.{_+_, _*_, _≤_};
 ghost use lib.ListN.{length};
 ghost use lib.Seq.{sets};
 ghost use Rattle.report_text.specs.Text.{decimalText, endedText, lineText, reportText, refusalText};
-ghost use Rattle.report_text.specs.Stores.{Puts};
+ghost use Rattle.laws.specs.Stores.{Puts};
 
 // How many digits a number has.
 fn digit_count(n: u64) -> usize

@@ -1,3 +1,2 @@
 -- What the proofs share, here and in the reader and the writer.
-pub mod Walk
 pub mod ReadSteps

@@ -12,7 +12,7 @@ use Rattle.site.specs.declared.rules.Rule.{Rule}
 use Rattle.site.specs.declared.values.Slot.{Slot}
 use Rattle.site.specs.Rules.{slotCount}
 use Rattle.site.specs.Record.{restOf, anyField, fieldWords, words, fieldNumber, fieldValue, after, fieldsNumber, fieldsValues}
-use Rattle.site.proofs.Walk.{next, at-end, fill-start, fill-more}
+use Rattle.laws.specs.Walk.{next, at-end, fill-start, fill-more}
 
 -- a loop that looks for a field that passes a test
 module _ {A : Type 0} (rule : A → Rule) (test : A → ℕ → Bool) (last : ℕ → Bool) (xs : List A) (i map : ℕ) (whole : Bool) (count : length xs ≡ slotCount) (inv : anyField rule test last (drop i xs) map ≡ whole) where

@@ -11,7 +11,7 @@ use Rattle.site.specs.declared.values.SiteAnswer.the-variants.{Read, Ref
 use Rattle.site.specs.Rules.{lastKind}
 use Rattle.site.specs.Answers.{readAnswer, readNumber}
 use Rattle.site.specs.Record.{lacks, misses, words, fieldsNumber, kindIn, mapIn, rulesIn, lengthIn, siteIn, recordNumber, refusalOf, readSite}
-use Rattle.site.specs.Truth.{passed}
+use Rattle.laws.specs.Truth.{passed}
 
 pub record Accepted (s : List ℕ) : Type 0 where
   pub long : 3 ≤ length s

@@ -20,7 +20,7 @@ use Rattle.site.specs.declared.values.Slot.the-variants.{Absent, Number}
 use Rattle.site.specs.Rules.{absentOf, needed, lacking, bits, settle}
 use Rattle.site.specs.Record.{word, restOf, stands, anyField, neededBitAbsent, lacks, misses, curved, words, valueNumber, fieldNumber, after, fieldsNumber, fieldsValues}
 use Rattle.site.specs.Fields.{bitAt, standing}
-use Rattle.site.specs.Truth.{and-left, and-right, or-left, or-right, both-zero}
+use Rattle.laws.specs.Truth.{and-left, and-right, or-left, or-right, both-zero}
 use Rattle.site.specs.Tested.{right, entryRight, entriesRight}
 
 -- a bit of a map is its digit by powers of 2

@@ -15,7 +15,7 @@ use Rattle.site.specs.declared.values.Slot.the-variants.{Absent, Number}
 use Rattle.site.specs.declared.values.Site.{Site}
 use Rattle.site.specs.Rules.{entriesOf, bits}
 use Rattle.site.specs.Writing.{slotsOf, curveHeld, rulesHeld, fits, allFit, slotBit, mapOf, slotBytes, fieldBytes, bytesOf, recordBy, recordOf, Valid}
-use Rattle.site.specs.Truth.{and-left, and-right}
+use Rattle.laws.specs.Truth.{and-left, and-right}
 use Rattle.site.specs.Digits.{Bytes}
 use Rattle.site.specs.Tested.{bitCount, top, topsLow, bits-most, allows-top, tested-rules}
 use Rattle.site.specs.Ranges.{valid-fits, valid-kind}

@@ -9,7 +9,7 @@ use borrow.Author.Tests.{not-false}
 use Rattle.site.specs.Rules.{entriesOf, lastKind, segment, settle}
 use Rattle.site.specs.Record.{anyField, misses, curved, rulesRead}
 use Rattle.site.specs.Fields.{bitAt, roadCurves}
-use Rattle.site.specs.Truth.{and-right}
+use Rattle.laws.specs.Truth.{and-right}
 
 -- 6 and 7 stand together, and 8 and 9 only with them
 abbrev pub matched : Bool → Bool → Bool → Bool → Bool

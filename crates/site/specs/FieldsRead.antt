@@ -22,7 +22,7 @@ use Rattle.site.specs.Rules.{entriesOf, lastKind, inside, allows, absent
 use Rattle.site.specs.Record.{anyField, lackedBitStands, lacks, misses, curved, rulesRead, word, words, valueNumber, fieldsNumber, fieldsValues, kindIn, mapIn, rulesIn, lengthIn, siteIn, readSite}
 use Rattle.site.specs.Fields.{Absence, never, no-number, usual, on-curve, Field, lacked, field, Row, bit, rowsOf, fieldAt, mapBits, lackedFrom, lackedBits, fieldIn, othersOf, bitAt, standing, numberAt, inRange, isUsual, spellsDefault, AbsentAs, FieldRead, BitRead, AllAbsent, FieldsRead}
 use Rattle.site.specs.Writing.{slotsOf}
-use Rattle.site.specs.Truth.{and-left, and-right, or-left, or-right, not-both}
+use Rattle.laws.specs.Truth.{and-left, and-right, or-left, or-right, not-both}
 use Rattle.site.specs.Tested.{tested-rules}
 use Rattle.site.specs.Accepted.{Accepted, reading}
 use Rattle.site.specs.ReadWrite.{slots-again}

@@ -1,12 +1,10 @@
--- What a reader of the site crate must believe (Rules, Answers, Record, Lent, Writing), document 01's bits by number beside it
+-- What a reader of the site crate must believe (Rules, Answers, Record, Writing), document 01's bits by number beside it
 -- (Fields), what is proved of them, and last what the public calls promise.
 pub mod Rules
 pub mod Answers
 pub mod Record
 pub mod Fields
-pub mod Lent
 pub mod Writing
-pub mod Truth
 pub mod Digits
 pub mod Tested
 pub mod Accepted

@@ -15,7 +15,7 @@ use Rattle.site.specs.declared.values.Site.{Site}
 use Rattle.site.specs.Rules as rules
 use Rattle.site.specs.Rules.{entriesOf, lastKind, segment, crossing, inside, settled, settle}
 use Rattle.site.specs.Writing.{slotsOf, curveHeld, rulesHeld, fits, allFit, sound, Valid}
-use Rattle.site.specs.Truth.{and-left, and-right}
+use Rattle.laws.specs.Truth.{and-left, and-right}
 
 -- a slot holds a number from low to high
 pub record Within (low high : ℕ) (slot : Slot) : Type 0 where

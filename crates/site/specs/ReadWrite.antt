@@ -18,7 +18,7 @@ use Rattle.site.specs.declared.values.SiteAnswer.the-variants.{Read}
 use Rattle.site.specs.Rules.{entriesOf, lastKind, slotCount, allows, absentOf, needed, bits, settle, absent, holds}
 use Rattle.site.specs.Record.{word, bitOf, restOf, stands, lackedBitStands, neededBitAbsent, anyField, lacks, misses, curved, rulesRead, words, valueNumber, fieldNumber, fieldValue, after, fieldsNumber, fieldsValues, siteOf, kindIn, mapIn, rulesIn, lengthIn, siteIn, readSite}
 use Rattle.site.specs.Writing.{slotsOf, curveHeld, rulesHeld, fits, allFit, slotBit, mapOf, fieldBytes, bytesOf, recordBy, recordOf, sound, Valid}
-use Rattle.site.specs.Truth.{and-left, and-right, or-left, or-right, both-zero}
+use Rattle.laws.specs.Truth.{and-left, and-right, or-left, or-right, both-zero}
 use Rattle.site.specs.Digits.{Bytes, digit-whole, digit-most, bytes-of-word}
 use Rattle.site.specs.Tested.{right, rulesRight, entryRight, entriesRight, bits-most, tested-rules}
 use Rattle.site.specs.Accepted.{Accepted, reading}

@@ -14,7 +14,7 @@ use Rattle.site.specs.Rules.{lastKind}
 use Rattle.site.specs.Answers.{readNumber}
 use Rattle.site.specs.Record.{lacks, misses, words, fieldsNumber, kindIn, mapIn, rulesIn, recordNumber, refusalOf, readSite}
 use Rattle.site.specs.Fields.{lacked, mapBits, fieldIn, bitAt, standing, numberAt, fieldsEnd, inRange, spellsDefault}
-use Rattle.site.specs.Truth.{not-both}
+use Rattle.laws.specs.Truth.{not-both}
 use Rattle.site.specs.Accepted.{accepted, accept, number-read}
 use Rattle.site.specs.BitLaws.{bitNumber, first-refused, refused-first}
 use Rattle.site.specs.Curve.{mapMatched, misses-by-bits}

@@ -14,7 +14,7 @@ use Rattle.site.specs.declared.rules.Entry.the-variants.{Always, OnCurve
 use Rattle.site.specs.declared.values.Slot.the-variants.{Absent}
 use Rattle.site.specs.Rules.{entriesOf, lastKind, slotCount, allows, absentOf, needed, lacking, bits, ruleOf, onCurve, settled, settle}
 use Rattle.site.specs.Writing.{fits}
-use Rattle.site.specs.Truth.{and-left, and-right}
+use Rattle.laws.specs.Truth.{and-left, and-right}
 
 -- what an absent field is read as is within its rule, unless the field is needed: a default lies in its range
 abbrev pub right : Rule → Bool

@@ -18,7 +18,7 @@ use Rattle.site.specs.declared.values.SiteAnswer.the-variants.{Read}
 use Rattle.site.specs.Rules.{entriesOf, lastKind, slotCount, allows, absentOf, needed, lacking, bits, settle, absent, holds}
 use Rattle.site.specs.Record.{bitOf, stands, lackedBitStands, neededBitAbsent, anyField, lacks, misses, curved, rulesRead, words, fieldNumber, fieldValue, after, fieldsNumber, fieldsValues, siteOf, readSite}
 use Rattle.site.specs.Writing.{slotsOf, curveHeld, rulesHeld, fits, allFit, slotBit, mapOf, slotBytes, fieldBytes, bytesOf, recordBy, recordOf, Valid}
-use Rattle.site.specs.Truth.{and-left, and-right, not-both}
+use Rattle.laws.specs.Truth.{and-left, and-right, not-both}
 use Rattle.site.specs.Digits.{digit-low, digit-rest, two-bytes}
 use Rattle.site.specs.Ranges.{valid-fits, valid-kind}
 use Rattle.site.specs.Tested.{right, entryRight, entriesRight, hasCurve, needsCurve, bits-most, allows-bit, needed-bit, tested-rules, entries-count}

@@ -13,7 +13,7 @@ use Rattle.site.specs.declared.values.Site.{Site}
 use Rattle.site.specs.declared.values.WriteAnswer.{WriteAnswer}
 use Rattle.site.specs.Rules.{entriesOf, lastKind, allows, absentOf, needed, bits, onCurve, settle, absent, holds}
 use Rattle.site.specs.Answers.{wroteAnswer}
-use Rattle.site.specs.Lent.{laid}
+use Rattle.laws.specs.Lent.{laid}
 
 -- the slots of a site, in the order of the rules
 abbrev pub slotsOf : Site → List Slot

@@ -15,7 +15,8 @@ use Rattle.site.specs.declared.values.Slot.{Slot}
 use Rattle.site.specs.declared.values.Slot.the-variants.{Number}
 use Rattle.site.specs.Rules.{slotCount, bits}
 use Rattle.site.specs.Writing.{slotBit, mapOf, slotBytes, fieldBytes, bytesOf}
-use Rattle.site.proofs.Walk.{next, at-end, sets-append}
+use Rattle.laws.specs.Walk.{next, at-end}
+use Rattle.laws.specs.Stores.{sets-more}
 
 -- what a walk of two lists, one element of each at a turn, says of them from place i on
 module _ {A B C : Type 0} (walk : List A → List B → C) (xs : List A) (ys : List B) (i : ℕ) (count : length xs ≡ slotCount) (count′ : length ys ≡ slotCount) where
@@ -54,7 +55,7 @@ module _ (rules : List Rule) (slots : List Slot) (i : ℕ) (count : length rules
       → sets last after (bytesOf (drop (i + 1) rules) (drop (i + 1) slots)) ≡ whole
   put-more d e buffer last whole at after h inv ea el =
       rw (ea, el)
-      (sym (sets-append buffer at (fieldBytes (getD rules i d) (getD slots i e)) (bytesOf (drop (i + 1) rules) (drop (i + 1) slots)))
+      ((sets-more buffer at (fieldBytes (getD rules i d) (getD slots i e)) (bytesOf (drop (i + 1) rules) (drop (i + 1) slots)))
       ∙ ap (sets buffer at) (sym (bytes-next d e h)) ∙ inv)
 
   pub put-end : (buffer whole : List ℕ) (at : ℕ) → slotCount ≤ i

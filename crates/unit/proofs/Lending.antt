@@ -5,7 +5,7 @@ use mathlib.Core.List.{List, [], _∷_}
 use native.Mathlib.Omega.{arith}
 use lib.ListN.{length, set, drop}
 use borrow.Author.Tests.{lt-leb, le-leb}
-use Rattle.site.specs.Lent.{laid}
+use Rattle.laws.specs.Lent.{laid}
 use Rattle.unit.specs.Lent.{numberWithin}
 
 four-stored : (run : List ℕ) (a b c d : ℕ) → 4 ≤ length run → set (set (set (set run 0 a) 1 b) 2 c) 3 d ≡ a ∷ b ∷ c ∷ d ∷ drop 4 run

@@ -20,7 +20,8 @@ use Rattle.site.specs.Writing.{slotsOf, writeAnswer, writeInto}
 use Rattle.unit.specs.SiteNumbers.{code, readValues, slotFrom, kindFrom, slotNumbers, siteFrom, siteNumbers, answerNumbers}
 use Rattle.site.specs.Promises.{WritesSite}
 use Rattle.unit.specs.SiteNumbers.{ReadsNumbers, WritesNumbers}
-use Rattle.site.proofs.Walk.{next, at-end, sets-append}
+use Rattle.laws.specs.Walk.{next, at-end}
+use Rattle.laws.specs.Stores.{sets-more}
 
 -- a loop that stores f of each element, from one place past its index
 module _ {A : Type 0} (f : A → ℕ) (xs : List A) (i : ℕ) (l whole : List ℕ) (count : length xs ≡ slotCount)
@@ -43,7 +44,7 @@ pub all-values : (site : Site) (n : ℕ) (l middle : List ℕ) (slots : List Slo
     → middle ≡ sets (set l 0 (site .kind)) 1 (map code slots)
     → set middle siteNumbers n ≡ sets l 0 (readValues (Read site n))
 all-values site n l middle slots es em =
-    rw (em, es) (sym (sets-append (set l 0 (site .kind)) 1 (map code (slotsOf site)) (n ∷ [])))
+    rw (em, es) ((sets-more (set l 0 (site .kind)) 1 (map code (slotsOf site)) (n ∷ [])))
 
 module _ (part before : List ℕ) (answer : SiteAnswer) (ea : answer ≡ readSite part) where
   pub refused-number : (number : ℕ) → answer ≡ Refused number → ReadsNumbers part before before number

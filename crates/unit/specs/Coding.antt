@@ -18,7 +18,7 @@ use Rattle.site.specs.declared.values.SiteAnswer.the-variants.{Read}
 use Rattle.site.specs.Rules.{entriesOf, slotCount}
 use Rattle.site.specs.Record.{siteOf}
 use Rattle.site.specs.Writing.{slotsOf, curveHeld, rulesHeld, fits, allFit, sound, Valid}
-use Rattle.site.specs.Truth.{and-left, and-right}
+use Rattle.laws.specs.Truth.{and-left, and-right}
 use Rattle.site.specs.Tested.{top, topsLow, allows-top, tested-rules}
 use Rattle.site.specs.Ranges.{valid-fits, valid-kind}
 use Rattle.site.specs.ReadWrite.{slots-of-site}

@@ -6,7 +6,7 @@ use mathlib.Core.List.{List, [], _∷_}
 use lib.ListN.{length, getD}
 use lib.Dec.{leb}
 use Rattle.site.specs.declared.values.Site.{Site}
-use Rattle.site.specs.Lent.{laid}
+use Rattle.laws.specs.Lent.{laid}
 use Rattle.site.specs.Writing.{sound}
 use Rattle.model.specs.Coefficients.{editionOne}
 use Rattle.model.specs.Predicted.{Header, inLimits}

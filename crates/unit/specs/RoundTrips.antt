@@ -12,7 +12,7 @@ use Rattle.site.specs.declared.values.Site.{Site}
 use Rattle.site.specs.declared.values.SiteAnswer.the-variants.{Read}
 use Rattle.site.specs.declared.values.WriteAnswer.{WriteAnswer}
 use Rattle.site.specs.declared.values.WriteAnswer.the-variants.{Written}
-use Rattle.site.specs.Truth.{chosen}
+use Rattle.laws.specs.Truth.{chosen}
 use Rattle.site.specs.Digits.{Bytes}
 use Rattle.site.specs.Answers.{readNumber, writeNumber, writeLength}
 use Rattle.site.specs.Record.{siteIn, lengthIn, readSite}

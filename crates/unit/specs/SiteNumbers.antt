@@ -12,7 +12,7 @@ use Rattle.site.specs.declared.values.SiteAnswer.{SiteAnswer}
 use Rattle.site.specs.declared.values.SiteAnswer.the-variants.{Read, Refused}
 use Rattle.site.specs.Rules.{slotCount}
 use Rattle.site.specs.Answers.{readNumber, writeNumber, writeLength}
-use Rattle.site.specs.Lent.{laid}
+use Rattle.laws.specs.Lent.{laid}
 use Rattle.site.specs.Record.{siteOf, readSite}
 use Rattle.site.specs.Writing.{slotsOf, writeAnswer, writeInto}
 use Rattle.unit.specs.Lent.{numberWithin}

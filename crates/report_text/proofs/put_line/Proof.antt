@@ -1,7 +1,7 @@
 use native.Mathlib.Omega.{arith}
 use borrow.Author.Needs.{needs}
 use Rattle.report_text.specs.Text.{lineText}
-use Rattle.report_text.specs.Stores.{puts-more}
+use Rattle.laws.specs.Stores.{puts-more}
 use Rattle.report_text.proofs.put_line.Statement.{statement}
 use Rattle.report_text.proofs.put_line.Tie as tie
 

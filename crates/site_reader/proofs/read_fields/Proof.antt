@@ -7,7 +7,7 @@ use lib.ListN.{length}
 use lib.Dec.{ltb}
 use borrow.Author.Tests.{lt-ltb, le-ltb, eq-eqb, ne-eqb}
 use Rattle.site.specs.declared.rules.Rule.{Rule}
-use Rattle.site.specs.Truth.{passed}
+use Rattle.laws.specs.Truth.{passed}
 use Rattle.site.specs.Record.{lacks, misses, words, fieldsNumber, recordNumber}
 use borrow.Author.Needs.{needs}
 use Rattle.site_reader.proofs.read_fields.Statement.{statement}

@@ -1,7 +1,7 @@
 -- `site_reader::read_site` meets its contract. Kind and map are there, then the fields are read by their rules.
 use borrow.Author.Tests.{lt-ltb, le-ltb}
 use denote.Ref.{now}
-use Rattle.site.proofs.Walk.{part-from}
+use Rattle.laws.specs.Walk.{part-from}
 use Rattle.site.specs.Record.{refusalOf, readSite}
 use Rattle.site.specs.Promises.{reads-site}
 use borrow.Author.Needs.{needs}

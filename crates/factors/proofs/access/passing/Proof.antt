@@ -3,7 +3,7 @@ use native.Mathlib.Omega.{arith}
 use mathlib.Core.List.{[], _∷_}
 use Prim.Native.Nat.{_<_}
 use lib.ListN.{getD}
-use Rattle.estimate.specs.Table.{allBelow, agree-below}
+use Rattle.laws.specs.Table.{allBelow, agree-below}
 use Rattle.estimate.specs.Fraction.{_//_, fraction}
 use Rattle.model.specs.Access.{passing}
 use Rattle.factors.proofs.access.passing.Statement.{statement}

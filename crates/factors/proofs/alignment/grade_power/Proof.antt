@@ -3,7 +3,7 @@ use native.Mathlib.Omega.{arith}
 use mathlib.Core.List.{List, [], _∷_}
 use Prim.Native.Nat.{ℕ, _^_, _<_}
 use lib.ListN.{getD}
-use Rattle.estimate.specs.Table.{allBelow, agree-below}
+use Rattle.laws.specs.Table.{allBelow, agree-below}
 use Rattle.estimate.specs.Fraction.{_//_, fraction, _^ᶠ_}
 use Rattle.factors.proofs.alignment.grade_power.Statement.{statement}
 use Rattle.factors.proofs.alignment.grade_power.Tie as tie

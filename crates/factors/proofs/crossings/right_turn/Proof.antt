@@ -1,5 +1,5 @@
 use borrow.Author.Needs.{needs}
-use Rattle.estimate.specs.Table.{allBelow}
+use Rattle.laws.specs.Table.{allBelow}
 use Rattle.estimate.specs.Fraction.{_//_, fraction}
 use Rattle.model.specs.Coefficients.{editionOne, rightTurnOne}
 use Rattle.model.specs.Crossings.{rightTurn}

@@ -1,5 +1,5 @@
 -- The table has the parts' brackets: one computed test of each end.
-use Rattle.estimate.specs.Table.{allBelow}
+use Rattle.laws.specs.Table.{allBelow}
 use Rattle.model.specs.Coefficients.{editionOne}
 use Rattle.prediction.specs.Stored.{storedBracket, basePart, parts-by-test}
 use Rattle.prediction.proofs.stored.stored_bases.Statement.{statement}

@@ -1,5 +1,5 @@
 -- The table has the parts' brackets: one computed test of each end.
-use Rattle.estimate.specs.Table.{allBelow}
+use Rattle.laws.specs.Table.{allBelow}
 use Prim.Native.Nat.{suc}
 use Rattle.model.specs.Parts.{hazard}
 use Rattle.prediction.specs.Stored.{storedBracket, parts-by-test}

@@ -13,7 +13,7 @@ pub record Puts (before : List ℕ) (at : ℕ) (text : List ℕ) (place : ℕ) (
   pub stored : after ≡ sets before at text
 
 -- two runs, one behind the other, are one run
-pub sets-more : (l : List ℕ) (i : ℕ) (a b : List ℕ) → sets (sets l i a) (i + length a) b ≡ sets l i (a ++ b)
+pub sets-more : {A : Type 0} (l : List A) (i : ℕ) (a b : List A) → sets (sets l i a) (i + length a) b ≡ sets l i (a ++ b)
 sets-more l i [] b = rw (add-zero i) refl
 sets-more l i (x ∷ a) b =
     let e : i + suc (length a) ≡ suc i + length a = omega arith in

@@ -1,8 +1,7 @@
 -- Laws of a loop that walks a list by its index: the element at i before those after it, and a list that is filled from i on.
 use mathlib.Core.Path.{_≡_, ap, sym, _∙_}
-use mathlib.Core.List.{List, [], _∷_, _++_, append-nil}
-use Prim.Native.Nat.{ℕ, suc, _+_, _-_, _<_, _≤_}
-use native.Mathlib.Nat.{add-zero, add-suc, suc-add}
+use mathlib.Core.List.{List, [], _∷_, append-nil}
+use Prim.Native.Nat.{ℕ, _+_, _-_, _<_, _≤_}
 use native.Mathlib.Numerals.{add-one}
 use native.Mathlib.Omega.{arith}
 use lib.ListN.{length, getD, take, drop, set, length-drop, drop-of-length-le}
@@ -28,7 +27,3 @@ module _ {A : Type 0} where
       → sets (set v i x) (i + 1) later ≡ whole
   fill-more v i x rest later whole inv e =
       ap (λ (j : ℕ). sets (set v i x) j later) (add-one i) ∙ ap (sets v i) (sym e) ∙ inv
-
-  pub sets-append : (l : List A) (i : ℕ) (xs ys : List A) → sets l i (xs ++ ys) ≡ sets (sets l i xs) (i + length xs) ys
-  sets-append l i [] ys = rw add-zero
-  sets-append l i (a ∷ xs) ys = rw (add-suc, ← suc-add) (sets-append (set l i a) (suc i) xs ys)
