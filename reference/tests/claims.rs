@@ -1,15 +1,30 @@
-//! What `docs/CLAIMS.md`, `docs/AFTERNOON.md` and `docs/REVIEW.md` cite is
-//! there: each file, and in it a definition of each name.
+//! What the documents cite is there: each file, and in it a definition of each
+//! name. A failure has all that is missing, each as `path#name`.
 
 use std::collections::HashSet;
 use std::fs;
 use std::path::{Path, PathBuf};
 
-/// Names and files that `docs/CLAIMS.md` cites at least.
+const PAGES: [&str; 5] = [
+    "README.md",
+    "docs/ARCHITECTURE.md",
+    "docs/CLAIMS.md",
+    "docs/DECISIONS.md",
+    "docs/REVIEW.md",
+];
+
+/// Names and files that the pages cite at least.
 const FEWEST: usize = 450;
 
 /// Where a path starts that has to exist wherever it is written.
-const ROOTS: [&str; 4] = ["crates/", "docs/", "reference/", "demo/"];
+const ROOTS: [&str; 6] = [
+    "crates/",
+    "docs/",
+    "reference/",
+    "demo/",
+    "examples/",
+    "include/",
+];
 
 /// Words that may stand before the name of a definition, and those that make
 /// one of what follows.
@@ -90,54 +105,98 @@ fn has_heading(text: &str, phrase: &str) -> bool {
     })
 }
 
-/// What is wrong with a citation, `FILE` or `FILE#NAME,NAME`, and how much it
-/// cites.
+/// The files below a folder with an extension, as paths from the root.
+fn files_below(folder: &Path, extension: &str) -> Vec<PathBuf> {
+    let entries = fs::read_dir(folder).into_iter().flatten();
+    entries
+        .flat_map(|entry| {
+            let path = entry.expect("a file").path();
+            let is_found = path.extension().is_some_and(|found| found == extension);
+            if path.is_dir() {
+                files_below(&path, extension)
+            } else {
+                is_found.then_some(path).into_iter().collect()
+            }
+        })
+        .collect()
+}
+
+/// The files of the crates that define a name: where a definition that is
+/// missing may have gone.
+fn elsewhere(name: &str) -> Vec<String> {
+    let crates = root().join("crates");
+    let files = ["antt", "rt"].map(|extension| files_below(&crates, extension));
+    let defining = files.concat().into_iter().filter(|file| {
+        let text = fs::read_to_string(file).expect("a source file");
+        definitions(&file.to_string_lossy(), &text).contains(name)
+    });
+    defining
+        .map(|file| {
+            let path = file.strip_prefix(root()).expect("a path below the root");
+            path.to_string_lossy().into_owned()
+        })
+        .collect()
+}
+
+/// The parts of a citation, `FILE` or `FILE#NAME,NAME`, each as `FILE` or
+/// `FILE#NAME`, and those that are not there.
 fn try_citation(citation: &str) -> (usize, Vec<String>) {
     let (path, names) = citation.split_once('#').unwrap_or((citation, ""));
-    let Some(text) = text_of(path) else {
-        return (1, vec![format!("{path}: no such file")]);
-    };
+    let text = text_of(path);
     if names.is_empty() {
-        return (1, Vec::new());
-    }
-    if path.ends_with(".md") {
-        let missing = !has_heading(&text, names);
+        let is_there = root().join(path).exists();
         return (
             1,
-            missing.then(|| citation.to_owned()).into_iter().collect(),
+            (!is_there).then(|| path.to_owned()).into_iter().collect(),
         );
     }
-    let here = definitions(path, &text);
+    if path.ends_with(".md") {
+        let is_there = text.is_some_and(|text| has_heading(&text, names));
+        let missing = (!is_there).then(|| citation.to_owned());
+        return (1, missing.into_iter().collect());
+    }
+    let here = definitions(path, &text.unwrap_or_default());
     let missing = names
         .split(',')
         .filter(|name| !here.contains(*name))
-        .map(|name| format!("{path}: no definition of {name}"))
+        .map(|name| match elsewhere(name).join(", ") {
+            found if found.is_empty() => format!("{path}#{name}"),
+            found => format!("{path}#{name} (defined in {found})"),
+        })
         .collect();
     (names.split(',').count(), missing)
 }
 
-/// A citation has a name after a path, or is a path from the root.
+/// A citation has a name after a path, or is a path from the root that no
+/// command makes.
 fn is_citation(text: &str) -> bool {
-    let is_path = ROOTS
-        .iter()
-        .any(|start| text.starts_with(start) && !text.ends_with('/'));
-    is_path || text == "crates.txt" || (text.contains('#') && !text.starts_with("FILE#"))
+    let is_path = ROOTS.iter().any(|start| text.starts_with(start))
+        && !text.ends_with('/')
+        && !text.contains(['*', ' '])
+        && !text.contains("/target/");
+    is_path
+        || text == "crates.txt"
+        || (text.contains('#') && text != "#" && !text.starts_with("FILE#"))
 }
 
 #[test]
-fn every_claim_cites_what_is_there() {
-    let claims = text_of("docs/CLAIMS.md").expect("docs/CLAIMS.md");
-    let tried: Vec<_> = quoted(&claims)
-        .into_iter()
-        .filter(|(_, text)| is_citation(text))
-        .map(|(_, citation)| try_citation(citation))
-        .collect();
-    let wrong: Vec<_> = tried.iter().flat_map(|(_, wrong)| wrong).collect();
-    assert!(wrong.is_empty(), "{wrong:#?}");
-    let count: usize = tried.iter().map(|(count, _)| count).sum();
+fn every_citation_is_there() {
+    let mut count = 0;
+    let mut missing = Vec::new();
+    for page in PAGES {
+        let text = text_of(page).expect("a page");
+        let quoted = quoted(&text).into_iter().map(|(_, text)| text);
+        for citation in quoted.filter(|text| is_citation(text)) {
+            let (tried, wrong) = try_citation(citation);
+            count += tried;
+            missing.extend(wrong.into_iter().map(|wrong| format!("{page}: {wrong}")));
+        }
+    }
+    assert!(missing.is_empty(), "not there:\n{}", missing.join("\n"));
     assert!(count >= FEWEST, "{count} citations, fewer than {FEWEST}");
 }
 
+/// Each row of `docs/CLAIMS.md` has something in its last cell that is cited.
 #[test]
 fn every_row_has_an_answer() {
     let claims = text_of("docs/CLAIMS.md").expect("docs/CLAIMS.md");
@@ -160,126 +219,24 @@ fn every_row_has_an_answer() {
     assert!(!rows.is_empty() && empty.is_empty(), "{empty:#?}");
 }
 
-/// The files of the engine's crates in a folder of this name.
-fn crate_files(folder: &str, extension: &str) -> Vec<(String, String, PathBuf)> {
-    let mut files = Vec::new();
-    for entry in fs::read_dir(root().join("crates")).expect("the crates") {
-        let path = entry.expect("a crate").path();
-        let name = path.file_name().unwrap().to_string_lossy().into_owned();
-        for file in fs::read_dir(path.join(folder)).into_iter().flatten() {
-            let file = file.expect("a file").path();
-            if file.extension().is_some_and(|found| found == extension) {
-                let stem = file.file_stem().unwrap().to_string_lossy().into_owned();
-                files.push((name.clone(), stem, file));
-            }
-        }
-    }
-    files
+/// The must-fail edits, as `crate/name`.
+fn edits() -> HashSet<String> {
+    let files = files_below(&root().join("crates"), "edit");
+    let named = files.iter().map(|file| {
+        let name = |path: &Path| path.file_stem().unwrap().to_string_lossy().into_owned();
+        let folder = file.parent().and_then(Path::parent).expect("a crate");
+        format!("{}/{}", name(folder), name(file))
+    });
+    named.collect()
 }
 
-/// Every name that the afternoon's page may use: definitions, the files that
-/// have them, crates, and must-fail edits.
-fn known_names() -> HashSet<String> {
-    let mut names = HashSet::new();
-    for (folder, extension) in [("specs", "antt"), ("src", "rt")] {
-        for (name, stem, file) in crate_files(folder, extension) {
-            let text = fs::read_to_string(&file).expect("a source file");
-            names.extend(definitions(&file.to_string_lossy(), &text));
-            names.extend([name, stem]);
-        }
-    }
-    names.extend(
-        crate_files("must-fail", "edit")
-            .into_iter()
-            .map(|(_, stem, _)| stem),
-    );
-    names
-}
-
-#[test]
-fn the_afternoon_names_what_is_there() {
-    let page = text_of("docs/AFTERNOON.md").expect("docs/AFTERNOON.md");
-    let known = known_names();
-    let wrong: Vec<_> = quoted(&page)
-        .into_iter()
-        .map(|(_, text)| text.split_whitespace().next().unwrap_or(""))
-        .filter(|word| !word.contains("CRATE") && !known.contains(*word))
-        .filter(|word| !word.contains('/') || !root().join(word).exists())
-        .collect();
-    assert!(wrong.is_empty(), "{wrong:#?}");
-}
-
-/// A name and its place as in "`name` (crate, `File`)".
-#[test]
-fn the_afternoon_says_where_its_definitions_are() {
-    let page = text_of("docs/AFTERNOON.md")
-        .expect("docs/AFTERNOON.md")
-        .replace('\n', " ");
-    let marks = quoted(&page);
-    let mut placed = 0;
-    for pair in marks.windows(2) {
-        let (before_name, name) = pair[0];
-        let (before_file, file) = pair[1];
-        let between = &before_file[before_name.len() + name.len() + 2..];
-        let place = between
-            .strip_prefix(" (")
-            .and_then(|text| text.strip_suffix(", "));
-        let Some(place) = place.filter(|text| !text.contains(' ')) else {
-            continue;
-        };
-        let (_, wrong) = try_citation(&format!("crates/{place}/specs/{file}.antt#{name}"));
-        assert!(wrong.is_empty(), "{wrong:?}");
-        placed += 1;
-    }
-    assert!(placed >= 15, "{placed} placed definitions");
-}
-
-/// The edits of a paragraph: "Edits: crate `name`, `name` and `name`; crate
-/// and crate `name`."
-#[test]
-fn the_afternoons_edits_are_there() {
-    let page = text_of("docs/AFTERNOON.md")
-        .expect("docs/AFTERNOON.md")
-        .replace('\n', " ");
-    let edits: HashSet<_> = crate_files("must-fail", "edit")
-        .into_iter()
-        .map(|(name, stem, _)| format!("{name} {stem}"))
-        .collect();
-    let mut tried = 0;
-    for start in page.split("Edit").skip(1) {
-        let list = start.trim_start_matches('s');
-        let Some(list) = list.strip_prefix(':') else {
-            continue;
-        };
-        let list = &list[..list.find('.').expect("a full stop")];
-        for part in list.split(';') {
-            let crates: Vec<_> = part
-                .split('`')
-                .next()
-                .unwrap()
-                .split(" and ")
-                .map(str::trim)
-                .collect();
-            for (_, edit) in quoted(part) {
-                for name in &crates {
-                    assert!(edits.contains(&format!("{name} {edit}")), "{name} {edit}");
-                    tried += 1;
-                }
-            }
-        }
-    }
-    assert!(tried >= 30, "{tried} edits");
-}
-
-/// Whether a crate has a function: two have definitions and laws alone.
+/// Whether a crate has a function: some have definitions and laws alone.
 fn has_code(name: &str) -> bool {
-    crate_files("src", "rt")
-        .iter()
-        .filter(|(found, _, _)| found == name)
-        .any(|(_, _, file)| {
-            let text = fs::read_to_string(file).expect("a source file");
-            text.lines().any(|line| line.contains("fn "))
-        })
+    let source = root().join("crates").join(name).join("src");
+    files_below(&source, "rt").iter().any(|file| {
+        let text = fs::read_to_string(file).expect("a source file");
+        text.lines().any(|line| line.contains("fn "))
+    })
 }
 
 /// The review cites an edit as `crate/name`: each is there, and none of a crate
@@ -287,28 +244,20 @@ fn has_code(name: &str) -> bool {
 #[test]
 fn the_review_has_every_edit_of_code() {
     let page = text_of("docs/REVIEW.md").expect("docs/REVIEW.md");
-    let names: HashSet<_> = fs::read_dir(root().join("crates"))
-        .expect("the crates")
-        .map(|entry| entry.expect("a crate").file_name().into_string().unwrap())
-        .collect();
-    let edits: HashSet<_> = crate_files("must-fail", "edit")
-        .into_iter()
-        .map(|(name, stem, _)| format!("{name}/{stem}"))
-        .collect();
+    let edits = edits();
+    let is_crate = |name: &str| root().join("crates").join(name).exists();
     let cited: HashSet<_> = quoted(&page)
         .into_iter()
         .map(|(_, text)| text.to_owned())
-        .filter(|text| {
-            text.split_once('/')
-                .is_some_and(|(name, _)| names.contains(name))
-        })
+        .filter(|text| text.split_once('/').is_some_and(|(name, _)| is_crate(name)))
         .collect();
-    let wrong: Vec<_> = cited.difference(&edits).collect();
-    assert!(wrong.is_empty(), "cited, and not there: {wrong:#?}");
-    let left: Vec<_> = edits
-        .difference(&cited)
-        .filter(|edit| has_code(edit.split('/').next().unwrap()))
+    let has_code = |edit: &&String| has_code(edit.split('/').next().unwrap_or(""));
+    let gone = cited.difference(&edits);
+    let left = edits.difference(&cited).filter(has_code);
+    let wrong: Vec<_> = gone
+        .map(|edit| format!("cited, and not there: {edit}"))
+        .chain(left.map(|edit| format!("there, and not cited: {edit}")))
         .collect();
-    assert!(left.is_empty(), "not cited: {left:#?}");
+    assert!(wrong.is_empty(), "{}", wrong.join("\n"));
     assert!(cited.len() >= 60, "{} edits", cited.len());
 }

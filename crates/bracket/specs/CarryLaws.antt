@@ -9,7 +9,9 @@ use Rattle.wide.specs.Rounding.{Narrow, scaled-lower, scaled-upper, scaled-orde
 use Rattle.wide.specs.declared.scale.Scaled.{Scaled}
 use Rattle.wide.specs.declared.scale.Scaled.the-variants as scaled
 use Rattle.bracket.specs.Carry.{onward, carried, carriedOn, oneByOne, LowsBelow, HighsAbove, productNum, productDen, Widths, absolutePart, relativePart}
+use Rattle.bracket.specs.Ratio.{coded, spanned, exactly, exact-is}
 use Rattle.bracket.specs.declared.Bracket.{Bracket}
+use Rattle.bracket.specs.declared.Ratio.{Ratio}
 use Rattle.bracket.specs.declared.carry.CarryAnswer.{CarryAnswer}
 use Rattle.bracket.specs.declared.carry.CarryAnswer.the-variants.{Carried, TooLarge}
 
@@ -34,6 +36,11 @@ one-by-one (f ∷ fs) a = one-by-one fs (carriedOn a (f ∷ [])) ∙ carried-fir
 -- a step of it: what the ends so far are, what the factor is, and what came through
 pub further : {a b c : CarryAnswer} {f g : Bracket} → a ≡ b → f ≡ g → c ≡ carriedOn a (f ∷ []) → c ≡ carriedOn b (g ∷ [])
 further {b = b} {f = f} i h e = e ∙ ap (λ (a : CarryAnswer). carriedOn a (f ∷ [])) i ∙ ap (λ (f : Bracket). carriedOn b (f ∷ [])) h
+
+-- and one whose factor is exact
+pub further-exact : {a b c : CarryAnswer} {ratio : Ratio} (x : Fraction) → a ≡ b → ratio ≡ coded x → c ≡ carriedOn a (spanned ratio ratio ∷ [])
+    → c ≡ carriedOn b (exactly x ∷ [])
+further-exact x i h e = further i (exact-is x h) e
 
 -- a list of factors and then another is both
 pub carried-append : (fs gs : List Bracket) (a : CarryAnswer) → carriedOn (carriedOn a fs) gs ≡ carriedOn a (fs ++ gs)
@@ -96,14 +103,14 @@ pub record CarriedWidth (R a r l h : ℕ) : Type 0 where
   pub in-order : l ≤ h
   pub narrow : Narrow R a r l h
 
-pub carried-width : (fs : List Bracket) (rs : List ℕ) (R a r low high l h : ℕ) → Widths R fs rs → low ≤ high → Narrow R a r low high → carried low high fs ≡ Carried l h
-    → CarriedWidth R (absolutePart a fs) (relativePart r rs) l h
+pub carried-width : (fs : List Bracket) (rs : List ℕ) (R a r low high l h : ℕ) → Widths R fs rs → low ≤ high → Narrow R a r low high
+    → carried low high fs ≡ Carried l h → CarriedWidth R (absolutePart a fs) (relativePart r rs) l h
 carried-width [] [] R a r low high l h w o n e = let p : low ≡ l = cc in let q : high ≡ h = cc in rw (← p, ← q) (record { in-order = o; narrow = n })
 carried-width [] (p ∷ ps) R a r low high l h w o n e = absurd w
 carried-width (f ∷ fs) [] R a r low high l h w o n e = absurd w
 carried-width (f ∷ fs) (p ∷ ps) R a r low high l h w o n e =
     let g = past f fs low high l h e in
-    carried-width fs ps R (ceiling a (f .«high_num») (f .«high_den») + 2) (r + p) _ _ l h (w .2)
-    (scaled-order low high _ _ _ _ (g .low-den) (g .high-den) o (w .0))
-    (scaled-width R a (ceiling a (f .«high_num») (f .«high_den»)) r p low high _ _ _ _ (g .low-den) (g .high-den) o n (w .1 .width) (ceiling-ge a (f .«high_num») (f .«high_den») (g .high-den)))
-    (g .rest)
+    let b = ceiling a (f .«high_num») (f .«high_den») in
+    let most = ceiling-ge a (f .«high_num») (f .«high_den») (g .high-den) in
+    carried-width fs ps R (b + 2) (r + p) _ _ l h (w .2) (scaled-order low high _ _ _ _ (g .low-den) (g .high-den) o (w .0))
+    (scaled-width R a b r p low high _ _ _ _ (g .low-den) (g .high-den) o n (w .1 .width) most) (g .rest)

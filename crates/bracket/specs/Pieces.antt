@@ -7,15 +7,14 @@ use Prim.Native.Nat.{ℕ, _+_, _*_, _^_, _≤_, _<_}
 use native.Mathlib.Nat.{le-refl, mul-le-mul, mul-le-mul-right, le-of-mul-le-mul-right}
 use native.Mathlib.Omega.{arith}
 use lib.Dec.{T, ltb, ltb→lt}
-use Rattle.estimate.specs.Fraction.{Fraction, fraction, _≤ᶠ_, _*ᶠ_, whole}
-use Rattle.estimate.specs.FractionLaws.{≤ᶠ-refl}
-use Rattle.estimate.specs.Standing.{exact-low-right, exact-high-right}
+use Rattle.estimate.specs.Fraction.{Fraction, fraction, _*ᶠ_, whole}
 use Rattle.laws.specs.Table.{both, both-left, both-right}
 use Rattle.wide.specs.Scaling.{floor, ceiling, scaledUp, answered-value}
 use Rattle.wide.specs.Rounding.{Narrow, floor-le, ceiling-ge, ceiling-≤, scaled-order, scaled-width}
 use Rattle.wide.specs.declared.scale.Scaled.{Scaled}
 use Rattle.wide.specs.declared.scale.Scaled.the-variants as scaled
 use Rattle.bracket.specs.Bracket.{Stands, RelativeWidth}
+use Rattle.bracket.specs.Ratio.{exactly}
 use Rattle.bracket.specs.Carry.{onward, carried, LowsBelow, HighsAbove, productNum, productDen, Widths, absolutePart, relativePart}
 use Rattle.bracket.specs.CarryLaws.{carried-low, carried-high, carried-width}
 use Rattle.bracket.specs.declared.Bracket.{Bracket}
@@ -59,26 +58,10 @@ unfoldable pub product : List Fraction → Fraction
 product [] = whole 1
 product (x ∷ xs) = x *ᶠ product xs
 
--- an exact factor, which is at most the bound beside it
-unfoldable pub exactly : Fraction → Bracket
-exactly x = record { «low_num» = x .num; «low_den» = x .den; «high_num» = x .num; «high_den» = x .den }
-
-abbrev pub exactPiece : (x most : Fraction) → Piece
-exactPiece x most = record { under = λ d. x; over = λ d. x; bracket = exactly x; share = 0; most = most }
-
-pub exact-kept : (R : ℕ) (x most : Fraction) → x ≤ᶠ most → Kept R (exactPiece x most)
-unfolding exactly fraction
-exact-kept R x most h = record {
-  stands = record {
-    low-den = x .pos;
-    high-den = x .pos;
-    low-right = exact-low-right x;
-    high-right = exact-high-right x;
-    in-order = ≤ᶠ-refl x;
-  };
-  narrow = record { width = omega arith };
-  bounded = h .cross;
-}
+-- an exact factor is no wider than itself
+pub exactly-narrow : (R : ℕ) (x : Fraction) → RelativeWidth R 0 (exactly x)
+unfolding exactly
+exactly-narrow R x = record { width = omega arith }
 
 -- THE ROOM: how far the high can grow, and the test that it fits at each step
 abbrev pub grown : ℕ → List Fraction → ℕ
@@ -190,20 +173,20 @@ module _ (R M c : ℕ) (start : Fraction) (ps : List Piece) (S H : ℕ) (hc : 0 
   unfolding _*ᶠ_
   carried-ends =
       let r = carried-room R ps S S H k (le-refl S) few t in
-      let w = carried-width (brackets ps) (shares ps) R 0 0 S S (r .low-end) (r .high-end) (widths R ps k) (le-refl S) (record { width = omega arith }) (r .is) in
+      let w = carried-width (brackets ps) (shares ps) R 0 0 S S _ _ (widths R ps k) (le-refl S) (record { width = omega arith }) (r .is) in
       record {
         low-end = r .low-end;
         high-end = r .high-end;
         is = r .is;
         low-right = λ d l. rounded-low (r .low-end) c M _ _ hc
             (rw (← product-den (start .den) (overs d ps), ← product-num (start .num) (overs d ps))
-            (carried-low (brackets ps) (overs d ps) S S (r .low-end) (r .high-end) (start .num) (start .den) (c * M) (lows-below R d l ps k) (omega (arith, exact)) (r .is)));
+            (carried-low (brackets ps) (overs d ps) S S _ _ (start .num) (start .den) (c * M) (lows-below R d l ps k) (omega (arith, exact)) (r .is)));
         high-right = λ d l. rounded-high (r .high-end) c M _ _ hc
             (rw (← product-den (start .den) (unders d ps), ← product-num (start .num) (unders d ps))
-            (carried-high (brackets ps) (unders d ps) S S (r .low-end) (r .high-end) (start .num) (start .den) (c * M) (highs-above R d l ps k) (omega (arith, exact)) (r .is)));
+            (carried-high (brackets ps) (unders d ps) S S _ _ (start .num) (start .den) (c * M) (highs-above R d l ps k) (omega (arith, exact)) (r .is)));
         in-order = scaled-order (r .low-end) (r .high-end) 1 c 1 c hc hc (w .in-order) (omega arith);
         narrow = λ a most.
-            let n = scaled-width R (absolutePart 0 (brackets ps)) a (relativePart 0 (shares ps)) 0 (r .low-end) (r .high-end) 1 c 1 c hc hc (w .in-order) (w .narrow) (omega arith)
+            let n = scaled-width R (absolutePart 0 (brackets ps)) a (relativePart 0 (shares ps)) 0 _ _ 1 c 1 c hc hc (w .in-order) (w .narrow) (omega arith)
             (omega (arith, most, absolute-bounded R ps 0 0 k (le-refl 0))) in
             record { width = omega (arith, n .width) };
         small = r .small;

@@ -18,13 +18,13 @@ roundedOutward scale d under over = record {
 }
 
 module _ (scale : ℕ) (positive : 0 < scale) where
-  low-≤ : (x : Fraction) → fraction (floor scale (x .num) (x .den)) scale positive ≤ᶠ x
+  pub rounded-down-≤ : (x : Fraction) → fraction (floor scale (x .num) (x .den)) scale positive ≤ᶠ x
   unfolding fraction
-  low-≤ x = record { cross = omega (arith, floor-le scale (x .num) (x .den)) }
+  rounded-down-≤ x = record { cross = omega (arith, floor-le scale (x .num) (x .den)) }
 
-  high-≥ : (x : Fraction) → x ≤ᶠ fraction (ceiling scale (x .num) (x .den)) scale positive
+  rounded-up-≥ : (x : Fraction) → x ≤ᶠ fraction (ceiling scale (x .num) (x .den)) scale positive
   unfolding fraction
-  high-≥ x = record { cross = omega (arith, ceiling-ge scale (x .num) (x .den) (x .pos)) }
+  rounded-up-≥ x = record { cross = omega (arith, ceiling-ge scale (x .num) (x .den) (x .pos)) }
 
   -- every under-estimate is at most every over-estimate: one depth then serves for all
   pub rounded-outward-stands : (d : ℕ) (under over : ℕ → Fraction) → ((i j : ℕ) → under i ≤ᶠ over j) → Stands (roundedOutward scale d under over) under over
@@ -32,7 +32,7 @@ module _ (scale : ℕ) (positive : 0 < scale) where
   rounded-outward-stands d under over below = record {
     low-den = positive;
     high-den = positive;
-    low-right = record { at = λ i _. ≤ᶠ-trans (low-≤ (under d)) (below d i) };
-    high-right = record { at = λ i _. ≤ᶠ-trans (below i d) (high-≥ (over d)) };
-    in-order = ≤ᶠ-trans (low-≤ (under d)) (≤ᶠ-trans (below d d) (high-≥ (over d)));
+    low-right = record { at = λ i _. ≤ᶠ-trans (rounded-down-≤ (under d)) (below d i) };
+    high-right = record { at = λ i _. ≤ᶠ-trans (below i d) (rounded-up-≥ (over d)) };
+    in-order = ≤ᶠ-trans (rounded-down-≤ (under d)) (≤ᶠ-trans (below d d) (rounded-up-≥ (over d)));
   }

@@ -1,6 +1,6 @@
 -- What a bracket's relative width gives: the same width in finer parts, and a bound of the high end from one of the low.
 use Prim.Native.Nat.{ℕ, zero, suc, _+_, _*_, _≤_, _<_}
-use native.Mathlib.Nat.{mul-le-mul-right, mul-le-mul-left, le-of-mul-le-mul-right, mul-pos}
+use native.Mathlib.Nat.{mul-le-mul-right, mul-le-mul-left, le-of-mul-le-mul-right}
 use native.Mathlib.Omega.{arith}
 use Rattle.bracket.specs.declared.Bracket.{Bracket}
 use lib.Dec.{lit<}
@@ -23,23 +23,18 @@ cancelled zero a b h l = absurd (omega arith)
 cancelled (suc zero) a b h l = absurd (omega arith)
 cancelled (suc (suc R)) a b h l = le-of-mul-le-mul-right {k = suc R} (omega arith) (omega arith)
 
-near : (R ln ld hn hd p q p' q' : ℕ) → 1 < R → 0 < ld → 0 < q → R * (hn * ld) ≤ R * (ln * hd) + 1 * (hn * ld) → ln * q ≤ p * ld
-    → R * (p * q') + p' * q ≤ R * (p' * q) → hn * q' ≤ p' * hd
-near R ln ld hn hd p q p' q' large pl pq narrow low room =
-    le-of-mul-le-mul-right {k = ld * q}
-    (cancelled R (hn * q' * (ld * q)) (p' * hd * (ld * q)) large
-    (omega (arith, mul-le-mul-right (q * q') narrow, mul-le-mul-left (R * hd * q') low, mul-le-mul-right (ld * hd) room)))
-    (mul-pos pl pq)
+near : (R ln ld hn hd v w D : ℕ) → 1 < R → 0 < ld → R * (hn * ld) ≤ R * (ln * hd) + 1 * (hn * ld) → v < w → w ≤ R → ln * D ≤ v * ld → hn * D ≤ w * hd
+near R ln ld hn hd v w D large positive narrow below few low =
+    le-of-mul-le-mul-right {k = ld}
+    (cancelled R (hn * D * ld) (w * hd * ld) large
+    (omega (arith, mul-le-mul-right D narrow, mul-le-mul-left (R * hd) low, mul-le-mul-left (R * hd * ld) below, mul-le-mul-left (hd * ld) few)))
+    positive
 
--- a bracket 1 / R wide whose low is at most p / q has a high of at most p' / q', where p / q is at most p' / q' less 1 / R of it
-pub high-below : (R : ℕ) (b : Bracket) (p q p' q' : ℕ) → 1 < R → RelativeWidth R 1 b → 0 < b .«low_den» → 0 < q → b .«low_num» * q ≤ p * b .«low_den»
-    → R * (p * q') + p' * q ≤ R * (p' * q) → b .«high_num» * q' ≤ p' * b .«high_den»
-high-below R b p q p' q' large narrow pl pq low room =
-    near R (b .«low_num») (b .«low_den») (b .«high_num») (b .«high_den») p q p' q' large pl pq (narrow .width) low room
-
--- where v + 1 is at most w, and w at most R, a fraction v / D is below w / D by more than 1 / R of it
-pub steps-apart : (R v w D : ℕ) → v < w → w ≤ R → R * (v * D) + w * D ≤ R * (w * D)
-steps-apart R v w D l m = omega (arith, mul-le-mul-right D m, mul-le-mul-left (R * D) l)
+-- a bracket 1 / R wide whose low is at most v / D has a high of at most w / D, where w is more than v and at most R
+pub high-below : (R : ℕ) (b : Bracket) (v w D : ℕ) → 1 < R → 0 < b .«low_den» → RelativeWidth R 1 b → v < w → w ≤ R
+    → b .«low_num» * D ≤ v * b .«low_den» → b .«high_num» * D ≤ w * b .«high_den»
+high-below R b v w D large positive narrow below few low =
+    near R (b .«low_num») (b .«low_den») (b .«high_num») (b .«high_den») v w D large positive (narrow .width) below few low
 
 -- THE STATED WIDTHS are below 1
 pub power-width-large : 1 < powerWidth

@@ -2,7 +2,10 @@
 ghost use mathlib.Core.Path.{_≡_};
 ghost use mathlib.Core.List.{[], _∷_};
 ghost use Rattle.bracket.specs.Carry.{carriedOn};
+ghost use Rattle.bracket.specs.Ratio.{spanned};
 use crate::Bracket;
+use crate::Ratio;
+use crate::span;
 use wide::scale::Scaled;
 use wide::scale::scale_down;
 use wide::scale::scale_up;
@@ -28,4 +31,11 @@ pub fn through(answer: CarryAnswer, factor: Bracket) -> CarryAnswer
         return CarryAnswer::TooLarge;
     };
     CarryAnswer::Carried(l, h)
+}
+
+// An exact factor further: both its ends are the same.
+pub fn through_exact(answer: CarryAnswer, factor: Ratio) -> CarryAnswer
+    ensures { λ r. ⌜ r ≡ carriedOn answer (spanned factor factor ∷ []) ⌝ }
+{
+    through(answer, span(factor, factor))
 }

@@ -8,19 +8,21 @@ use lib.ListN.{length, take, drop}
 use lib.Seq.{length-sets, take-at, take-all}
 use lib.Dec.{leb}
 use borrow.Author.Tests.{le-leb, leb-true, leb-false}
+use Rattle.header.specs.Header.{headerLength, mostSites}
 use Rattle.project.specs.declared.ScanAnswer.{ScanAnswer}
 use Rattle.project.specs.declared.ScanAnswer.the-variants as scan
 use Rattle.site.specs.Theorems.{longest, read-length}
-use Rattle.project.specs.File.{headerLength, scanFile, sitesIn, headerIn, mostSites}
+use Rattle.project.specs.File.{scanFile}
 use Rattle.project.specs.Causes.{Starts, first, next}
 use Rattle.project.specs.Scan.{accepted-exactly}
 use Rattle.project.specs.SitesRead.{accepted-sites}
 use Rattle.project.specs.Prefix.{longestFile, scan-prefix}
+use Rattle.report.specs.declared.ProjectAnswer.{ProjectAnswer}
 use Rattle.report.specs.declared.ProjectAnswer.the-variants.{Reported, Refused}
 use Rattle.project.specs.Causes.{reportLength}
 use Rattle.report.specs.Report.{reportNumbers, linesIn, projectAnswer, reportAfter}
-use Rattle.report.specs.DemandLaws.{length-lines}
-use Rattle.report.specs.Accepted.{length-report}
+use Rattle.report.specs.Demand.{ReportsProject}
+use Rattle.report.specs.Accepted.{length-report, count-lines}
 use Rattle.report_text.specs.Text.{reportText, refusalText}
 use Rattle.laws.specs.Stores.{Puts, puts-start}
 
@@ -67,35 +69,39 @@ pub record Made (s after : List ℕ) (count : ℕ) : Type 0 where
   pub few : count ≤ reportRoom
   pub starts : take count after ≡ reportNumbers (linesIn s)
 
-pub made : (s before after : List ℕ) (count : ℕ) → length before ≡ reportRoom → Reported count ≡ projectAnswer s (length before) → after ≡ reportAfter s before → Made s after count
+pub made : (s before after : List ℕ) {answer : ProjectAnswer} {count : ℕ} → length before ≡ reportRoom
+    → ReportsProject s before after answer → answer ≡ Reported count → Made s after count
 unfolding projectAnswer reportAfter
-made s before after count l e a = by (scanFile s) refl
+made s before after {answer} {count} l told reported = by (scanFile s) refl
   where
     by : (x : ScanAnswer) → scanFile s ≡ x → Made s after count
-    by (scan.Refused number place) q = let z : _≡_ {A = ℕ} 0 1 = cc in absurd (omega arith)
+    by (scan.Refused number place) q = let e = told .answer-is in let z : _≡_ {A = ℕ} 0 1 = cc in absurd (omega arith)
     by (scan.Accepted n) q =
         let facts = accepted-sites s n q in
         let fits = le-leb (reportLength n) (length before) (omega (arith, facts .few)) in
         let numbers = reportNumbers (linesIn s) in
-        let is : count ≡ reportLength n = same (e ∙ rw (q, fits) refl) in
-        let long : length numbers ≡ count = length-report (linesIn s) ∙ ap reportLength (length-lines (headerIn s) (sitesIn s) ∙ facts .sites .count-is) ∙ sym is in
+        let is : count ≡ reportLength n = same (sym reported ∙ told .answer-is ∙ rw (q, fits) refl) in
+        let long : length numbers ≡ count = length-report (linesIn s) ∙ ap reportLength (count-lines s n q) ∙ sym is in
         record {
           sites = n;
           accepted = q;
           few = omega (arith, facts .few);
-          starts = ap (take count) (a ∙ rw (q, fits) refl) ∙ take-at numbers (drop (length numbers) before) count long;
+          starts = ap (take count) (told .report-is ∙ rw (q, fits) refl) ∙ take-at numbers (drop (length numbers) before) count long;
         }
       where
         same : Reported count ≡ Reported (reportLength n) → count ≡ reportLength n
         same h = cc
 
-pub report-printed : (s after text out : List ℕ) (count place : ℕ) → Made s after count → Puts text 0 (reportText (take count after)) place out × (place ≤ length text) → StartsWith (projectText s) place out
+pub report-printed : (s after text out : List ℕ) (count place : ℕ) → Made s after count
+    → Puts text 0 (reportText (take count after)) place out × (place ≤ length text) → StartsWith (projectText s) place out
 unfolding projectText
 report-printed s after text out count place m p = rw (m .accepted, ← m .starts) (starts-with (p .0) (p .1))
 
-pub refusal-printed : (s text out : List ℕ) (number at place room : ℕ) → room ≡ reportRoom → Refused number at ≡ projectAnswer s room → Puts text 0 (refusalText number at) place out × (place ≤ length text) → StartsWith (projectText s) place out
+pub refusal-printed : (s text out : List ℕ) (room place : ℕ) {answer : ProjectAnswer} {number at : ℕ} → room ≡ reportRoom
+    → answer ≡ projectAnswer s room → answer ≡ Refused number at → Puts text 0 (refusalText number at) place out × (place ≤ length text)
+    → StartsWith (projectText s) place out
 unfolding projectText projectAnswer
-refusal-printed s text out number at place room l e p = by (scanFile s) refl
+refusal-printed s text out room place {answer} {number} {at} l e refused p = by (scanFile s) refl
   where
     by : (x : ScanAnswer) → scanFile s ≡ x → StartsWith (answerText (scanFile s) (reportNumbers (linesIn s))) place out
     by (scan.Refused m q) z =

@@ -3,6 +3,8 @@ ghost use mathlib.Core.Path.{_≡_};
 ghost use lib.ListN.{length};
 ghost use Rattle.crash_report.specs.Printed.{inputRoom, reportRoom, textRoom, projectText, StartsWith};
 ghost use Rattle.crash_report.specs.Input.{InputWithin};
+use header::HEADER_LENGTH;
+use header::MOST_SITES;
 use libc::STDERR_FILENO;
 use libc::STDIN_FILENO;
 use libc::STDOUT_FILENO;
@@ -11,13 +13,13 @@ use report::read_project;
 use report_text::put_refusal;
 use report_text::put_report;
 
-// One byte more than the longest file: the bytes past it bear on nothing.
-const INPUT_ROOM: usize = 62709;
+// One byte more than the longest file, whose records have 33 bytes each: the bytes past it bear on nothing.
+const INPUT_ROOM: usize = HEADER_LENGTH + MOST_SITES * 33 + 1;
 
 // The numbers of the longest report, and the bytes of its text.
-const REPORT_ROOM: usize = 7604;
+const REPORT_ROOM: usize = 4 * (MOST_SITES + 1);
 
-const TEXT_ROOM: usize = 159684;
+const TEXT_ROOM: usize = 21 * REPORT_ROOM;
 
 // How many bytes were read, or that a read failed.
 enum Input {

@@ -7,7 +7,6 @@ use native.Mathlib.Decide.{decLe}
 use borrow.Author.Tests.{lt-ltb, le-ltb}
 use Rattle.estimate.specs.Fraction.{Fraction, _≤ᶠ_, _=ᶠ_, fraction, _//_, whole, lesser, greater}
 use Rattle.estimate.specs.FractionLaws.{≤ᶠ-refl, ≤ᶠ-trans, =ᶠ-≤ᶠ, =ᶠ-≥ᶠ, //-num, //-den, lesser-≤-left, lesser-≤-right, greater-≥-left, greater-≥-right}
-use Rattle.estimate.specs.Standing.{LowRight, HighRight}
 use Rattle.bracket.specs.Bracket.{Stands, RelativeWidth, AbsoluteWidth, logarithmWidth}
 use Rattle.bracket.specs.declared.Bracket.{Bracket}
 use Rattle.logarithm.specs.Logarithm.{logarithmBracket, StandingLogarithm}
@@ -15,7 +14,8 @@ use Rattle.logarithm.specs.LogarithmLaws.{logarithm-standing}
 use Rattle.model.specs.Coefficients.{Coefficients}
 use Rattle.model.specs.Access.{drivewaySlope, drivewayAt, drivewayPart}
 use Rattle.model.specs.Parts.{driveways}
-use Rattle.driveways.specs.Driveways.{valueOf, between, lowEnd, highEnd, rising, falling, drivewayBracket, drivewaysOf}
+use Rattle.bracket.specs.Ratio.{coded, spanned, spanned-stands}
+use Rattle.driveways.specs.Driveways.{drivewaysMost, lowEnd, highEnd, rising, falling, drivewayBracket, drivewaysOf}
 
 -- THE STEP ON PLAIN NUMBERS: s is the slope at x = xn/xd, t that at y = yn/yd, and xn/xd ≤ yn/yd
 
@@ -88,28 +88,24 @@ module _ (constant count : ℕ) (positive : 0 < constant) where
   -- up to 5 it rises
   pub driveway-rises : count ≤ 5 → {x y : Fraction} → x ≤ᶠ y → drivewayAt constant count x ≤ᶠ drivewayAt constant count y
   driveway-rises l {x} {y} h = record {
-    cross = rw (at-num x, at-den y, at-num y, at-den x, mul-comm (constant * x .den + count * drivewaySlope x), mul-comm (constant * y .den + count * drivewaySlope y))
+    cross = rw (at-num x, at-den y, at-num y, at-den x, mul-comm (constant * x .den + count * _), mul-comm (constant * y .den + count * _))
         (exchange constant (x .den) (y .den) (drivewaySlope x) (drivewaySlope y) count 5 l (slope-falls (x .num) (x .den) (y .num) (y .den) (h .cross)));
   }
-
-  -- at 5 it is 1 whatever ln A is
-  pub driveway-at-five : count ≡ 5 → (x : Fraction) → drivewayAt constant count x =ᶠ whole 1
-  unfolding whole fraction
-  driveway-at-five five x = record { cross = rw (at-num x, at-den x, five) (omega arith) }
 
   -- y at most 1/R more than x: the part's values there are at most 2/R of the larger apart
   module _ (large : 200 ≤ constant) (few : count ≤ 50) (R : ℕ) (x y : Fraction) (h : R * (y .num * x .den) ≤ R * (x .num * y .den) + y .den * x .den) where
     apart : R * (drivewaySlope x * y .den) ≤ R * (drivewaySlope y * x .den) + 5 * (x .den * y .den)
     apart = slope-near R (x .num) (x .den) (y .num) (y .den) h
 
-    pub driveway-falls-by : 5 ≤ count → RelativeWidth R 2 (between (valueOf (drivewayAt constant count y)) (valueOf (drivewayAt constant count x)))
+    pub driveway-falls-by : 5 ≤ count → RelativeWidth R 2 (spanned (coded (drivewayAt constant count y)) (coded (drivewayAt constant count x)))
     driveway-falls-by l = record {
-      width = rw (at-num x, at-den y, at-num y, at-den x) (near constant (x .den) (y .den) (drivewaySlope x) (drivewaySlope y) 5 count l R (omega arith) large apart);
+      width = rw (at-num x, at-den y, at-num y, at-den x)
+          (near constant (x .den) (y .den) (drivewaySlope x) (drivewaySlope y) 5 count l R (omega arith) large apart);
     }
 
-    pub driveway-rises-by : count ≤ 5 → RelativeWidth R 2 (between (valueOf (drivewayAt constant count x)) (valueOf (drivewayAt constant count y)))
+    pub driveway-rises-by : count ≤ 5 → RelativeWidth R 2 (spanned (coded (drivewayAt constant count x)) (coded (drivewayAt constant count y)))
     driveway-rises-by l = record {
-      width = rw (at-num x, at-den y, at-num y, at-den x, mul-comm (constant * x .den + count * drivewaySlope x), mul-comm (constant * y .den + count * drivewaySlope y))
+      width = rw (at-num x, at-den y, at-num y, at-den x, mul-comm (constant * x .den + count * _), mul-comm (constant * y .den + count * _))
           (near constant (x .den) (y .den) (drivewaySlope x) (drivewaySlope y) count 5 l R (omega arith) large apart);
     }
 
@@ -118,17 +114,16 @@ module _ (constant count : ℕ) (positive : 0 < constant) where
     slope-most : drivewaySlope x ≤ 50 * x .den
     slope-most = omega arith
 
-    -- 6 at 50 driveways, a constant of 200 and ln A = 0
-    at-most-six : 200 ≤ constant → count ≤ 50 → drivewayAt constant count x .num ≤ 6 * drivewayAt constant count x .den
-    at-most-six large few =
-        rw (at-num x, at-den x)
-        (omega (arith, mul-le-mul-right (x .den) large, mul-le-mul-right (drivewaySlope x) few, slope-most))
+    at-most : count ≤ 50 → drivewayAt constant count x .num * drivewaysMost constant .den ≤ drivewaysMost constant .num * drivewayAt constant count x .den
+    at-most few =
+        rw (at-num x, at-den x, //-num (constant + 2500) (constant + 250), //-den (constant + 2500) (constant + 250) (omega arith))
+        (omega (arith, mul-le-mul-right (drivewaySlope x * (constant + 250)) few, mul-le-mul-left (45 * constant) slope-most))
 
 -- THE BRACKET
 
 -- its three cases
 module _ (constant fewest count : ℕ) (ln : Bracket) where
-  pub bracket-below : count < fewest → drivewayBracket constant fewest count ln ≡ between (valueOf (whole 1)) (valueOf (whole 1))
+  pub bracket-below : count < fewest → drivewayBracket constant fewest count ln ≡ spanned (coded (whole 1)) (coded (whole 1))
   unfolding drivewayBracket
   bracket-below l = rw (lt-ltb count fewest l)
 
@@ -141,7 +136,7 @@ module _ (constant fewest count : ℕ) (ln : Bracket) where
   bracket-falling l m = rw (le-ltb count fewest l, le-ltb count 5 m)
 
   pub by-driveways : (P : Bracket → Type 0)
-      → (count < fewest → P (between (valueOf (whole 1)) (valueOf (whole 1))))
+      → (count < fewest → P (spanned (coded (whole 1)) (coded (whole 1))))
       → (fewest ≤ count → count < 5 → P (rising constant count ln))
       → (fewest ≤ count → 5 ≤ count → P (falling constant count ln))
       → P (drivewayBracket constant fewest count ln)
@@ -160,11 +155,6 @@ module _ (constant fewest count : ℕ) (ln : Bracket) where
 //-is-fraction : (n d : ℕ) (h : 0 < d) → n // d =ᶠ fraction n d h
 unfolding fraction
 //-is-fraction n d h = record { cross = rw (//-num n d, //-den n d h) }
-
--- two fractions as a bracket
-ends-stand : {low high : Fraction} {under over : ℕ → Fraction} → LowRight low over → HighRight high under → low ≤ᶠ high → Stands (between (valueOf low) (valueOf high)) under over
-unfolding fraction
-ends-stand {low} {high} l h o = record { low-den = low .pos; high-den = high .pos; low-right = l; high-right = h; in-order = o }
 
 -- the part by its threshold
 module _ (k : Coefficients) (count : ℕ) (x : Fraction) where
@@ -205,15 +195,15 @@ module _ (k : Coefficients) (count : ℕ) (positive : 0 < k .driveway-constant) 
   driveway-bracket-stands =
       by-driveways (k .driveway-constant) (k .fewest-driveways) count ln
       (λ b. Stands b (λ d. lesser (part (under d)) (part (over d))) (λ d. greater (part (under d)) (part (over d))))
-      (λ l. ends-stand
+      (λ l. spanned-stands
       (record { at = λ d _. ≤ᶠ-trans (rw (part-below k count (under d) l) (≤ᶠ-refl (whole 1))) (greater-≥-left (part (under d)) (part (over d))) })
       (record { at = λ d _. ≤ᶠ-trans (lesser-≤-left (part (under d)) (part (over d))) (rw (part-below k count (under d) l) (≤ᶠ-refl (whole 1))) })
       (≤ᶠ-refl (whole 1)))
-      (λ l few. ends-stand
+      (λ l few. spanned-stands
       (record { at = λ d g. ≤ᶠ-trans (rw (part-from k count (over d) l) (up few (low-≤-over d g))) (greater-≥-right (part (under d)) (part (over d))) })
       (record { at = λ d g. ≤ᶠ-trans (lesser-≤-left (part (under d)) (part (over d))) (rw (part-from k count (under d) l) (up few (under-≤-high d g))) })
       (up few low-≤-high))
-      (λ l many. ends-stand
+      (λ l many. spanned-stands
       (record { at = λ d g. ≤ᶠ-trans (rw (part-from k count (under d) l) (down many (under-≤-high d g))) (greater-≥-left (part (under d)) (part (over d))) })
       (record { at = λ d g. ≤ᶠ-trans (lesser-≤-right (part (under d)) (part (over d))) (rw (part-from k count (over d) l) (down many (low-≤-over d g))) })
       (down many low-≤-high))
@@ -221,13 +211,13 @@ module _ (k : Coefficients) (count : ℕ) (positive : 0 < k .driveway-constant) 
 -- WIDTH AND SIZE
 
 module _ (constant fewest count : ℕ) (few : count ≤ 50) (ln : Bracket) where
-  pub driveway-bracket-at-most-six : 200 ≤ constant → drivewayBracket constant fewest count ln .«high_num» ≤ 6 * drivewayBracket constant fewest count ln .«high_den»
-  driveway-bracket-at-most-six large =
-      let positive : 0 < constant = omega arith in
-      by-driveways constant fewest count ln (λ b. b .«high_num» ≤ 6 * b .«high_den»)
-      (λ _. unfold whole fraction in omega arith)
-      (λ _ _. at-most-six constant count positive (highEnd ln) large few)
-      (λ _ _. at-most-six constant count positive (lowEnd ln) large few)
+  pub driveway-bracket-most : 0 < constant
+      → let b = drivewayBracket constant fewest count ln in b .«high_num» * drivewaysMost constant .den ≤ drivewaysMost constant .num * b .«high_den»
+  driveway-bracket-most positive =
+      by-driveways constant fewest count ln (λ b. b .«high_num» * drivewaysMost constant .den ≤ drivewaysMost constant .num * b .«high_den»)
+      (λ _. unfold whole fraction in rw (//-num (constant + 2500) (constant + 250), //-den (constant + 2500) (constant + 250) (omega arith)) (omega arith))
+      (λ _ _. at-most constant count positive (highEnd ln) few)
+      (λ _ _. at-most constant count positive (lowEnd ln) few)
 
   module _ (low-den : 0 < ln .«low_den») (high-den : 0 < ln .«high_den») where
     -- high - low of ln A at most 1/R: then that of the part is at most 2/R of its high
@@ -265,6 +255,8 @@ module _ (k : Coefficients) (count traffic : ℕ) (from : 1 ≤ traffic) (to : t
       driveway-bracket-width (k .driveway-constant) (k .fewest-driveways) count few (logarithmBracket traffic) (ln .stands .low-den) (ln .stands .high-den)
       large logarithmWidth (ln .narrow)
 
-  pub driveways-at-most-six : 200 ≤ k .driveway-constant → count ≤ 50
-      → let b = drivewaysOf (k .driveway-constant) (k .fewest-driveways) count traffic in b .«high_num» ≤ 6 * b .«high_den»
-  driveways-at-most-six large few = driveway-bracket-at-most-six (k .driveway-constant) (k .fewest-driveways) count few (logarithmBracket traffic) large
+  pub driveways-most : 0 < k .driveway-constant → count ≤ 50
+      → let b = drivewaysOf (k .driveway-constant) (k .fewest-driveways) count traffic in
+      let most = drivewaysMost (k .driveway-constant) in
+      b .«high_num» * most .den ≤ most .num * b .«high_den»
+  driveways-most positive few = driveway-bracket-most (k .driveway-constant) (k .fewest-driveways) count few (logarithmBracket traffic) positive

@@ -1,4 +1,4 @@
--- Brackets of the driveway part: what they are, that they stand at every depth, and how wide and how large they are.
--- What to read: Driveways. DrivewayLaws proves laws about its definitions.
+-- What a reader must believe: Driveways, the bracket of the driveway part. Laws: that it stands at every depth, how wide and how
+-- large it is.
 pub mod Driveways
 pub mod DrivewayLaws

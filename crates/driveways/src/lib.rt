@@ -5,38 +5,23 @@ ghost use Prim.Native.Nat.{_*_, _≤_, _<_};
 ghost use Rattle.estimate.specs.Fraction.{_//_};
 ghost use Rattle.logarithm.specs.Stored.{StoredLogarithms};
 ghost use Rattle.model.specs.Access.{drivewayAt};
-ghost use Rattle.driveways.specs.Driveways.{valueOf, between, drivewaysOf};
+ghost use Rattle.bracket.specs.Ratio.{coded};
+ghost use Rattle.driveways.specs.Driveways.{drivewaysOf};
 use bracket::Bracket;
+use bracket::Ratio;
+use bracket::span;
 use logarithm::logarithm_with;
 
-// The fraction num / den.
-pub struct Value {
-    pub num: u64,
-    pub den: u64,
-}
-
 // The part where ln A is num / den, at most 10. The sizes are those of an edition and of a bracket of ln A.
-fn value_at(constant: u64, driveways: u64, num: u64, den: u64) -> Value
+fn value_at(constant: u64, driveways: u64, num: u64, den: u64) -> Ratio
     requires { ⌜ (0 < constant) × (constant ≤ 1000) × (driveways ≤ 50) × (0 < den) × (den ≤ 1000000000000) × (num ≤ 10 * den) ⌝ }
-    ensures { λ r. ⌜ r ≡ valueOf (drivewayAt constant driveways (num // den)) ⌝ }
+    ensures { λ r. ⌜ r ≡ coded (drivewayAt constant driveways (num // den)) ⌝ }
 {
     let slope = 50 * den - 5 * num;
     let fixed = constant * den;
-    Value {
+    Ratio {
         num: fixed + driveways * slope,
         den: fixed + 5 * slope,
-    }
-}
-
-// The bracket with these ends.
-fn ends(low: Value, high: Value) -> Bracket
-    ensures { λ r. ⌜ r ≡ between low high ⌝ }
-{
-    Bracket {
-        low_num: low.num,
-        low_den: low.den,
-        high_num: high.num,
-        high_den: high.den,
     }
 }
 
@@ -52,13 +37,13 @@ pub fn driveways_with(
     ensures { λ r. ⌜ r ≡ drivewaysOf constant fewest driveways traffic ⌝ }
 {
     if driveways < fewest {
-        return ends(Value { num: 1, den: 1 }, Value { num: 1, den: 1 });
+        return span(Ratio { num: 1, den: 1 }, Ratio { num: 1, den: 1 });
     }
     let ln = logarithm_with(stored, traffic);
     let at_low = value_at(constant, driveways, ln.low_num, ln.low_den);
     let at_high = value_at(constant, driveways, ln.high_num, ln.high_den);
     if driveways < 5 {
-        return ends(at_low, at_high);
+        return span(at_low, at_high);
     }
-    ends(at_high, at_low)
+    span(at_high, at_low)
 }

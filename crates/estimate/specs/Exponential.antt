@@ -57,7 +57,9 @@ exp-under-positive d x = sum-num-positive (x .num) (x .den) (40 + d) (x .pos)
 
 pub exp-over-positive : (d : ℕ) (x : Fraction) → 0 < expOver d x .num
 unfolding expOver sumWithTail
-exp-over-positive d x = omega (arith, mul-pos {n = x .den * suc (40 + d)} (sum-num-positive (x .num) (x .den) (40 + d) (x .pos)) (mul-pos (x .pos) (omega arith)))
+exp-over-positive d x =
+    let some : 0 < x .den * suc (40 + d) = mul-pos (x .pos) (omega arith) in
+    omega (arith, mul-pos (sum-num-positive (x .num) (x .den) (40 + d) (x .pos)) some)
 
 -- "For e^(-x), reciprocals, exchanged."
 unfoldable pub expNegUnder : (d : ℕ) → Fraction → Fraction
@@ -104,9 +106,11 @@ one-more s q a b u u' v c k e f g = omega (arith, ap (λ z. z * (c * v)) e, ap (
 
 module _ (m : ℕ) (x : Fraction) (so-far : partialSum m x =ᶠ addedTerms m x) where
   terms-more : (k : ℕ) → let a = addedTerms m x in let t = term (suc m) x in
-      (sumNum (x .num) (x .den) m * (x .den * suc m) + k * termNum (x .num) (suc m)) * (a .den * t .den) ≡ (a .num * t .den + k * t .num * a .den) * termDen (x .den) (suc m)
+      (sumNum (x .num) (x .den) m * (x .den * suc m) + k * termNum (x .num) (suc m)) * (a .den * t .den)
+      ≡ (a .num * t .den + k * t .num * a .den) * termDen (x .den) (suc m)
   unfolding partialSum term fraction termDen
-  terms-more k = one-more _ _ (addedTerms m x .num) (addedTerms m x .den) _ _ _ _ k (so-far .cross) (term-num-is (x .num) (suc m)) (term-den-is (x .den) (suc m))
+  terms-more k =
+      one-more _ _ (addedTerms m x .num) (addedTerms m x .den) _ _ _ _ k (so-far .cross) (term-num-is (x .num) (suc m)) (term-den-is (x .den) (suc m))
 
 pub partial-sum-adds-terms : (m : ℕ) (x : Fraction) → partialSum m x =ᶠ addedTerms m x
 unfolding partialSum addedTerms sumNum _+ᶠ_

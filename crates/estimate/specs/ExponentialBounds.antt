@@ -1,13 +1,15 @@
--- Numbers at most and at least e^x, told by partial sums alone; what they make, and why they stand against the estimates of e^x and e^(-x) at every depth.
+-- Numbers at most and at least e^x, told by partial sums alone; what they make, and why they stand against the estimates of e^x at every depth.
 use Prim.Native.Nat.{ℕ, _+_, _*_, _<_}
 use mathlib.Core.Path.{_≡_}
 use native.Mathlib.Omega.{arith}
 use Rattle.estimate.specs.Fraction.{Fraction, _≤ᶠ_, _<ᶠ_, _=ᶠ_, whole, inverse, _+ᶠ_, _*ᶠ_, _^ᶠ_}
 use Rattle.estimate.specs.FractionLaws.{≤ᶠ-trans, ≤ᶠ-refl, *ᶠ-mono, ^ᶠ-mono, inverse-antitone}
-use Rattle.estimate.specs.Standing.{LowRight, HighRight, reciprocal-low-right, reciprocal-high-right}
+use Rattle.estimate.specs.Standing.{LowRight, HighRight}
 use Rattle.estimate.specs.Exponential.{partialSum, sumWithTail, expUnder, expOver, expNegUnder, expNegOver, exp-under-positive, exp-over-positive}
-use Rattle.estimate.specs.ExponentialLaws.{tail-bounds-every-sum, partial-sum-mono, sum-with-tail-mono, partial-sum-strict, sum-with-tail-strict, sum-≤-with-tail, one-≤-partial-sum, one-plus-≤-partial-sum, partial-sum-zero, sum-with-tail-zero}
-use Rattle.estimate.specs.ExponentialProducts.{partial-sum-submultiplicative, partial-sum-supermultiplicative, partial-sum-of-multiple, power-of-partial-sum}
+use Rattle.estimate.specs.ExponentialLaws.{tail-bounds-every-sum, partial-sum-mono, sum-with-tail-mono, partial-sum-strict, sum-with-tail-strict}
+use Rattle.estimate.specs.ExponentialLaws.{sum-≤-with-tail, one-≤-partial-sum, one-plus-≤-partial-sum, sum-with-tail-zero}
+use Rattle.estimate.specs.ExponentialProducts.{partial-sum-submultiplicative, partial-sum-supermultiplicative}
+use Rattle.estimate.specs.ExponentialProducts.{partial-sum-of-multiple, power-of-partial-sum}
 
 -- w is at most e^x: it is at most some partial sum
 pub record AtMostExp (w x : Fraction) : Type 0 where
@@ -79,10 +81,6 @@ pub exp-under-≥-one : (d : ℕ) (x : Fraction) → whole 1 ≤ᶠ expUnder d x
 unfolding expUnder
 exp-under-≥-one d x = one-≤-partial-sum (40 + d) x
 
-pub exp-under-zero : (d : ℕ) (x : Fraction) → x .num ≡ 0 → expUnder d x =ᶠ whole 1
-unfolding expUnder
-exp-under-zero d x e = partial-sum-zero (40 + d) x e
-
 pub exp-over-zero : (d : ℕ) (x : Fraction) → x .num ≡ 0 → expOver d x =ᶠ whole 1
 unfolding expOver
 exp-over-zero d x e = sum-with-tail-zero (40 + d) x e
@@ -90,10 +88,6 @@ exp-over-zero d x e = sum-with-tail-zero (40 + d) x e
 pub exp-neg-under-positive : (d : ℕ) (x : Fraction) → 0 < expNegUnder d x .num
 unfolding expNegUnder inverse
 exp-neg-under-positive d x = expOver d x .pos
-
-pub exp-neg-over-≤-one : (d : ℕ) (x : Fraction) → expNegOver d x ≤ᶠ whole 1
-unfolding expNegOver inverse whole
-exp-neg-over-≤-one d x = omega (arith, exp-under-≥-one d x .cross)
 
 pub exp-under-≥-one-plus : (d : ℕ) (x : Fraction) → whole 1 +ᶠ x ≤ᶠ expUnder d x
 unfolding expUnder
@@ -127,12 +121,3 @@ exp-low-stands {w} {x} b h = record { at = λ d _. exp-bounds-in-order h (exp-ov
 
 pub exp-high-stands : {w x : Fraction} → AtLeastExp w x → HighRight w (λ d. expUnder d x)
 exp-high-stands {w} {x} h = record { at = λ d _. exp-bounds-in-order (exp-under-at-most d x) h (≤ᶠ-refl x) }
-
-module _ {w x : Fraction} (positive : 0 < w .num) where
-  pub exp-neg-low-stands : AtLeastExp w x → LowRight (inverse w positive) (λ d. expNegOver d x)
-  unfolding expNegOver
-  exp-neg-low-stands h = reciprocal-low-right positive (λ d. exp-under-positive d x) (exp-high-stands h)
-
-  pub exp-neg-high-stands : x ≤ᶠ whole 21 → AtMostExp w x → HighRight (inverse w positive) (λ d. expNegUnder d x)
-  unfolding expNegUnder
-  exp-neg-high-stands b h = reciprocal-high-right positive (λ d. exp-over-positive d x) (exp-low-stands b h)

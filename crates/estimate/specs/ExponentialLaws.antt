@@ -28,7 +28,8 @@ with-tail-falls m x h = omega (arith, mul-le-mul-left (termNum (x .num) (suc m) 
 -- where 2x is at most k + 2, each further sum with its tail is no more than the k-th,
 pub sums-with-tail-fall : (x : Fraction) (k : ℕ) → whole 2 *ᶠ x ≤ᶠ whole (k + 2) → (m : ℕ) → k ≤ m → sumWithTail m x ≤ᶠ sumWithTail k x
 unfolding whole _*ᶠ_
-sums-with-tail-fall x k b m h = falls-by-steps (λ i. sumWithTail i x) k (λ i ki. with-tail-falls i x (omega (arith, b .cross, mul-le-mul-right (x .den) ki))) m h
+sums-with-tail-fall x k b m h =
+    falls-by-steps (λ i. sumWithTail i x) k (λ i ki. with-tail-falls i x (omega (arith, b .cross, mul-le-mul-right (x .den) ki))) m h
 
 -- so that the k-th bounds every partial sum
 pub tail-bounds-every-sum : (x : Fraction) (k : ℕ) → whole 2 *ᶠ x ≤ᶠ whole (k + 2) → (m : ℕ) → partialSum m x ≤ᶠ sumWithTail k x

@@ -42,15 +42,7 @@ unfoldable pub whole : ℕ → Fraction
 unfolding fraction
 whole n = fraction n 1 (lit< tt)
 
--- n hundredths, and so on
-unfoldable pub hundredths : ℕ → Fraction
-unfolding _//_
-hundredths n = n // 100
-
-unfoldable pub thousandths : ℕ → Fraction
-unfolding _//_
-thousandths n = n // 1000
-
+-- "in millionths"
 unfoldable pub millionths : ℕ → Fraction
 unfolding _//_
 millionths n = n // 1000000
@@ -69,11 +61,6 @@ decimal d t = fraction t (10 ^ d) (one-le-pow d 10 (lit< tt))
 infixl 60 _+ᶠ_
 unfoldable pub _+ᶠ_ : Fraction → Fraction → Fraction
 a +ᶠ b = record { num = a .num * b .den + b .num * a .den; den = a .den * b .den; pos = mul-pos (a .pos) (b .pos) }
-
--- a less b, and 0 where b is more than a
-infixl 60 _-ᶠ_
-unfoldable pub _-ᶠ_ : Fraction → Fraction → Fraction
-a -ᶠ b = record { num = a .num * b .den - b .num * a .den; den = a .den * b .den; pos = mul-pos (a .pos) (b .pos) }
 
 -- product
 infixl 70 _*ᶠ_

@@ -1,13 +1,13 @@
--- Laws of fractions: their order, and how sums, products, powers, differences and reciprocals keep it.
+-- Laws of fractions: their order, and how sums, products, powers and reciprocals keep it.
 use Prim.Native.Nat.{ℕ, zero, suc, _+_, _*_, _^_, _≤_, _<_}
 use mathlib.Core.Bool.{Bool, true, false}
-use mathlib.Core.Path.{_≡_, refl, ap}
-use native.Mathlib.Nat.{not-suc-le-zero, mul-le-mul, mul-le-mul-right, mul-lt-mul-of-pos-right, le-of-mul-le-mul-right, lt-of-mul-lt-mul-right, pow-le-pow-left, sub-add-cancel, sub-eq-zero-of-le, le-of-lt, lt-of-not-le}
+use mathlib.Core.Path.{_≡_, refl}
+use native.Mathlib.Nat.{not-suc-le-zero, mul-le-mul, mul-le-mul-right, mul-lt-mul-of-pos-right, le-of-mul-le-mul-right, lt-of-mul-lt-mul-right, pow-le-pow-left}
 use native.Mathlib.Omega.{arith}
-use native.Mathlib.Decide.{le-ind, decLe}
+use native.Mathlib.Decide.{le-ind}
 use lib.Dec.{T, leb→le, le→leb}
 use borrow.Author.Tests.{leb-true, leb-false}
-use Rattle.estimate.specs.Fraction.{Fraction, _≤ᶠ_, _<ᶠ_, _=ᶠ_, fraction, _//_, whole, decimal, _+ᶠ_, _-ᶠ_, _*ᶠ_, _^ᶠ_, inverse, leᶠ, lesser, greater}
+use Rattle.estimate.specs.Fraction.{Fraction, _≤ᶠ_, _<ᶠ_, _=ᶠ_, fraction, _//_, whole, decimal, _+ᶠ_, _*ᶠ_, _^ᶠ_, inverse, leᶠ, lesser, greater}
 use Rattle.estimate.specs.WholePower.{mul-pow}
 
 -- THE ORDER
@@ -33,9 +33,6 @@ pub ≤ᶠ-<ᶠ-trans : {a b c : Fraction} → a ≤ᶠ b → b <ᶠ c → a <�
 pub <ᶠ-≤ᶠ : {a b : Fraction} → a <ᶠ b → a ≤ᶠ b
 <ᶠ-≤ᶠ h = omega arith
 
-pub <ᶠ-trans : {a b c : Fraction} → a <ᶠ b → b <ᶠ c → a <ᶠ c
-<ᶠ-trans h k = <ᶠ-≤ᶠ-trans h (<ᶠ-≤ᶠ k)
-
 pub not-≤ᶠ-and-<ᶠ : {a b : Fraction} → a ≤ᶠ b → b <ᶠ a → ⊥
 not-≤ᶠ-and-<ᶠ h k = omega arith
 
@@ -48,20 +45,11 @@ pub ≤ᶠ-of-not-<ᶠ : {a b : Fraction} → (b <ᶠ a → ⊥) → a ≤ᶠ b
 pub =ᶠ-refl : (a : Fraction) → a =ᶠ a
 =ᶠ-refl a = omega arith
 
-pub =ᶠ-sym : {a b : Fraction} → a =ᶠ b → b =ᶠ a
-=ᶠ-sym h = omega arith
-
 pub =ᶠ-≤ᶠ : {a b : Fraction} → a =ᶠ b → a ≤ᶠ b
 =ᶠ-≤ᶠ h = omega arith
 
 pub =ᶠ-≥ᶠ : {a b : Fraction} → a =ᶠ b → b ≤ᶠ a
 =ᶠ-≥ᶠ h = omega arith
-
-pub ≤ᶠ-antisym : {a b : Fraction} → a ≤ᶠ b → b ≤ᶠ a → a =ᶠ b
-≤ᶠ-antisym h k = omega arith
-
-pub =ᶠ-trans : {a b c : Fraction} → a =ᶠ b → b =ᶠ c → a =ᶠ c
-=ᶠ-trans h k = ≤ᶠ-antisym (≤ᶠ-trans (=ᶠ-≤ᶠ h) (=ᶠ-≤ᶠ k)) (≤ᶠ-trans (=ᶠ-≥ᶠ k) (=ᶠ-≥ᶠ h))
 
 -- a sequence that does not fall at any step from k on, and one that does not rise
 pub rises-by-steps : (f : ℕ → Fraction) (k : ℕ) → ((i : ℕ) → k ≤ i → f i ≤ᶠ f (suc i)) → (m : ℕ) → k ≤ m → f k ≤ᶠ f m
@@ -111,26 +99,7 @@ module _ (a b : Fraction) where
   pub greater-≥-right : b ≤ᶠ greater a b
   greater-≥-right = greater-by a b (λ z. b ≤ᶠ z) (λ h. h) (λ _. ≤ᶠ-refl b)
 
-pub lesser-greatest : {a b c : Fraction} → c ≤ᶠ a → c ≤ᶠ b → c ≤ᶠ lesser a b
-lesser-greatest {a} {b} {c} h k = lesser-by a b (λ z. c ≤ᶠ z) (λ _. h) (λ _. k)
-
-pub greater-least : {a b c : Fraction} → a ≤ᶠ c → b ≤ᶠ c → greater a b ≤ᶠ c
-greater-least {a} {b} {c} h k = greater-by a b (λ z. z ≤ᶠ c) (λ _. h) (λ _. k)
-
-pub lesser-mono : {a b c d : Fraction} → a ≤ᶠ c → b ≤ᶠ d → lesser a b ≤ᶠ lesser c d
-lesser-mono {a} {b} h k = lesser-greatest (≤ᶠ-trans (lesser-≤-left a b) h) (≤ᶠ-trans (lesser-≤-right a b) k)
-
-pub greater-mono : {a b c d : Fraction} → a ≤ᶠ c → b ≤ᶠ d → greater a b ≤ᶠ greater c d
-greater-mono {c = c} {d = d} h k = greater-least (≤ᶠ-trans h (greater-≥-left c d)) (≤ᶠ-trans k (greater-≥-right c d))
-
-pub lesser-≤-greater : (a b : Fraction) → lesser a b ≤ᶠ greater a b
-lesser-≤-greater a b = ≤ᶠ-trans (lesser-≤-left a b) (greater-≥-left a b)
-
 -- THE OPERATIONS
-
-pub fraction-mono : {m n d : ℕ} (h k : 0 < d) → m ≤ n → fraction m d h ≤ᶠ fraction n d k
-unfolding fraction
-fraction-mono {d = d} h k l = record { cross = mul-le-mul-right d l }
 
 -- n // d is n over d, where d is not 0
 pub //-num : (n d : ℕ) → (n // d) .num ≡ n
@@ -142,11 +111,6 @@ pub //-den : (n d : ℕ) → 0 < d → (n // d) .den ≡ d
 unfolding _//_ fraction
 //-den n zero h = absurd (not-suc-le-zero h)
 //-den n (suc d) h = refl
-
-pub //-mono : {m n : ℕ} (d : ℕ) → m ≤ n → m // d ≤ᶠ n // d
-unfolding _//_
-//-mono zero l = fraction-mono _ _ l
-//-mono (suc d) l = fraction-mono _ _ l
 
 pub whole-mono : {m n : ℕ} → m ≤ n → whole m ≤ᶠ whole n
 unfolding whole
@@ -164,18 +128,6 @@ pub *ᶠ-mono : {a b c d : Fraction} → a ≤ᶠ b → c ≤ᶠ d → a *ᶠ c 
 unfolding _*ᶠ_
 *ᶠ-mono h k = omega (arith, mul-le-mul (h .cross) (k .cross))
 
-pub +ᶠ-comm : (a b : Fraction) → a +ᶠ b =ᶠ b +ᶠ a
-unfolding _+ᶠ_
-+ᶠ-comm a b = omega arith
-
-pub *ᶠ-comm : (a b : Fraction) → a *ᶠ b =ᶠ b *ᶠ a
-unfolding _*ᶠ_
-*ᶠ-comm a b = omega arith
-
-pub *ᶠ-assoc : (a b c : Fraction) → a *ᶠ b *ᶠ c =ᶠ a *ᶠ (b *ᶠ c)
-unfolding _*ᶠ_
-*ᶠ-assoc a b c = omega arith
-
 pub ^ᶠ-mono : {a b : Fraction} (k : ℕ) → a ≤ᶠ b → a ^ᶠ k ≤ᶠ b ^ᶠ k
 unfolding _^ᶠ_
 ^ᶠ-mono {a} {b} k h = record { cross = rw (← mul-pow (a .num) (b .den) k, ← mul-pow (b .num) (a .den) k) (pow-le-pow-left (h .cross) k) }
@@ -186,26 +138,3 @@ inverse-antitone h k l = omega arith
 
 pub positive-above : {a b : Fraction} → 0 < a .num → a ≤ᶠ b → 0 < b .num
 positive-above {a} {b} h l = lt-of-mul-lt-mul-right (a .den) (omega (arith, l .cross, mul-lt-mul-of-pos-right h (b .pos)))
-
--- a difference s = X - Y, in plain numbers: what it is where it does not cut off, and how it grows
-restores : (an ad bn bd s : ℕ) → s + bn * ad ≡ an * bd → (s * bd + bn * (ad * bd)) * ad ≡ an * (ad * bd * bd)
-restores an ad bn bd s e = omega (arith, ap (λ z. z * (bd * ad)) e)
-
-difference-grows : (an ad bn bd cn cd dn dd s t : ℕ) → s + cn * ad ≡ an * cd → bn * dd ≤ t + dn * bd → an * bd ≤ bn * ad → dn * cd ≤ cn * dd → s * (bd * dd) ≤ t * (ad * cd)
-difference-grows an ad bn bd cn cd dn dd s t e g h k =
-    omega (arith, ap (λ z. z * (bd * dd)) e, mul-le-mul-right (ad * cd) g, mul-le-mul-right (cd * dd) h, mul-le-mul-right (ad * bd) k)
-
--- where it does not cut off, a difference gives back what it was taken from
-pub -ᶠ-restores : {a b : Fraction} → b ≤ᶠ a → a -ᶠ b +ᶠ b =ᶠ a
-unfolding _-ᶠ_ _+ᶠ_
--ᶠ-restores {a} {b} h = record { cross = restores (a .num) (a .den) (b .num) (b .den) _ (sub-add-cancel (h .cross)) }
-
-pub -ᶠ-mono : {a b c d : Fraction} → a ≤ᶠ b → d ≤ᶠ c → a -ᶠ c ≤ᶠ b -ᶠ d
-unfolding _-ᶠ_
--ᶠ-mono {a} {b} {c} {d} h k = by-cases (decLe (c .num * a .den) (a .num * c .den))
-  where
-    by-cases : Dec (c .num * a .den ≤ a .num * c .den) → a -ᶠ c ≤ᶠ b -ᶠ d
-    by-cases (yes l) = record {
-      cross = difference-grows (a .num) (a .den) (b .num) (b .den) (c .num) (c .den) (d .num) (d .den) _ _ (sub-add-cancel l) (omega arith) (h .cross) (k .cross);
-    }
-    by-cases (no l) = record { cross = rw (sub-eq-zero-of-le (le-of-lt (lt-of-not-le l))) (omega arith) }

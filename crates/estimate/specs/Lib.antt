@@ -1,17 +1,17 @@
--- Estimates of powers, exponentials and logarithms at every depth, and the laws that carry a computed bound to all of them.
--- What to read: Fraction, Search, Power, Exponential, Logarithm, Standing. The other modules prove laws about those definitions.
+-- What a reader must believe: Fraction, Search, Power, Exponential and Logarithm, the estimates at depth d; Standing, when a bound is right.
+-- Laws: of these (the modules called Laws), and those that carry a computed bound to every depth.
 pub mod Fraction
-pub mod FractionLaws
 pub mod Search
-pub mod Standing
-pub mod WholePower
 pub mod Power
+pub mod Exponential
+pub mod Logarithm
+pub mod Standing
+pub mod FractionLaws
+pub mod WholePower
 pub mod PowerLaws
 pub mod Sequences
-pub mod Exponential
 pub mod ExponentialLaws
 pub mod ExponentialProducts
 pub mod ExponentialBounds
-pub mod Logarithm
 pub mod LogarithmLaws
 pub mod Remainder

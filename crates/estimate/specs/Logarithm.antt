@@ -3,11 +3,11 @@ use Prim.Native.Nat.{ℕ, suc, _*_, _^_, _≤_}
 use mathlib.Core.Path.{_≡_, refl}
 use native.Mathlib.Nat.{le-mul-of-pos-right}
 use native.Mathlib.Omega.{arith}
-use lib.Dec.{lit<, lit≤}
 use Rattle.estimate.specs.Fraction.{Fraction, _≤ᶠ_, _<ᶠ_, _=ᶠ_, leᶠ, whole, decimal, _+ᶠ_}
 use Rattle.estimate.specs.FractionLaws.{≤ᶠ-trans, =ᶠ-≤ᶠ, ≤ᶠ-refl, not-≤ᶠ-and-<ᶠ, leᶠ-sound, leᶠ-complete, decimal-mono}
-use Rattle.estimate.specs.Search.{largest, smallest, Largest, Smallest, largest-of-all, smallest-of-all, largest-unique, smallest-unique, largest-by-neighbour, smallest-by-neighbour}
-use Rattle.estimate.specs.Exponential.{expUnder, expOver, partialSum, sumWithTail, sumNum, termNum, termDen}
+use Rattle.estimate.specs.Search.{largest, smallest, Largest, Smallest, largest-of-all}
+use Rattle.estimate.specs.Search.{smallest-of-all, largest-unique, smallest-unique, largest-by-neighbour, smallest-by-neighbour}
+use Rattle.estimate.specs.Exponential.{expUnder, expOver}
 use Rattle.estimate.specs.ExponentialBounds.{exp-under-≥-one, exp-under-≥-one-plus, exp-under-≤-own-over, exp-under-mono, exp-over-mono, exp-over-zero}
 
 -- "whose e-power has its over at most A"
@@ -89,12 +89,3 @@ ln-one d = record { under = is-zero _ none-passes; over = is-zero _ (ln-smallest
     none-passes =
         let b = one-plus-passes d _ (ln-largest-is d (whole 1) (≤ᶠ-refl (whole 1)) .holds) in
         unfold whole _+ᶠ_ decimal in omega (arith, b .cross)
-
--- ln 2 at depth 6: 0.693147 and 0.693148
-pub ln-two-largest : lnLargest 6 (whole 2) ≡ 693147
-unfolding expOver sumWithTail sumNum termNum termDen decimal whole
-ln-two-largest = ln-largest-value 6 (whole 2) _ (record { cross = lit≤ tt }) (record { cross = lit≤ tt }) (record { cross = lit< tt })
-
-pub ln-two-smallest : lnSmallest 6 (whole 2) ≡ 693148
-unfolding expUnder partialSum sumNum termNum termDen decimal whole
-ln-two-smallest = ln-smallest-value 6 (whole 2) 693147 (record { cross = lit≤ tt }) (record { cross = lit< tt })

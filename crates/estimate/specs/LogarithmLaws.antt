@@ -1,17 +1,16 @@
--- Laws of the estimates of ln: what bounds them at every depth, their order, and products.
+-- Laws of the estimates of ln: what bounds them at every depth, and their order.
 use Prim.Native.Nat.{ℕ, _+_, _*_, _^_, _≤_, _<_}
-use mathlib.Core.Path.{_≡_, refl}
-use native.Mathlib.Nat.{le-add-right, lt-of-not-le}
+use native.Mathlib.Nat.{le-add-right}
 use native.Mathlib.Omega.{arith}
-use native.Mathlib.Decide.{decLe}
-use lib.Dec.{lit<, lit≤}
-use Rattle.estimate.specs.Fraction.{Fraction, _≤ᶠ_, _<ᶠ_, _=ᶠ_, whole, decimal, _+ᶠ_, _*ᶠ_}
-use Rattle.estimate.specs.FractionLaws.{≤ᶠ-trans, ≤ᶠ-refl, <ᶠ-≤ᶠ-trans, ≤ᶠ-<ᶠ-trans, ≤ᶠ-of-not-<ᶠ, not-≤ᶠ-and-<ᶠ, =ᶠ-≤ᶠ, decimal-mono}
+use lib.Dec.{lit≤}
+use Rattle.estimate.specs.Fraction.{Fraction, _≤ᶠ_, _<ᶠ_, whole, decimal}
+use Rattle.estimate.specs.FractionLaws.{≤ᶠ-trans, ≤ᶠ-refl, <ᶠ-≤ᶠ-trans, ≤ᶠ-<ᶠ-trans, ≤ᶠ-of-not-<ᶠ, not-≤ᶠ-and-<ᶠ, decimal-mono}
 use Rattle.estimate.specs.Standing.{LowRight, HighRight}
 use Rattle.estimate.specs.Exponential.{partialSum, expUnder, expOver, sumNum, termNum, termDen}
 use Rattle.estimate.specs.ExponentialLaws.{partial-sums-grow, partial-sum-mono}
-use Rattle.estimate.specs.ExponentialBounds.{AtMostExp, AtLeastExp, at-most-weaker, at-least-weaker, at-most-product, at-least-product, exp-bounds-in-order, exp-under-at-most, exp-over-at-least, exp-under-strict, exp-over-strict, exp-under-≤-own-over, exp-under-zero}
-use Rattle.estimate.specs.Logarithm.{lnLargest, lnSmallest, lnUnder, lnOver, ln-largest-is, ln-smallest-is, ln-smallest-value}
+use Rattle.estimate.specs.ExponentialBounds.{AtMostExp, AtLeastExp, at-most-weaker, at-least-weaker, exp-bounds-in-order}
+use Rattle.estimate.specs.ExponentialBounds.{exp-under-at-most, exp-over-at-least, exp-under-strict, exp-over-strict, exp-under-≤-own-over}
+use Rattle.estimate.specs.Logarithm.{lnSmallest, lnUnder, lnOver, ln-largest-is, ln-smallest-is}
 
 -- the two estimates do what their definitions ask
 ln-under-holds : (d : ℕ) (A : Fraction) → whole 1 ≤ᶠ A → expOver d (lnUnder d A) ≤ᶠ A
@@ -50,7 +49,8 @@ module _ {A : Fraction} (b : ℕ) (h : A ≤ᶠ partialSum 40 (whole b)) where
 
   pub ln-under-≤-whole : whole 1 ≤ᶠ A → (d : ℕ) → lnUnder d A ≤ᶠ whole b
   ln-under-≤-whole one d =
-      ≤ᶠ-of-not-<ᶠ λ k. not-≤ᶠ-and-<ᶠ (ln-under-holds d A one) (≤ᶠ-<ᶠ-trans (at-depth d) (<ᶠ-≤ᶠ-trans (exp-under-strict d k) (exp-under-≤-own-over d (lnUnder d A))))
+      ≤ᶠ-of-not-<ᶠ
+      λ k. not-≤ᶠ-and-<ᶠ (ln-under-holds d A one) (≤ᶠ-<ᶠ-trans (at-depth d) (<ᶠ-≤ᶠ-trans (exp-under-strict d k) (exp-under-≤-own-over d (lnUnder d A))))
 
   pub ln-over-≤-whole : (d : ℕ) → lnOver d A ≤ᶠ whole b
   unfolding lnOver
@@ -71,16 +71,6 @@ twenty-thousand = record { cross = lit≤ tt }
 pub ln-over-≤-ten : {A : Fraction} → A ≤ᶠ whole 20000 → (d : ℕ) → lnOver d A ≤ᶠ whole 10
 ln-over-≤-ten b d = ln-over-≤-whole 10 (≤ᶠ-trans b twenty-thousand) d
 
--- at depth 1 and A = 20000 it is exactly 10
-pub ln-over-20000 : lnOver 1 (whole 20000) =ᶠ whole 10
-unfolding lnOver
-ln-over-20000 = rw smallest-is (unfold decimal whole in record { cross = refl })
-  where
-    smallest-is : lnSmallest 1 (whole 20000) ≡ 100
-    smallest-is =
-        unfold expUnder partialSum sumNum termNum termDen decimal whole in
-        ln-smallest-value 1 (whole 20000) _ (record { cross = lit≤ tt }) (record { cross = lit< tt })
-
 pub ln-under-≤-ten : {A : Fraction} → whole 1 ≤ᶠ A → A ≤ᶠ whole 20000 → (d : ℕ) → lnUnder d A ≤ᶠ whole 10
 ln-under-≤-ten one b d = ln-under-≤-whole 10 (≤ᶠ-trans b twenty-thousand) one d
 
@@ -100,34 +90,6 @@ ln-under-at-least d {A} one b =
 pub ln-under-≤-over : {A : Fraction} → whole 1 ≤ᶠ A → A ≤ᶠ whole (10 ^ 9) → (d e : ℕ) → lnUnder d A ≤ᶠ lnOver e A
 ln-under-≤-over one b d e = below-ln-over (ln-under-at-least d one b) e
 
-pub ln-under-mono : {A B : Fraction} → whole 1 ≤ᶠ A → A ≤ᶠ B → (d : ℕ) → lnUnder d A ≤ᶠ lnUnder d B
-unfolding lnUnder
-ln-under-mono {A} {B} one l d = decimal-mono d (ln-largest-is d B (≤ᶠ-trans one l) .most (lnLargest d A) (≤ᶠ-trans (ln-largest-is d A one .holds) l))
-
 pub ln-over-mono : {A B : Fraction} → A ≤ᶠ B → (d : ℕ) → lnOver d A ≤ᶠ lnOver d B
 unfolding lnOver
 ln-over-mono {A} {B} l d = decimal-mono d (ln-smallest-is d A .least (lnSmallest d B) (≤ᶠ-trans l (ln-smallest-is d B .holds)))
-
--- e^0 is 1, so above 1 an over-estimate is above 0
-pub ln-over-positive : {A : Fraction} → whole 1 <ᶠ A → (d : ℕ) → 0 < lnOver d A .num
-ln-over-positive {A} l d = by-cases (decLe (lnOver d A .num) 0)
-  where
-    by-cases : Dec (lnOver d A .num ≤ 0) → 0 < lnOver d A .num
-    by-cases (no k) = lt-of-not-le k
-    by-cases (yes k) = absurd (not-≤ᶠ-and-<ᶠ (≤ᶠ-trans (ln-over-holds d A) (=ᶠ-≤ᶠ (exp-under-zero d (lnOver d A) (omega arith)))) l)
-
--- PRODUCTS
-
-module _ {A B : Fraction} where
-  pub ln-product-low-stands : {x y : Fraction} → AtLeastExp A x → AtLeastExp B y → LowRight (x +ᶠ y) (λ d. lnOver d (A *ᶠ B))
-  ln-product-low-stands h k = ln-low-stands (at-least-product h k)
-
-  pub ln-product-high-stands : {x y : Fraction} → whole 1 ≤ᶠ A *ᶠ B → x +ᶠ y ≤ᶠ whole 21 → AtMostExp A x → AtMostExp B y → HighRight (x +ᶠ y) (λ d. lnUnder d (A *ᶠ B))
-  ln-product-high-stands one b h k = ln-high-stands one b (at-most-product h k)
-
-module _ (A B : Fraction) where
-  pub ln-sum-under-≤-over : whole 1 ≤ᶠ A → whole 1 ≤ᶠ B → A ≤ᶠ whole (10 ^ 9) → B ≤ᶠ whole (10 ^ 9) → (d e f : ℕ) → lnUnder d A +ᶠ lnUnder e B ≤ᶠ lnOver f (A *ᶠ B)
-  ln-sum-under-≤-over p q b c d e f = below-ln-over (at-least-product (ln-under-at-least d p b) (ln-under-at-least e q c)) f
-
-  pub ln-under-≤-sum-over : whole 1 ≤ᶠ A *ᶠ B → (d e f : ℕ) → lnOver d A +ᶠ lnOver e B ≤ᶠ whole 21 → lnUnder f (A *ᶠ B) ≤ᶠ lnOver d A +ᶠ lnOver e B
-  ln-under-≤-sum-over one d e f b = above-ln-under one b (at-most-product (ln-over-at-most d A) (ln-over-at-most e B)) f

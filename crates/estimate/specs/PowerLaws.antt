@@ -1,7 +1,7 @@
 -- Laws of bounds t/S of powers A^(p/q), over every exponent p and denominator q: why they stand at every depth, and what they make.
 use Prim.Native.Nat.{ℕ, _+_, _*_, _^_, _≤_, _<_}
 use mathlib.Core.Path.{_≡_}
-use native.Mathlib.Nat.{le-trans, le-of-lt, mul-le-mul-left, mul-le-mul-right, le-of-mul-le-mul-right, one-le-pow, pow-le-pow-left, lt-of-not-le, not-suc-le-self}
+use native.Mathlib.Nat.{le-of-lt, mul-le-mul-left, mul-le-mul-right, le-of-mul-le-mul-right, one-le-pow, pow-le-pow-left, lt-of-not-le, not-suc-le-self}
 use native.Mathlib.Omega.{arith}
 use native.Mathlib.Numerals.{add-one}
 use lib.Pow.{pow-add}
@@ -19,7 +19,7 @@ root-bounds-in-order X q a b S R hq h k =
 
 module _ (A p q : ℕ) (hq : 0 < q) where
   -- t + 1 does not pass
-  above-power : (d : ℕ) → AtLeastPower (powerLargest d A p q + 1) (10 ^ d) A p q
+  pub above-power : (d : ℕ) → AtLeastPower (powerLargest d A p q + 1) (10 ^ d) A p q
   above-power d = le-of-lt (lt-of-not-le (λ h. not-suc-le-self _ (rw add-one at (power-largest-is d A p q hq .most (powerLargest d A p q + 1) h))))
 
   module _ (t S : ℕ) (hS : 0 < S) where
@@ -30,14 +30,6 @@ module _ (A p q : ℕ) (hq : 0 < q) where
     pub power-high-stands : AtLeastPower t S A p q → HighRight (fraction t S hS) (λ d. powerUnder d A p q)
     unfolding fraction powerUnder decimal
     power-high-stands h = record { at = λ d _. record { cross = root-bounds-in-order (A ^ p) q _ t (10 ^ d) S hq (power-largest-is d A p q hq .holds) h } }
-
-  pub power-under-≤-over : (d e : ℕ) → powerUnder d A p q ≤ᶠ powerOver e A p q
-  unfolding powerUnder powerOver decimal
-  power-under-≤-over d e = record { cross = root-bounds-in-order (A ^ p) q _ _ (10 ^ d) (10 ^ e) hq (power-largest-is d A p q hq .holds) (above-power e) }
-
-  pub power-over-positive : (d : ℕ) → 0 < powerOver d A p q .num
-  unfolding powerOver decimal
-  power-over-positive d = omega arith
 
   -- A from 1: the power is at least 1
   pub power-under-≥-one : 1 ≤ A → (d : ℕ) → whole 1 ≤ᶠ powerUnder d A p q
@@ -68,14 +60,7 @@ module _ (n m p q S a b c : ℕ) (hS : 0 < S) where
   pub power-high-product : AtLeastPower a S n p q → AtLeastPower b S m p q → a * b ≤ c * S → AtLeastPower c S (n * m) p q
   power-high-product h k l = power-high-remainder (n * m) n p q S S a b c hS h (rw (mul-pow n m p) (omega (arith, mul-le-mul-right (n ^ p) k))) l
 
--- OTHER BASES AND EXPONENTS
-
-module _ (A B p q S t : ℕ) (l : A ≤ B) where
-  pub power-low-monotone : AtMostPower t S A p q → AtMostPower t S B p q
-  power-low-monotone h = le-trans h (mul-le-mul-right (S ^ q) (pow-le-pow-left l p))
-
-  pub power-high-monotone : AtLeastPower t S B p q → AtLeastPower t S A p q
-  power-high-monotone h = le-trans (mul-le-mul-right (S ^ q) (pow-le-pow-left l p)) h
+-- OTHER EXPONENTS
 
 module _ (A p q S t k : ℕ) where
   -- an exponent that is not in lowest terms: from p/q to (p k)/(q k)

@@ -3,7 +3,7 @@ use Prim.Native.Nat.{ℕ, zero, suc, _+_, _*_, _^_, _≤_, _<_}
 use mathlib.Core.Path.{_≡_, refl, ap}
 use native.Mathlib.Nat.{mul-le-mul-left, mul-le-mul-right, mul-pos}
 use native.Mathlib.Omega.{arith}
-use Rattle.estimate.specs.Fraction.{Fraction, _≤ᶠ_, fraction, whole, _*ᶠ_, _^ᶠ_}
+use Rattle.estimate.specs.Fraction.{Fraction, fraction, whole, _*ᶠ_, _^ᶠ_}
 use Rattle.estimate.specs.Exponential.{termNum, termDen, sumNum, factorial, partialSum, sumWithTail}
 use Rattle.estimate.specs.ExponentialBounds.{AtMostExp, AtLeastExp, at-most-by-sum, at-least-by-tail, exp-powers-in-order}
 
@@ -86,15 +86,6 @@ ratio-at-most N r h l =
 
 -- POWERS OF THE RATIO
 
-module _ (N r p q : ℕ) (h : 0 < N) {x w : Fraction} where
-  -- w ≤ e^x with q x ≤ p 2z: then w^q ≤ ((N+r)/N)^p
-  pub ratio-power-low : whole q *ᶠ x ≤ᶠ whole p *ᶠ twiceZ N r h → AtMostExp w x → w ^ᶠ q ≤ᶠ ratio N r h ^ᶠ p
-  ratio-power-low l k = exp-powers-in-order p q k (ratio-at-least N r h) l
-
-  -- e^x ≤ w with p (2z + z^3) ≤ q x: then ((N+r)/N)^p ≤ w^q
-  pub ratio-power-high : r ≤ N → whole p *ᶠ twiceZAndCube N r h ≤ᶠ whole q *ᶠ x → AtLeastExp w x → ratio N r h ^ᶠ p ≤ᶠ w ^ᶠ q
-  ratio-power-high g l k = exp-powers-in-order q p (ratio-at-most N r h g) k l
-
 -- q x/R ≤ p u/d and its mirror, through a y/R between
 through-low : (u d y R x p q : ℕ) → y * d ≤ u * R → x * q ≤ y * p → q * x * d ≤ p * u * R
 through-low u d y R x p q a b = omega (arith, mul-le-mul-right d b, mul-le-mul-right p a)
@@ -102,13 +93,13 @@ through-low u d y R x p q a b = omega (arith, mul-le-mul-right d b, mul-le-mul-r
 through-high : (u d y R x p q : ℕ) → u * R ≤ y * d → y * p ≤ x * q → p * u * R ≤ q * x * d
 through-high u d y R x p q a b = omega (arith, mul-le-mul-right d b, mul-le-mul-right p a)
 
--- the same in whole numbers over a scale R, with k + 1 terms: y/R is a bound of the logarithm, x/R of its p/q-th part, w/R of the power
+-- in whole numbers over a scale R, with k + 1 terms: y/R is a bound of the logarithm, x/R of its p/q-th part, w/R of the power
 module _ (N r R p q k y x w : ℕ) (hN : 0 < N) (hR : 0 < R) where
   pub ratio-power-low-whole : y * (2 * N + r) ≤ 2 * r * R → x * q ≤ y * p → w * termDen R k ≤ sumNum x R k * R → w ^ q * N ^ p ≤ (N + r) ^ p * R ^ q
   unfolding fraction twiceZ _^ᶠ_ _*ᶠ_ whole ratio partialSum
   ratio-power-low-whole a b c =
-      ratio-power-low N r p q hN {x = fraction x R hR} {w = fraction w R hR}
-      (omega (arith, through-low (2 * r) (2 * N + r) y R x p q a b)) (at-most-by-sum k (record { cross = c })) .cross
+      exp-powers-in-order {v = fraction w R hR} {x = fraction x R hR} p q (at-most-by-sum k (record { cross = c })) (ratio-at-least N r hN)
+      (omega (arith, through-low (2 * r) (2 * N + r) y R x p q a b)) .cross
 
   pub ratio-power-high-whole : r ≤ N → 2 * x ≤ (k + 2) * R →
       r * (2 * ((2 * N + r) * (2 * N + r)) + r * r) * R ≤ y * ((2 * N + r) * ((2 * N + r) * (2 * N + r))) →
@@ -117,5 +108,5 @@ module _ (N r R p q k y x w : ℕ) (hN : 0 < N) (hR : 0 < R) where
   unfolding fraction twiceZAndCube _^ᶠ_ _*ᶠ_ whole ratio sumWithTail
   ratio-power-high-whole g l a b c =
       let D = 2 * N + r in
-      ratio-power-high N r p q hN {x = fraction x R hR} {w = fraction w R hR} g
-      (omega (arith, through-high (r * (2 * (D * D) + r * r)) (D * (D * D)) y R x p q a b)) (at-least-by-tail k (omega arith) (record { cross = c })) .cross
+      exp-powers-in-order {w = fraction w R hR} {y = fraction x R hR} q p (ratio-at-most N r hN g) (at-least-by-tail k (omega arith) (record { cross = c }))
+      (omega (arith, through-high (r * (2 * (D * D) + r * r)) (D * (D * D)) y R x p q a b)) .cross

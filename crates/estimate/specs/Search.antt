@@ -50,7 +50,8 @@ unfolding smallest
 smallest-passes test zero h = h
 smallest-passes test (suc b) h = by-test (test zero) refl (smallest-passes (λ i. test (suc i)) b h)
   where
-    by-test : (v : Bool) → test zero ≡ v → T (test (suc (smallest (λ i. test (suc i)) b))) → T (test (elim v [ true ↦ zero | false ↦ suc (smallest (λ i. test (suc i)) b) ]))
+    by-test : (v : Bool) → test zero ≡ v → T (test (suc (smallest (λ i. test (suc i)) b)))
+        → T (test (elim v [ true ↦ zero | false ↦ suc (smallest (λ i. test (suc i)) b) ]))
     by-test true e r = rw e tt
     by-test false e r = r
 

@@ -33,7 +33,8 @@ cauchy-weighted :
 unfolding cauchy
 cauchy-weighted u v f g c zero h = omega (arith, ap (λ z. z * (u 0 * v 0)) (h 0 0 refl))
 cauchy-weighted u v f g c (suc j) h =
-    omega (arith, ap (λ z. z * (u 0 * v (suc j))) (h 0 (suc j) (zero-add (suc j))), cauchy-weighted (next u) v (next f) g c j (λ i k e. h (suc i) k (omega arith)))
+    let later = cauchy-weighted (next u) v (next f) g c j (λ i k e. h (suc i) k (omega arith)) in
+    omega (arith, ap (λ z. z * (u 0 * v (suc j))) (h 0 (suc j) (zero-add (suc j))))
 
 cauchy-scaled-left : (D a : ℕ) (u u' v : ℕ → ℕ) (j : ℕ) → ((i : ℕ) → i ≤ j → D * u' i ≡ a * u i) → D * cauchy u' v j ≡ a * cauchy u v j
 unfolding cauchy

@@ -1,7 +1,7 @@
 -- When a low and a high are right, over estimates that are functions of the depth.
 use Prim.Native.Nat.{ℕ, _≤_, _<_}
-use Rattle.estimate.specs.Fraction.{Fraction, _≤ᶠ_, _+ᶠ_, _*ᶠ_, inverse}
-use Rattle.estimate.specs.FractionLaws.{≤ᶠ-refl, ≤ᶠ-trans, +ᶠ-mono, *ᶠ-mono, inverse-antitone}
+use Rattle.estimate.specs.Fraction.{Fraction, _≤ᶠ_, _+ᶠ_, inverse}
+use Rattle.estimate.specs.FractionLaws.{≤ᶠ-refl, ≤ᶠ-trans, +ᶠ-mono, inverse-antitone}
 
 -- "A low is right when it is at most the over-estimate at every depth", "depth d, d at least 1"
 pub record LowRight (low : Fraction) (over : ℕ → Fraction) : Type 0 where
@@ -29,20 +29,7 @@ smaller-low-right l h = record { at = λ d k. ≤ᶠ-trans l (h .at d k) }
 pub larger-high-right : {a b : Fraction} {under : ℕ → Fraction} → a ≤ᶠ b → HighRight a under → HighRight b under
 larger-high-right l h = record { at = λ d k. ≤ᶠ-trans (h .at d k) l }
 
--- estimates that lie further out
-pub larger-over-right : {a : Fraction} {over over' : ℕ → Fraction} → ((d : ℕ) → 1 ≤ d → over d ≤ᶠ over' d) → LowRight a over → LowRight a over'
-larger-over-right l h = record { at = λ d k. ≤ᶠ-trans (h .at d k) (l d k) }
-
-pub smaller-under-right : {a : Fraction} {under under' : ℕ → Fraction} → ((d : ℕ) → 1 ≤ d → under' d ≤ᶠ under d) → HighRight a under → HighRight a under'
-smaller-under-right l h = record { at = λ d k. ≤ᶠ-trans (l d k) (h .at d k) }
-
 module _ {a b : Fraction} {f g : ℕ → Fraction} where
-  pub low-product-right : LowRight a f → LowRight b g → LowRight (a *ᶠ b) (λ d. f d *ᶠ g d)
-  low-product-right h k = record { at = λ d l. *ᶠ-mono (h .at d l) (k .at d l) }
-
-  pub high-product-right : HighRight a f → HighRight b g → HighRight (a *ᶠ b) (λ d. f d *ᶠ g d)
-  high-product-right h k = record { at = λ d l. *ᶠ-mono (h .at d l) (k .at d l) }
-
   pub low-sum-right : LowRight a f → LowRight b g → LowRight (a +ᶠ b) (λ d. f d +ᶠ g d)
   low-sum-right h k = record { at = λ d l. +ᶠ-mono (h .at d l) (k .at d l) }
 

@@ -1,14 +1,14 @@
 -- The brackets of e^x and e^(-x), x in ten-thousandths, what the calls answer, and what an answer promises.
 use Prim.Native.Nat.{ℕ, _+_, _*_, _/_, _%_, _<_}
-use mathlib.Core.Bool.{cond}
 use lib.Dec.{leb}
 use Rattle.estimate.specs.Fraction.{Fraction, tenThousandths}
 use Rattle.estimate.specs.Exponential.{expUnder, expOver, expNegUnder, expNegOver}
 use Rattle.wide.specs.Scaling.{floor, ceiling}
 use Rattle.bracket.specs.Bracket.{Stands, RelativeWidth, exponentialWidth}
+use Rattle.bracket.specs.Answer.{answerWhere, AnswerPromised}
+use Rattle.bracket.specs.Reciprocal.{reciprocal}
 use Rattle.bracket.specs.declared.Bracket.{Bracket}
 use Rattle.bracket.specs.declared.BracketAnswer.{BracketAnswer}
-use Rattle.bracket.specs.declared.BracketAnswer.the-variants.{Between, OutOfRange}
 use Rattle.exponential.specs.Scale.{scale}
 use Rattle.exponential.specs.Stored.{storedExp}
 use Rattle.exponential.specs.Taylor.{taylorLow, taylorHigh}
@@ -29,15 +29,11 @@ expMost = 1300000 * scale
 abbrev pub atScale : (low high : ℕ) → Bracket
 atScale low high = record { «low_num» = low; «low_den» = scale; «high_num» = high; «high_den» = scale }
 
--- "For e^(−x), reciprocals, exchanged."
-abbrev pub reciprocal : Bracket → Bracket
-reciprocal b = record { «low_num» = b .«high_den»; «low_den» = b .«high_num»; «high_num» = b .«low_den»; «high_den» = b .«low_num» }
-
 -- e^x
 unfoldable pub expBracket : ℕ → Bracket
 expBracket x = atScale (expLow x) (expHigh x)
 
--- e^(-x): nothing is rounded again
+-- "For e^(−x), reciprocals, exchanged."
 unfoldable pub expNegBracket : ℕ → Bracket
 expNegBracket x = reciprocal (expBracket x)
 
@@ -45,32 +41,30 @@ expNegBracket x = reciprocal (expBracket x)
 abbrev pub exponentialLimit : ℕ
 exponentialLimit = 140000
 
--- "an argument outside the range stated for such a bracket is answered as that, with no bracket"
-abbrev pub inRange : ℕ → Bracket → BracketAnswer
-inRange x b = cond (leb x exponentialLimit) (Between b) OutOfRange
-
 -- what the calls answer for e^x
 unfoldable pub exponentialAnswer : ℕ → BracketAnswer
-exponentialAnswer x = inRange x (expBracket x)
+exponentialAnswer x = answerWhere (leb x exponentialLimit) (expBracket x)
 
 -- and for e^(-x)
 unfoldable pub exponentialNegativeAnswer : ℕ → BracketAnswer
-exponentialNegativeAnswer x = inRange x (expNegBracket x)
+exponentialNegativeAnswer x = answerWhere (leb x exponentialLimit) (expNegBracket x)
 
 -- "the brackets of the shared arithmetic, which stand to the estimates as a pair does and have a stated width"
 pub record Promised (under over : ℕ → Fraction) (b : Bracket) : Type 0 where
   pub stands : Stands b under over
   pub width : RelativeWidth exponentialWidth 1 b
 
--- an answer within the range has such a bracket, and only an argument outside it has none
-abbrev pub AnswerStands : ℕ → (under over : ℕ → Fraction) → BracketAnswer → Type 0
-AnswerStands x under over (Between b) = Promised under over b
-AnswerStands x under over OutOfRange = exponentialLimit < x
-
 -- the estimates of e^x, at every depth
-abbrev pub ExponentialStands : ℕ → BracketAnswer → Type 0
-ExponentialStands x = AnswerStands x (λ d. expUnder d (tenThousandths x)) (λ d. expOver d (tenThousandths x))
+abbrev pub OfExponential : ℕ → Bracket → Type 0
+OfExponential x = Promised (λ d. expUnder d (tenThousandths x)) (λ d. expOver d (tenThousandths x))
 
 -- and those of e^(-x)
+abbrev pub OfExponentialNegative : ℕ → Bracket → Type 0
+OfExponentialNegative x = Promised (λ d. expNegUnder d (tenThousandths x)) (λ d. expNegOver d (tenThousandths x))
+
+-- an answer within the range has such a bracket, and only an argument outside it has none
+abbrev pub ExponentialStands : ℕ → BracketAnswer → Type 0
+ExponentialStands x = AnswerPromised (OfExponential x) (exponentialLimit < x)
+
 abbrev pub ExponentialNegativeStands : ℕ → BracketAnswer → Type 0
-ExponentialNegativeStands x = AnswerStands x (λ d. expNegUnder d (tenThousandths x)) (λ d. expNegOver d (tenThousandths x))
+ExponentialNegativeStands x = AnswerPromised (OfExponentialNegative x) (exponentialLimit < x)

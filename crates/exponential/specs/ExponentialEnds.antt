@@ -47,10 +47,6 @@ module _ (x : ℕ) (within : x ≤ exponentialLimit) where
   pub exp-ends-in-order : scaled (expLow x) ≤ᶠ scaled (expHigh x)
   exp-ends-in-order = exp-bounds-in-order (exp-low-at-most x) exp-high-at-least (≤ᶠ-refl (tenThousandths x))
 
-  pub exp-low-≤-high : expLow x ≤ expHigh x
-  unfolding scaled fraction
-  exp-low-≤-high = omega (arith, exp-ends-in-order .cross)
-
 -- THE ENDS ARE CLOSE. In plain numbers e is the stored number, l and h the ends of the rest, a and b those of the product, R the scale
 apart : (e l h a b R : ℕ) → h ≤ l + 36 → 36 ≤ R → R ≤ e → l ≤ 17 * R → e * l < a * R + R → b * R < (e + 1) * h + R → b * R ≤ a * R + 56 * e
 apart e l h a b R near r le ll fl cl = omega (arith, mul-le-mul-left (e + 1) near)
@@ -95,9 +91,6 @@ module _ (x : ℕ) (within : x ≤ exponentialLimit) where
   pub exp-low-most : expLow x ≤ storedMost
   unfolding scaled fraction
   exp-low-most = omega (arith, stored-bounds 14 (lit< tt) .most, exp-bounds-in-order (exp-low-at-most x) (stored-at-least 14 (lit< tt)) at-most-fourteen .cross)
-
-  pub exp-high-least : scale ≤ expHigh x
-  exp-high-least = le-trans exp-low-least (exp-low-≤-high x within)
 
   pub exp-high-most : expHigh x ≤ expMost
   exp-high-most = omega (arith, exp-low-most, exp-ends-close)

@@ -6,7 +6,7 @@ use Rattle.estimate.specs.Fraction.{fraction, _≤ᶠ_, whole, _*ᶠ_, tenThous
 use Rattle.estimate.specs.Exponential.{sumWithTail}
 use Rattle.estimate.specs.ExponentialBounds.{at-least-by-tail, exp-bounds-in-order}
 use Rattle.bracket.specs.Bracket.{exponentialWidth}
-use Rattle.bracket.specs.WidthLaws.{high-below, steps-apart, exponential-width-large}
+use Rattle.bracket.specs.WidthLaws.{high-below, exponential-width-large}
 use Rattle.exponential.specs.Scale.{scaled}
 use Rattle.exponential.specs.Exponential.{expBracket}
 use Rattle.exponential.specs.ExponentialEnds.{exp-low-at-most}
@@ -19,6 +19,6 @@ module _ (x X v w D : ℕ) (within : x ≤ X) (short : X ≤ 10000) (hD : 0 < D)
   unfolding expBracket fraction tenThousandths scaled whole _*ᶠ_
   exp-below =
       let p = exp-promised x (omega arith) in
-      let b = exp-bounds-in-order (exp-low-at-most x) (at-least-by-tail 7 (record { cross = omega arith }) sum) (record { cross = mul-le-mul-right 10000 within }) in
-      high-below exponentialWidth (expBracket x) v D w D exponential-width-large (p .width) (p .stands .low-den) hD (b .cross)
-      (steps-apart exponentialWidth v w D below few)
+      let least = at-least-by-tail 7 (record { cross = omega arith }) sum in
+      let b = exp-bounds-in-order (exp-low-at-most x) least (record { cross = mul-le-mul-right 10000 within }) in
+      high-below exponentialWidth (expBracket x) v w D exponential-width-large (p .stands .low-den) (p .width) below few (b .cross)

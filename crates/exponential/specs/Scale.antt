@@ -1,6 +1,5 @@
 -- The scale at which whole numbers stand for fractions here, and products at that scale.
 use Prim.Native.Nat.{ℕ, _*_, _^_, _≤_, _<_}
-use native.Mathlib.Nat.{le-trans, le-of-eq, mul-comm}
 use native.Mathlib.Omega.{arith}
 use lib.Dec.{lit<}
 use Rattle.estimate.specs.Fraction.{Fraction, fraction, _≤ᶠ_, _*ᶠ_}
@@ -18,11 +17,6 @@ scale-positive = lit< tt
 unfoldable pub scaled : ℕ → Fraction
 unfolding fraction
 scaled w = fraction w scale scale-positive
-
--- a fraction brought to the scale, rounded down
-pub rounded-down-≤ : (a : Fraction) → scaled (floor scale (a .num) (a .den)) ≤ᶠ a
-unfolding scaled fraction
-rounded-down-≤ a = record { cross = le-trans (floor-le scale (a .num) (a .den)) (le-of-eq (mul-comm scale (a .num))) }
 
 -- a product at the scale, rounded down and rounded up
 pub product-down-≤ : (a b : ℕ) → scaled (floor a b scale) ≤ᶠ scaled a *ᶠ scaled b

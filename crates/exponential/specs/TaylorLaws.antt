@@ -10,46 +10,30 @@ use Rattle.wide.specs.Rounding.{floor-le, floor-lt, ceiling-ge, ceiling-lt}
 use Rattle.exponential.specs.Scale.{scale, scaled}
 use Rattle.exponential.specs.Taylor.{termLow, termHigh, sumLow, sumHigh, taylorLow, taylorHigh}
 
--- THE TERMS AND THE SUMS STAND. In plain numbers P/B is the term so far, Q/B the sum, R the scale, t and s what stands for them, f/d the next factor
-low-term-next : (B P R t t' f d : ℕ) → t * B ≤ P * R → t' * d ≤ t * f → t' * (B * d) ≤ P * f * R
-low-term-next B P R t t' f d h k = omega (arith, mul-le-mul-right f h, mul-le-mul-right B k)
-
-high-term-next : (B P R t t' f d : ℕ) → P * R ≤ t * B → t * f ≤ t' * d → P * f * R ≤ t' * (B * d)
-high-term-next B P R t t' f d h k = omega (arith, mul-le-mul-right f h, mul-le-mul-right B k)
-
-low-sum-next : (B P Q R s t d : ℕ) → s * B ≤ Q * R → t * (B * d) ≤ P * R → (s + t) * (B * d) ≤ (Q * d + P) * R
-low-sum-next B P Q R s t d h k = omega (arith, mul-le-mul-right d h)
-
--- with the new term taken c times
-high-sum-next : (c B P Q R s t d : ℕ) → Q * R ≤ s * B → P * R ≤ t * (B * d) → (Q * d + c * P) * R ≤ (s + c * t) * (B * d)
-high-sum-next c B P Q R s t d h k = omega (arith, mul-le-mul-right d h, mul-le-mul-right c k)
-
+-- THE TERMS AND THE SUMS STAND
 next-positive : (k : ℕ) → 0 < 10000 * suc k
 next-positive k = omega arith
 
 term-low-≤ : (f k : ℕ) → termLow f k * termDen 10000 k ≤ termNum f k * scale
 unfolding termLow termNum termDen
 term-low-≤ f zero = omega arith
-term-low-≤ f (suc k) = low-term-next (termDen 10000 k) (termNum f k) scale (termLow f k) _ f (10000 * suc k) (term-low-≤ f k) (floor-le (termLow f k) f (10000 * suc k))
+term-low-≤ f (suc k) = omega (arith, mul-le-mul-right f (term-low-≤ f k), mul-le-mul-right (termDen 10000 k) (floor-le (termLow f k) f (10000 * suc k)))
 
 term-high-≥ : (f k : ℕ) → termNum f k * scale ≤ termHigh f k * termDen 10000 k
 unfolding termHigh termNum termDen
 term-high-≥ f zero = omega arith
 term-high-≥ f (suc k) =
-    high-term-next (termDen 10000 k) (termNum f k) scale (termHigh f k) _ f (10000 * suc k) (term-high-≥ f k)
-    (ceiling-ge (termHigh f k) f (10000 * suc k) (next-positive k))
+    omega (arith, mul-le-mul-right f (term-high-≥ f k), mul-le-mul-right (termDen 10000 k) (ceiling-ge (termHigh f k) f (10000 * suc k) (next-positive k)))
 
 sum-low-≤ : (f k : ℕ) → sumLow f k * termDen 10000 k ≤ sumNum f 10000 k * scale
 unfolding sumLow sumNum termDen
 sum-low-≤ f zero = omega arith
-sum-low-≤ f (suc k) =
-    low-sum-next (termDen 10000 k) (termNum f (suc k)) (sumNum f 10000 k) scale (sumLow f k) (termLow f (suc k)) (10000 * suc k) (sum-low-≤ f k) (term-low-≤ f (suc k))
+sum-low-≤ f (suc k) = omega (arith, mul-le-mul-right (10000 * suc k) (sum-low-≤ f k), term-low-≤ f (suc k))
 
 sum-high-next : (c f k : ℕ) → sumNum f 10000 k * scale ≤ sumHigh f k * termDen 10000 k →
     (sumNum f 10000 k * (10000 * suc k) + c * termNum f (suc k)) * scale ≤ (sumHigh f k + c * termHigh f (suc k)) * termDen 10000 (suc k)
 unfolding termDen
-sum-high-next c f k h =
-    high-sum-next c (termDen 10000 k) (termNum f (suc k)) (sumNum f 10000 k) scale (sumHigh f k) (termHigh f (suc k)) (10000 * suc k) h (term-high-≥ f (suc k))
+sum-high-next c f k h = omega (arith, mul-le-mul-right (10000 * suc k) h, mul-le-mul-right c (term-high-≥ f (suc k)))
 
 sum-high-≥ : (f k : ℕ) → sumNum f 10000 k * scale ≤ sumHigh f k * termDen 10000 k
 unfolding sumHigh sumNum

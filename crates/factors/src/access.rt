@@ -2,8 +2,8 @@
 ghost use mathlib.Core.Path.{_≡_};
 ghost use Prim.Native.Nat.{_≤_};
 ghost use Rattle.model.specs.Access as access;
-ghost use Rattle.factors.specs.Ratio.{coded};
-use crate::Ratio;
+ghost use Rattle.bracket.specs.Ratio.{coded};
+use bracket::Ratio;
 
 // None, a passing lane, a short four-lane section, in hundredths.
 const PASSING: [u64; 3] = [100, 75, 65];

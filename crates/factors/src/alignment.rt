@@ -1,11 +1,11 @@
 // Curve, superelevation and grade of a segment.
 ghost use mathlib.Core.Path.{_≡_};
 ghost use Prim.Native.Nat.{_≤_};
-ghost use Rattle.estimate.specs.Fraction.{_^ᶠ_};
+ghost use Rattle.estimate.specs.Fraction.{_//_, _^ᶠ_};
 ghost use Rattle.model.specs.Alignment as alignment;
-ghost use Rattle.model.specs.Grade.{onePercent, gradeFirst, gradeSecond};
-ghost use Rattle.factors.specs.Ratio.{coded};
-use crate::Ratio;
+ghost use Rattle.model.specs.Coefficients.{editionOne};
+ghost use Rattle.bracket.specs.Ratio.{coded};
+use bracket::Ratio;
 
 // 127 and 125 to the powers 0 to 6: 1.016 is 127 / 125.
 const POWERS_OF_127: [u64; 7] = [
@@ -67,7 +67,7 @@ pub fn superelevation(deficiency: u64) -> Ratio
 // 1.016 to a power of at most 6.
 fn grade_power(exponent: u64) -> Ratio
     requires { ⌜ exponent ≤ 6 ⌝ }
-    ensures { λ r. ⌜ r ≡ coded (onePercent ^ᶠ exponent) ⌝ }
+    ensures { λ r. ⌜ r ≡ coded ((127 // 125) ^ᶠ exponent) ⌝ }
 {
     let place = exponent as usize;
     Ratio {
@@ -76,9 +76,9 @@ fn grade_power(exponent: u64) -> Ratio
     }
 }
 
-// The first of a grade's two factors, for up to 6 percent: the whole would not fit 64 bits.
-pub fn grade_first(percent: u64) -> Ratio
-    ensures { λ r. ⌜ r ≡ coded (gradeFirst percent) ⌝ }
+// Edition 1's factor of a grade, for up to 6 percent: the whole would not fit 64 bits.
+pub fn grade(percent: u64) -> Ratio
+    ensures { λ r. ⌜ r ≡ coded (editionOne .grade percent) ⌝ }
 {
     if percent < 6 {
         return grade_power(percent);
@@ -86,10 +86,10 @@ pub fn grade_first(percent: u64) -> Ratio
     grade_power(6)
 }
 
-// The second, for what is left of the grade.
-pub fn grade_second(percent: u64) -> Ratio
+// And for what is above 6.
+pub fn steep_grade(percent: u64) -> Ratio
     requires { ⌜ percent ≤ 12 ⌝ }
-    ensures { λ r. ⌜ r ≡ coded (gradeSecond percent) ⌝ }
+    ensures { λ r. ⌜ r ≡ coded (editionOne .steep-grade percent) ⌝ }
 {
     if percent < 6 {
         return grade_power(0);

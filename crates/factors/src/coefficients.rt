@@ -3,8 +3,9 @@
 ghost use mathlib.Core.Path.{_≡_};
 ghost use Prim.Native.Nat.{_≤_};
 ghost use Rattle.model.specs.Coefficients.{editionOne};
-ghost use Rattle.factors.specs.Ratio.{coded};
-use crate::Ratio;
+ghost use Rattle.bracket.specs.Ratio.{coded};
+ghost use Rattle.factors.specs.Edition.{Held};
+use bracket::Ratio;
 
 // What an edition sets and no kind changes.
 pub struct Coefficients {
@@ -21,7 +22,7 @@ const OVERDISPERSIONS: [u64; 4] = [31, 54, 24, 11];
 
 // Edition 1's numbers that are the same for every kind.
 pub fn edition_one() -> Coefficients
-    ensures { λ r. ⌜ (r .«related_share» ≡ editionOne .related-share) × (r .«driveway_constant» ≡ editionOne .driveway-constant) × (r .«fewest_driveways» ≡ editionOne .fewest-driveways) ⌝ }
+    ensures { λ r. ⌜ Held editionOne r ⌝ }
 {
     Coefficients {
         related_share: 350,

@@ -3,8 +3,8 @@ ghost use mathlib.Core.Path.{_≡_};
 ghost use Prim.Native.Nat.{_≤_};
 ghost use Rattle.model.specs.Coefficients.{editionOne};
 ghost use Rattle.model.specs.Crossings as crossings;
-ghost use Rattle.factors.specs.Ratio.{coded};
-use crate::Ratio;
+ghost use Rattle.bracket.specs.Ratio.{coded};
+use bracket::Ratio;
 
 // Edition 1's factors in thousandths, a row for each kind, by none, one and two lanes. A segment has none, and a 3ST at most
 // one.

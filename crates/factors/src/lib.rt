@@ -4,9 +4,3 @@ pub mod alignment;
 pub mod coefficients;
 pub mod crossings;
 pub mod widths;
-
-// The fraction num / den.
-pub struct Ratio {
-    pub num: u64,
-    pub den: u64,
-}

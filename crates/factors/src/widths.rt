@@ -4,9 +4,9 @@ ghost use Prim.Native.Nat.{_*_, _≤_, _<_};
 ghost use lib.ListN.{getD};
 ghost use Rattle.model.specs.Widths.{laneColumns, laneColumn, laneValue, shoulderColumns, shoulderColumn, shoulderValue, typeValue, none, atTraffic, ofRelated};
 ghost use Rattle.model.specs.FactorBounds.{ColumnWithin, highestValue};
-ghost use Rattle.factors.specs.Ratio.{coded};
+ghost use Rattle.bracket.specs.Ratio.{coded};
 ghost use Rattle.factors.specs.Column.{columnOf};
-use crate::Ratio;
+use bracket::Ratio;
 
 // A column, in hundred-millionths: the value below A = 400, what each vehicle above 400 adds to it or takes from it, and the
 // value above 2,000.

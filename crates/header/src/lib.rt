@@ -1,11 +1,57 @@
-// The limits of a header's years and calibrations: the same for a file and for a call that is given them.
+// The header of a project file: what it says of every site, the count of sites, their limits, and the first cause to refuse it.
 ghost use mathlib.Core.Path.{_≡_};
+ghost use Prim.Native.Nat.{_≤_};
+ghost use lib.ListN.{length};
 ghost use Rattle.site.specs.Rules.{inside};
-ghost use Rattle.model.specs.Predicted.{headerOf, inLimits};
+ghost use Rattle.header.specs.Header.{headerLength, headerIn, countIn, inLimits, headerNumber};
+use site_reader::word_at;
+
+// What holds for every site: the years, and the calibrations in thousandths.
+pub struct Header {
+    pub years: u64,
+    pub segments: u64,
+    pub crossings: u64,
+}
+
+pub const HEADER_LENGTH: usize = 8;
+
+const EDITION: u8 = 1;
 
 const MOST_YEARS: u64 = 10;
 
 const MOST_CALIBRATION: u64 = 9999;
+
+pub const MOST_SITES: usize = 1900;
+
+// A byte as a number of 64 bits.
+fn wide(byte: u8) -> u64
+    ensures { λ r. ⌜ r ≡ byte ⌝ }
+{
+    byte as u64
+}
+
+// The years and calibrations of a file that is long enough for a header.
+pub fn header_in(file: &[u8]) -> Header
+    requires { ⌜ headerLength ≤ length (now file) ⌝ }
+    ensures { λ r. ⌜ r ≡ headerIn (now (file .entry)) ⌝ }
+{
+    let years = wide(file[1]);
+    let segments = word_at(file, 2) as u64;
+    let crossings = word_at(file, 4) as u64;
+    Header {
+        years,
+        segments,
+        crossings,
+    }
+}
+
+// The count of sites of such a file.
+pub fn count_in(file: &[u8]) -> usize
+    requires { ⌜ headerLength ≤ length (now file) ⌝ }
+    ensures { λ r. ⌜ r ≡ countIn (now (file .entry)) ⌝ }
+{
+    word_at(file, 6) as usize
+}
 
 // Whether a value lies from 1 to a number.
 fn is_up_to(most: u64, value: u64) -> bool
@@ -14,15 +60,31 @@ fn is_up_to(most: u64, value: u64) -> bool
     1 <= value && value <= most
 }
 
-// Whether years and calibrations, in thousandths, are within their limits.
-pub fn is_in_limits(years: u64, segments: u64, crossings: u64) -> bool
-    ensures { λ r. ⌜ r ≡ inLimits (headerOf years segments crossings) ⌝ }
+// Whether years and calibrations are within their limits.
+pub fn is_in_limits(header: Header) -> bool
+    ensures { λ r. ⌜ r ≡ inLimits header ⌝ }
 {
-    if !is_up_to(MOST_YEARS, years) {
+    if !is_up_to(MOST_YEARS, header.years) {
         return false;
     }
-    if !is_up_to(MOST_CALIBRATION, segments) {
+    if !is_up_to(MOST_CALIBRATION, header.segments) {
         return false;
     }
-    is_up_to(MOST_CALIBRATION, crossings)
+    is_up_to(MOST_CALIBRATION, header.crossings)
+}
+
+// The header's refusal, 1, 3 or 4, or 0.
+pub fn header_number(file: &[u8]) -> u8
+    ensures { λ r. ⌜ r ≡ headerNumber (now (file .entry)) ⌝ }
+{
+    if file.len() < HEADER_LENGTH {
+        return 1;
+    }
+    if file[0] != EDITION {
+        return 3;
+    }
+    if !is_in_limits(header_in(file)) {
+        return 4;
+    }
+    if count_in(file) <= MOST_SITES { 0 } else { 4 }
 }

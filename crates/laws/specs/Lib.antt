@@ -1,5 +1,5 @@
--- What a reader must believe: Lent, how numbers are laid over a lent run. The others are laws: of truth values (Truth), of a table
--- that one computed test passes (Table), of a loop over a list (Walk) and of stores one after another (Stores).
+-- What a reader must believe: Lent, how numbers are laid over a lent run.
+-- Laws: of truth values (Truth), of a table that one computed test passes (Table), of a loop over a list (Walk), of stores (Stores).
 pub mod Lent
 pub mod Truth
 pub mod Table

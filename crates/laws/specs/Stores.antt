@@ -28,7 +28,8 @@ set-first l i (y ∷ a) x =
     rw (set-comm l (i + suc (length a)) i x y other, e) (set-first (set l i y) (suc i) a x)
 
 -- a text and the text after it
-pub puts-more : {before between after : List ℕ} {at place end : ℕ} {a b : List ℕ} → Puts before at a place between → Puts between place b end after → Puts before at (a ++ b) end after
+pub puts-more : {before between after : List ℕ} {at place end : ℕ} {a b : List ℕ} → Puts before at a place between
+    → Puts between place b end after → Puts before at (a ++ b) end after
 puts-more {before} {between} {after} {at} {place} {end} {a} {b} p q = record {
   place-is = omega (arith, length-append a b, p .place-is, q .place-is);
   stored = q .stored ∙ rw (p .stored, p .place-is) (sets-more before at a b);

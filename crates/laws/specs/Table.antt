@@ -2,7 +2,7 @@
 use mathlib.Core.Path.{_≡_, _∙_, subst, sym}
 use mathlib.Core.Bool.{Bool, true, false}
 use mathlib.Core.Logic.{⊎-elim}
-use mathlib.Core.List.{List, [], _∷_, _++_}
+use mathlib.Core.List.{List, [], _∷_}
 use Prim.Native.Nat.{ℕ, zero, suc, _+_, _<_}
 use native.Mathlib.Nat.{add-zero, zero-add, add-suc, suc-add, le-of-suc-le-suc, not-suc-le-zero, eq-or-lt-of-le}
 use lib.Dec.{T, eqb, eqb→eq}
@@ -21,10 +21,6 @@ pub both-right : (a b : Bool) → T (both a b) → T b
 both-right true b t = t
 both-right false b t = absurd t
 
-pub both-of : (a b : Bool) → T a → T b → T (both a b)
-both-of true b s t = t
-both-of false b s t = s
-
 -- the test passes at each entry of the list and its place, counted from i
 abbrev pub every : (ℕ → ℕ → Bool) → ℕ → List ℕ → Bool
 every test i [] = true
@@ -41,13 +37,13 @@ at-from test (x ∷ xs) i t (suc k) h =
 pub at : (test : ℕ → ℕ → Bool) (xs : List ℕ) → T (every test 0 xs) → (k : ℕ) → k < length xs → T (test k (getD xs k 0))
 at test xs t k h = subst (λ (m : ℕ). T (test m (getD xs k 0))) (zero-add k) (at-from test xs 0 t k h)
 
--- a long table, in parts
-pub every-append : (test : ℕ → ℕ → Bool) (xs ys : List ℕ) (i : ℕ) → T (every test i xs) → T (every test (i + length xs) ys) → T (every test i (xs ++ ys))
-every-append test [] ys i s t = subst (λ (m : ℕ). T (every test m ys)) (add-zero i) t
-every-append test (x ∷ xs) ys i s t =
-    both-of (test i x) (every test (suc i) (xs ++ ys)) (both-left (test i x) (every test (suc i) xs) s)
-    (every-append test xs ys (suc i) (both-right (test i x) (every test (suc i) xs) s)
-    (subst (λ (m : ℕ). T (every test m ys)) (add-suc i (length xs) ∙ sym (suc-add i (length xs))) t))
+-- a table of n entries that each pass, and its k-th
+unfoldable pub passesAll : (ℕ → ℕ → Bool) → ℕ → List ℕ → Bool
+passesAll test n xs = both (eqb (length xs) n) (every test 0 xs)
+
+pub entry-passes : (test : ℕ → ℕ → Bool) (n : ℕ) (xs : List ℕ) → T (passesAll test n xs) → (k : ℕ) → k < n → T (test k (getD xs k 0))
+unfolding passesAll
+entry-passes test n xs t k h = at test xs (both-right (eqb (length xs) n) _ t) k (rw (eqb→eq (length xs) n (both-left (eqb (length xs) n) _ t)) h)
 
 -- a test passes at each number below n
 unfoldable pub allBelow : (ℕ → Bool) → ℕ → Bool

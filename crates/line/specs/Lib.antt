@@ -1,8 +1,8 @@
--- A site's line: what it is, what is claimed of it, and why that holds.
+-- A site's line. To be believed: Line, what it is, and Stands, what is claimed of it. Laws of these: the others.
 pub mod Line
 pub mod Stands
+pub mod Dispersion
 pub mod LineLaws
 pub mod Weighing
-pub mod LineSizes
 pub mod AnswerLaws
 pub mod NeededParts

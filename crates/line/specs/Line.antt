@@ -6,8 +6,9 @@ use Rattle.site.specs.declared.values.Site.{Site}
 use Rattle.site.specs.declared.values.Slot.{Slot}
 use Rattle.site.specs.declared.values.Slot.the-variants.{Absent, Number}
 use Rattle.site.specs.Writing.{sound}
+use Rattle.header.specs.declared.Header.{Header}
+use Rattle.header.specs.Header.{inLimits}
 use Rattle.model.specs.Coefficients.{Coefficients}
-use Rattle.model.specs.Predicted.{Header, inLimits}
 use Rattle.model.specs.Expected.{expectedLow, expectedHigh, overdispersionOf}
 use Rattle.prediction.specs.declared.Pair.{Pair}
 use Rattle.prediction.specs.Pair.{predictedPair}
@@ -31,8 +32,8 @@ lineBy predicted expected = record {
 }
 
 -- THE LINE of a site
-unfoldable pub lineOf : Coefficients → Header → Site → Line
-lineOf c header site =
+unfoldable pub siteLine : Coefficients → Header → Site → Line
+siteLine c header site =
     let p = predictedPair c header site in
     lineBy p (expectedPair (overdispersionOf c site) (site .observed) p)
 
@@ -48,4 +49,4 @@ lineRefusal header site = cond (inLimits header) (cond (sound site) 0 8) 4
 
 -- a line, or the first refusal
 unfoldable pub lineAnswer : Coefficients → Header → Site → LineAnswer
-lineAnswer c header site = cond (inLimits header) (cond (sound site) (Made (lineOf c header site)) OutsideRange) OutsideLimits
+lineAnswer c header site = cond (inLimits header) (cond (sound site) (Made (siteLine c header site)) OutsideRange) OutsideLimits

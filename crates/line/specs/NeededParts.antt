@@ -7,9 +7,10 @@ use Rattle.estimate.specs.Fraction.{millionths, _<ᶠ_}
 use Rattle.estimate.specs.FractionLaws.{not-≤ᶠ-and-<ᶠ}
 use Rattle.site.specs.declared.values.Site.{Site}
 use Rattle.site.specs.declared.values.Slot.the-variants.{Number}
+use Rattle.header.specs.declared.Header.{Header}
 use Rattle.model.specs.Coefficients.{Coefficients}
-use Rattle.model.specs.Parts.{number}
-use Rattle.model.specs.Predicted.{Header, predictedUnder, predictedOver}
+use Rattle.site.specs.Numbers.{number}
+use Rattle.model.specs.Predicted.{predictedUnder, predictedOver}
 use Rattle.model.specs.Expected.{expectedUnder, expectedOver}
 use Rattle.line.specs.declared.Line.{Line}
 use Rattle.line.specs.Stands.{Amid, LineStands}

@@ -8,11 +8,12 @@ use Rattle.wide.specs.Rounding.{Narrow}
 use Rattle.site.specs.declared.values.Site.{Site}
 use Rattle.site.specs.declared.values.Slot.the-variants.{Number}
 use Rattle.site.specs.Writing.{sound}
+use Rattle.header.specs.declared.Header.{Header}
+use Rattle.header.specs.Header.{inLimits}
 use Rattle.model.specs.Coefficients.{Coefficients}
-use Rattle.model.specs.Parts.{number}
-use Rattle.model.specs.Predicted.{Header, inLimits, predictedUnder, predictedOver}
+use Rattle.model.specs.Predicted.{predictedUnder, predictedOver}
 use Rattle.model.specs.Expected.{expectedUnder, expectedOver}
-use Rattle.model.specs.StatedWidths.{widthParts, predictedEach, expectedEach}
+use Rattle.model.specs.StatedWidths.{widthParts, predictedEach, expectedEach, observedWeight}
 use Rattle.line.specs.declared.Line.{Line}
 use Rattle.line.specs.declared.LineAnswer.{LineAnswer}
 use Rattle.line.specs.declared.LineAnswer.the-variants.{Made, OutsideLimits, OutsideRange}
@@ -33,7 +34,7 @@ pub record LineStands (c : Coefficients) (header : Header) (site : Site) (line :
   pub expected-in-order : line .«expected_low» ≤ line .«expected_high»
   -- at most 4 and a hundred-thousandth of the high apart; with O crashes, 8 (1 + O) and a hundred-thousandth
   pub predicted-narrow : Narrow widthParts predictedEach 1 (line .«predicted_low») (line .«predicted_high»)
-  pub expected-narrow : Narrow widthParts (expectedEach * (1 + number (site .observed))) 1 (line .«expected_low») (line .«expected_high»)
+  pub expected-narrow : Narrow widthParts (expectedEach * (1 + observedWeight c site)) 1 (line .«expected_low») (line .«expected_high»)
   -- with a history, between the prediction and it
   pub low-amid : (observed : ℕ) → site .observed ≡ Number observed → Amid (line .«predicted_low») (observed * 1000000) (line .«expected_low»)
   pub high-amid : (observed : ℕ) → site .observed ≡ Number observed → Amid (line .«predicted_high») (observed * 1000000) (line .«expected_high»)

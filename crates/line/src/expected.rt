@@ -2,9 +2,11 @@
 ghost use mathlib.Core.Path.{_≡_};
 ghost use Prim.Native.Nat.{_≤_};
 ghost use Rattle.wide.specs.Scaling.{floor, ceiling};
-ghost use Rattle.model.specs.Parts as parts;
+ghost use Rattle.site.specs.Numbers.{number};
+ghost use Rattle.model.specs.StatedWidths.{mostPredicted};
+ghost use Rattle.line.specs.Dispersion.{Overdispersed};
 ghost use Rattle.line.specs.Weighing.{over, under, Sizes, weighedPair};
-use factors::Ratio;
+use bracket::Ratio;
 use prediction::Pair;
 use site::values::Slot;
 use wide::scale::times_down;
@@ -14,7 +16,7 @@ const MILLION: u64 = 1_000_000;
 
 // A million times kd + kn O.
 fn over_of(kn: u64, kd: u64, observed: u64) -> u64
-    requires { ⌜ (kn ≤ 1000) × (kd ≤ 20000) × (observed ≤ 500) ⌝ }
+    requires { ⌜ Overdispersed kn kd × (observed ≤ 500) ⌝ }
     ensures { λ r. ⌜ r ≡ over kn kd observed ⌝ }
 {
     (kd + kn * observed) * MILLION
@@ -22,7 +24,7 @@ fn over_of(kn: u64, kd: u64, observed: u64) -> u64
 
 // kd million and kn n.
 fn under_of(kn: u64, kd: u64, n: u64) -> u64
-    requires { ⌜ (kn ≤ 1000) × (kd ≤ 20000) × (n ≤ 100000000000000) ⌝ }
+    requires { ⌜ Overdispersed kn kd × (n ≤ mostPredicted) ⌝ }
     ensures { λ r. ⌜ r ≡ under kn kd n ⌝ }
 {
     kd * MILLION + kn * n
@@ -50,7 +52,7 @@ fn weigh_high(k: Ratio, observed: u64, high: u64) -> u64
 
 // The predicted pair itself where there is no history; a history of 0 is one.
 pub fn weigh(k: Ratio, observed: Slot, predicted: Pair) -> Pair
-    requires { ⌜ Sizes (k .num) (k .den) (parts.number observed) (predicted .low) × Sizes (k .num) (k .den) (parts.number observed) (predicted .high) ⌝ }
+    requires { ⌜ Sizes (k .num) (k .den) (number observed) (predicted .low) × Sizes (k .num) (k .den) (number observed) (predicted .high) ⌝ }
     ensures { λ r. ⌜ r ≡ weighedPair (k .num) (k .den) observed predicted ⌝ }
 {
     match observed {

@@ -2,23 +2,25 @@
 pub mod expected;
 
 ghost use mathlib.Core.Path.{_≡_};
-ghost use Prim.Native.Nat.{_≤_};
 ghost use Rattle.exponential.specs.Stored.{StoredExponentials};
 ghost use Rattle.logarithm.specs.Stored.{StoredLogarithms};
 ghost use Rattle.power.specs.Stored.{StoredPowers};
 ghost use Rattle.site.specs.Writing.{Valid};
+ghost use Rattle.header.specs.HeaderLaws.{HeaderWithin};
 ghost use Rattle.model.specs.Coefficients.{editionOne};
-ghost use Rattle.model.specs.Predicted.{headerOf};
-ghost use Rattle.line.specs.Line.{lineOf, lineAnswer, lineNumber, lineRefusal};
+ghost use Rattle.line.specs.Line.{siteLine, lineAnswer, lineNumber, lineRefusal};
 ghost use Rattle.line.specs.Stands.{AnswerStands};
 use crate::expected::weigh;
 use exponential::stored::stored_exponentials;
 use factors::coefficients::overdispersion;
+use header::Header;
+use header::is_in_limits;
 use logarithm::stored::stored_logarithms;
 use power::stored::stored_powers;
 use prediction::predicted_with;
-use prediction::values::number;
+use site::numbers::number;
 use site::values::Site;
+use site_writer::is_sound;
 
 // What a report has for one site.
 pub struct Line {
@@ -40,27 +42,17 @@ pub fn line_with(
     powers: &[u64; 2560],
     logarithms: &[u64; 256],
     exponentials: &[u64; 15],
-    years: u64,
-    segments: u64,
-    crossings: u64,
+    header: Header,
     site: Site,
 ) -> Line
-    requires { ⌜ StoredPowers (now powers) × StoredLogarithms (now logarithms) × StoredExponentials (now exponentials) × (years ≤ 10) × (segments ≤ 9999) × (crossings ≤ 9999) × Valid site ⌝ }
-    ensures { λ r. ⌜ r ≡ lineOf editionOne (headerOf years segments crossings) site ⌝ }
+    requires { ⌜ StoredPowers (now powers) × StoredLogarithms (now logarithms) × StoredExponentials (now exponentials) × HeaderWithin header × Valid site ⌝ }
+    ensures { λ r. ⌜ r ≡ siteLine editionOne header site ⌝ }
 {
     let kind = site.kind;
     let observed = site.observed;
     let length = site.length;
     let k = overdispersion(kind, number(length));
-    let predicted = predicted_with(
-        powers,
-        logarithms,
-        exponentials,
-        years,
-        segments,
-        crossings,
-        site,
-    );
+    let predicted = predicted_with(powers, logarithms, exponentials, header, site);
     let expected = weigh(k, observed, predicted);
     Line {
         predicted_low: predicted.low,
@@ -70,29 +62,20 @@ pub fn line_with(
     }
 }
 
-// The line of a site over a header's years and calibrations, or the first refusal: a header value outside its limits, tried
-// before the site outside its range.
-pub fn line_of(years: u64, segments: u64, crossings: u64, site: Site) -> LineAnswer
-    ensures { λ r. ⌜ r ≡ lineAnswer editionOne (headerOf years segments crossings) site ⌝ }
-    ensures number { λ r. ⌜ lineNumber r ≡ lineRefusal (headerOf years segments crossings) site ⌝ }
-    ensures stands { λ r. ⌜ AnswerStands editionOne (headerOf years segments crossings) site r ⌝ }
+// The line of a site, or the first refusal: a header value outside its limits, tried before the site outside its range.
+pub fn line_of(header: Header, site: Site) -> LineAnswer
+    ensures { λ r. ⌜ r ≡ lineAnswer editionOne header site ⌝ }
+    ensures number { λ r. ⌜ lineNumber r ≡ lineRefusal header site ⌝ }
+    ensures stands { λ r. ⌜ AnswerStands editionOne header site r ⌝ }
 {
-    if !header::is_in_limits(years, segments, crossings) {
+    if !is_in_limits(header) {
         return LineAnswer::OutsideLimits;
     }
-    if !site_writer::is_sound(site) {
+    if !is_sound(site) {
         return LineAnswer::OutsideRange;
     }
     let powers = stored_powers();
     let logarithms = stored_logarithms();
     let exponentials = stored_exponentials();
-    LineAnswer::Made(line_with(
-        &powers,
-        &logarithms,
-        &exponentials,
-        years,
-        segments,
-        crossings,
-        site,
-    ))
+    LineAnswer::Made(line_with(&powers, &logarithms, &exponentials, header, site))
 }

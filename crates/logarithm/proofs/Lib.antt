@@ -1,4 +1,2 @@
 -- What the proofs share.
 pub mod Entries
-pub mod Ends
-pub mod Answers

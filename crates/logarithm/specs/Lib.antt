@@ -1,7 +1,7 @@
--- Brackets of logarithms by stored bounds: what they are, that they stand at every depth, and how wide they are.
--- What to read: Stored, Logarithm. The other modules prove laws about those definitions.
-pub mod EstimatesNear
-pub mod Stored
+-- What a reader must believe: Logarithm, the brackets of logarithms and what the call answers; Stored, of which they are made.
+-- Laws: that they stand at every depth, how wide they are, how large; that the answer is by the range.
 pub mod Logarithm
+pub mod Stored
+pub mod EstimatesNear
 pub mod LogarithmLaws
 pub mod AnswerLaws

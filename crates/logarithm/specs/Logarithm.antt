@@ -1,25 +1,25 @@
 -- The bracket of ln a, and the answer of the call that makes it. With a = n m + r it is ln n + ln m + ln((n m + r)/(n m)).
 use Prim.Native.Nat.{ℕ, _+_, _*_, _≤_}
-use mathlib.Core.Bool.{Bool, cond}
+use mathlib.Core.Bool.{Bool}
 use lib.Dec.{leb}
 use Rattle.estimate.specs.Fraction.{whole}
 use Rattle.laws.specs.Table.{both}
 use Rattle.estimate.specs.Logarithm.{lnUnder, lnOver}
 use Rattle.bracket.specs.Bracket.{Stands, AbsoluteWidth, logarithmWidth}
+use Rattle.bracket.specs.Answer.{answerWhere, AnswerPromised}
 use Rattle.bracket.specs.declared.Bracket.{Bracket}
 use Rattle.bracket.specs.declared.BracketAnswer.{BracketAnswer}
-use Rattle.bracket.specs.declared.BracketAnswer.the-variants.{Between, OutOfRange}
-use Rattle.remainder.specs.Split.{firstFactor, secondFactor, restOf}
-use Rattle.remainder.specs.Remainder.{logLow, logHigh}
-use Rattle.logarithm.specs.Stored.{scale, storedLow, storedHigh}
+use Rattle.remainder.specs.Split.{firstFactor, secondFactor, splitRest}
+use Rattle.remainder.specs.Remainder.{scale, logLow, logHigh}
+use Rattle.logarithm.specs.Stored.{storedLow, storedHigh}
 
 -- the low end in units of 10^-12
 unfoldable pub logarithmLow : ℕ → ℕ
-logarithmLow a = storedLow (firstFactor a) + storedLow (secondFactor a) + logLow (firstFactor a * secondFactor a) (restOf a)
+logarithmLow a = storedLow (firstFactor a) + storedLow (secondFactor a) + logLow (firstFactor a * secondFactor a) (splitRest a)
 
 -- the high end
 unfoldable pub logarithmHigh : ℕ → ℕ
-logarithmHigh a = storedHigh (firstFactor a) + storedHigh (secondFactor a) + logHigh (firstFactor a * secondFactor a) (restOf a)
+logarithmHigh a = storedHigh (firstFactor a) + storedHigh (secondFactor a) + logHigh (firstFactor a * secondFactor a) (splitRest a)
 
 unfoldable pub logarithmBracket : ℕ → Bracket
 logarithmBracket a = record { «low_num» = logarithmLow a; «low_den» = scale; «high_num» = logarithmHigh a; «high_den» = scale }
@@ -35,9 +35,9 @@ pub record LogarithmRange (a : ℕ) : Type 0 where
 unfoldable pub inRange : ℕ → Bool
 inRange a = both (leb 1 a) (leb a 20000)
 
--- "an argument outside the range stated for such a bracket is answered as that, with no bracket"
+-- what the call answers
 unfoldable pub logarithmAnswer : ℕ → BracketAnswer
-logarithmAnswer a = cond (inRange a) (Between (logarithmBracket a)) OutOfRange
+logarithmAnswer a = answerWhere (inRange a) (logarithmBracket a)
 
 -- "brackets of the shared arithmetic, which stand to the estimates as a pair does and have a stated width"
 pub record StandingLogarithm (a : ℕ) (b : Bracket) : Type 0 where
@@ -46,5 +46,4 @@ pub record StandingLogarithm (a : ℕ) (b : Bracket) : Type 0 where
 
 -- a bracket stands; no bracket is answered outside the range only
 abbrev pub LogarithmStands : ℕ → BracketAnswer → Type 0
-LogarithmStands a (Between b) = StandingLogarithm a b
-LogarithmStands a OutOfRange = LogarithmRange a → ⊥
+LogarithmStands a = AnswerPromised (StandingLogarithm a) (LogarithmRange a → ⊥)

@@ -13,10 +13,10 @@ use Rattle.estimate.specs.LogarithmLaws.{ln-low-stands, ln-high-stands, below-l
 use Rattle.estimate.specs.Remainder.{ratio}
 use Rattle.bracket.specs.Bracket.{Stands, AbsoluteWidth, logarithmWidth}
 use Rattle.bracket.specs.declared.Bracket.{Bracket}
-use Rattle.remainder.specs.Split.{firstFactor, secondFactor, restOf, Splits, split-is}
-use Rattle.remainder.specs.Remainder.{logLow, logHigh}
+use Rattle.remainder.specs.Split.{firstFactor, secondFactor, splitRest, Splits, split-is}
+use Rattle.remainder.specs.Remainder.{scale, logLow, logHigh}
 use Rattle.remainder.specs.LogarithmBounds.{log-low-at-least, log-high-at-most, log-in-order, log-near}
-use Rattle.logarithm.specs.Stored.{scale, storedLow, storedHigh, stored-low-at-least, stored-high-at-most, stored-in-order, stored-near}
+use Rattle.logarithm.specs.Stored.{storedLow, storedHigh, stored-low-at-least, stored-high-at-most, stored-in-order, stored-near}
 use Rattle.logarithm.specs.Logarithm.{logarithmLow, logarithmHigh, logarithmBracket, StandingLogarithm}
 
 -- the width that is shown, 10^-8; the stated width follows from it
@@ -49,11 +49,11 @@ pub record EndSizes (b : Bracket) : Type 0 where
   pub high-most : b .«high_num» ≤ 10 * b .«high_den»
 
 module _ (a : ℕ) (from : 1 ≤ a) (to : a ≤ 20000) where
-  parts : Splits a (firstFactor a) (secondFactor a) (restOf a)
+  parts : Splits a (firstFactor a) (secondFactor a) (splitRest a)
   parts = split-is a from (omega arith)
 
-  product : whole (firstFactor a) *ᶠ whole (secondFactor a) *ᶠ ratio (firstFactor a * secondFactor a) (restOf a) (parts .rest .positive) =ᶠ whole a
-  product = split-product a (firstFactor a) (secondFactor a) (restOf a) (parts .rest .positive) (parts .is)
+  product : whole (firstFactor a) *ᶠ whole (secondFactor a) *ᶠ ratio (firstFactor a * secondFactor a) (splitRest a) (parts .rest .positive) =ᶠ whole a
+  product = split-product a (firstFactor a) (secondFactor a) (splitRest a) (parts .rest .positive) (parts .is)
 
   n-few : firstFactor a ≤ 20000
   n-few = omega (arith, parts .n-to)
@@ -67,10 +67,10 @@ module _ (a : ℕ) (from : 1 ≤ a) (to : a ≤ 20000) where
   low-at-least =
       let n = firstFactor a in
       let m = secondFactor a in
-      at-least-weaker (=ᶠ-≤ᶠ product) (≤ᶠ-refl (decimal 12 (storedLow n + storedLow m + logLow (n * m) (restOf a))))
-      (at-least-sum 12 (storedLow n + storedLow m) (logLow (n * m) (restOf a))
+      at-least-weaker (=ᶠ-≤ᶠ product) (≤ᶠ-refl (decimal 12 (storedLow n + storedLow m + logLow (n * m) (splitRest a))))
+      (at-least-sum 12 (storedLow n + storedLow m) (logLow (n * m) (splitRest a))
       (at-least-sum 12 (storedLow n) (storedLow m) (stored-low-at-least n (parts .n-from) n-few) (stored-low-at-least m (parts .m-from) m-few))
-      (log-low-at-least (n * m) (restOf a) (parts .rest)))
+      (log-low-at-least (n * m) (splitRest a) (parts .rest)))
 
   -- a ≤ e^(high)
   high-at-most : AtMostExp (whole a) (decimal 12 (logarithmHigh a))
@@ -78,10 +78,10 @@ module _ (a : ℕ) (from : 1 ≤ a) (to : a ≤ 20000) where
   high-at-most =
       let n = firstFactor a in
       let m = secondFactor a in
-      at-most-weaker (=ᶠ-≥ᶠ product) (≤ᶠ-refl (decimal 12 (storedHigh n + storedHigh m + logHigh (n * m) (restOf a))))
-      (at-most-sum 12 (storedHigh n + storedHigh m) (logHigh (n * m) (restOf a))
+      at-most-weaker (=ᶠ-≥ᶠ product) (≤ᶠ-refl (decimal 12 (storedHigh n + storedHigh m + logHigh (n * m) (splitRest a))))
+      (at-most-sum 12 (storedHigh n + storedHigh m) (logHigh (n * m) (splitRest a))
       (at-most-sum 12 (storedHigh n) (storedHigh m) (stored-high-at-most n (parts .n-from) n-few) (stored-high-at-most m (parts .m-from) m-few))
-      (log-high-at-most (n * m) (restOf a) (parts .rest)))
+      (log-high-at-most (n * m) (splitRest a) (parts .rest)))
 
   pub logarithm-in-order : logarithmLow a ≤ logarithmHigh a
   unfolding logarithmLow logarithmHigh
@@ -90,7 +90,7 @@ module _ (a : ℕ) (from : 1 ≤ a) (to : a ≤ 20000) where
         arith,
         stored-in-order (firstFactor a) (parts .n-from) n-few,
         stored-in-order (secondFactor a) (parts .m-from) m-few,
-        log-in-order (firstFactor a * secondFactor a) (restOf a) (parts .rest),
+        log-in-order (firstFactor a * secondFactor a) (splitRest a) (parts .rest),
       )
 
   -- 7.505 * 10^-9 apart at most
@@ -101,7 +101,7 @@ module _ (a : ℕ) (from : 1 ≤ a) (to : a ≤ 20000) where
         arith,
         stored-near (firstFactor a) (parts .n-from) n-few,
         stored-near (secondFactor a) (parts .m-from) m-few,
-        log-near (firstFactor a * secondFactor a) (restOf a) (parts .rest),
+        log-near (firstFactor a * secondFactor a) (splitRest a) (parts .rest),
       )
 
   -- HOW LARGE THE ENDS ARE: ln 20,000 is below 9.91

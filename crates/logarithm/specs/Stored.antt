@@ -9,11 +9,8 @@ use Rattle.estimate.specs.FractionLaws.{whole-mono}
 use Rattle.estimate.specs.ExponentialBounds.{AtMostExp, AtLeastExp}
 use Rattle.estimate.specs.Logarithm.{lnLargest, lnSmallest, lnUnder, lnOver, ln-one}
 use Rattle.estimate.specs.LogarithmLaws.{ln-under-at-least, ln-over-at-most, ln-under-≤-over, ln-under-≤-ten, ln-over-≤-ten}
+use Rattle.remainder.specs.Remainder.{scale}
 use Rattle.logarithm.specs.EstimatesNear.{ln-estimates-near}
-
--- the bounds' denominator
-abbrev pub scale : ℕ
-scale = 10 ^ 12
 
 -- the under-estimate of ln k at depth 12, in units of 10^-12
 unfoldable pub storedLow : ℕ → ℕ

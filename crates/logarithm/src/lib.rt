@@ -11,10 +11,9 @@ use crate::stored::stored_logarithms;
 use crate::stored::stored_low;
 use bracket::Bracket;
 use bracket::BracketAnswer;
+use remainder::SCALE;
 use remainder::log_bounds;
 use remainder::split;
-
-const SCALE: u64 = 1_000_000_000_000;
 
 // Both ends in units of 10^-12, with the stored numbers lent.
 pub fn logarithm_with(stored: &[u64; 256], a: u64) -> Bracket

@@ -1,7 +1,8 @@
 // Stored bounds of the logarithms of 1 to 256, in units of 10^-12: made once, and lent to the calls that read them.
 ghost use mathlib.Core.Path.{_≡_};
-ghost use Prim.Native.Nat.{_≤_};
+ghost use Prim.Native.Nat.{_*_, _≤_};
 ghost use Rattle.logarithm.specs.Stored.{StoredLogarithms, storedLow, storedHigh};
+ghost use Rattle.remainder.specs.Remainder.{scale};
 
 // The lower bounds. But for ln 1, which is 0, the upper bound is the next number.
 const LOGARITHMS: [u64; 256] = [
@@ -274,6 +275,7 @@ pub fn stored_logarithms() -> [u64; 256]
 pub fn stored_low(stored: &[u64; 256], k: u64) -> u64
     requires { ⌜ StoredLogarithms (now stored) × (1 ≤ k) × (k ≤ 256) ⌝ }
     ensures { λ r. ⌜ r ≡ storedLow k ⌝ }
+    ensures small { λ r. ⌜ r ≤ 10 * scale ⌝ }
 {
     let i = (k - 1) as usize;
     stored[i]
@@ -283,6 +285,7 @@ pub fn stored_low(stored: &[u64; 256], k: u64) -> u64
 pub fn stored_high(stored: &[u64; 256], k: u64) -> u64
     requires { ⌜ StoredLogarithms (now stored) × (1 ≤ k) × (k ≤ 256) ⌝ }
     ensures { λ r. ⌜ r ≡ storedHigh k ⌝ }
+    ensures small { λ r. ⌜ r ≤ 10 * scale ⌝ }
 {
     if k == 1 {
         return 0;

@@ -1,6 +1,6 @@
 -- What an edition of the model sets. What is the same in every edition stands with its factor, and a field's default in the
 -- site's rules.
-use Prim.Native.Nat.{ℕ}
+use Prim.Native.Nat.{ℕ, _-_, min}
 use mathlib.Core.List.{List, [], _∷_}
 use lib.ListN.{getD}
 use Rattle.estimate.specs.Fraction.{Fraction, _//_, _^ᶠ_}
@@ -12,8 +12,9 @@ pub record Coefficients : Type 0 where
   pub related-share : ℕ
   -- overdispersion k, by kind and the length in thousandths of a mile
   pub overdispersion : (kind length : ℕ) → Fraction
-  -- the factor of a grade in percent
+  -- the factor of a grade in percent, and the one that a steep grade has beside it
   pub grade : ℕ → Fraction
+  pub steep-grade : ℕ → Fraction
   -- the constant of the driveway part, in thousandths, and the driveways per mile below which the part is 1
   pub driveway-constant : ℕ
   pub fewest-driveways : ℕ
@@ -42,11 +43,16 @@ editionOne = record {
   related-share = 350;
   -- "k is 0.31 segment, 0.54 3ST, 0.24 4ST, 0.11 4SG"
   overdispersion = λ kind length. byKind 31 54 24 11 kind // 100;
-  -- "Grade: 1.016 to the power G"
-  grade = λ percent. (127 // 125) ^ᶠ percent;
+  -- "Grade: 1.016 to the power G": of up to six percent, and of what is above six, so that each fits 64 bits (`grade-is`)
+  grade = λ percent. (127 // 125) ^ᶠ min percent 6;
+  steep-grade = λ percent. (127 // 125) ^ᶠ (percent - 6);
   -- "(0.2 + c·DD)/(0.2 + 5c)", at any number of driveways
   driveway-constant = 200;
   fewest-driveways = 0;
   left-turn = λ kind lanes. getD (getD leftTurnOne kind []) lanes 1000;
   right-turn = λ kind lanes. getD (getD rightTurnOne kind []) lanes 1000;
 }
+
+-- the coefficients of an edition: "edition, 1", and 3 refuses the others
+abbrev pub coefficientsOf : (edition : ℕ) → Coefficients
+coefficientsOf edition = editionOne

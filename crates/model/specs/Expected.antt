@@ -7,9 +7,10 @@ use Rattle.wide.specs.Scaling.{floor, ceiling}
 use Rattle.site.specs.declared.values.Site.{Site}
 use Rattle.site.specs.declared.values.Slot.{Slot}
 use Rattle.site.specs.declared.values.Slot.the-variants.{Absent, Number}
+use Rattle.header.specs.declared.Header.{Header}
 use Rattle.model.specs.Coefficients.{Coefficients}
-use Rattle.model.specs.Parts.{number}
-use Rattle.model.specs.Predicted.{Header, predictedUnder, predictedOver}
+use Rattle.site.specs.Numbers.{number}
+use Rattle.model.specs.Predicted.{predictedUnder, predictedOver}
 
 -- with N = n / m and k = a / b it is n (b + a O) / (b m + a n)
 unfoldable pub weighed : (k : Fraction) (observed : ℕ) (N : Fraction) → Fraction

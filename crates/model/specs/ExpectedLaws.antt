@@ -62,7 +62,8 @@ module _ (k : Fraction) (O : ℕ) where
   pub expected-low-right : (n : ℕ) {over : ℕ → Fraction} → LowRight (millionths n) over → LowRight (millionths (expectedLow k O n)) (λ d. weighed k O (over d))
   expected-low-right n h = record { at = λ d l. ≤ᶠ-trans (low-is n) (weighed-mono k O (h .at d l)) }
 
-  pub expected-high-right : (n : ℕ) {under : ℕ → Fraction} → HighRight (millionths n) under → HighRight (millionths (expectedHigh k O n)) (λ d. weighed k O (under d))
+  pub expected-high-right : (n : ℕ) {under : ℕ → Fraction} → HighRight (millionths n) under
+      → HighRight (millionths (expectedHigh k O n)) (λ d. weighed k O (under d))
   expected-high-right n h = record { at = λ d l. ≤ᶠ-trans (weighed-mono k O (h .at d l)) (high-is n) }
 
   -- "No low passes its high"

@@ -1,6 +1,6 @@
 -- Each exact factor, over its valid range, is positive and at most a cap. A table's bounds are one computed test, and one law
 -- carries it to the entries.
-use Prim.Native.Nat.{ℕ, zero, suc, _+_, _-_, _*_, _≤_, _<_, min}
+use Prim.Native.Nat.{ℕ, zero, suc, _+_, _-_, _*_, _≤_, _<_}
 use mathlib.Core.Bool.{Bool, true, false, cond, _&&_}
 use mathlib.Core.List.{List, [], _∷_}
 use mathlib.Core.Path.{_≡_, refl, ap}
@@ -12,12 +12,14 @@ use borrow.Author.Tests.{leb-true}
 use Rattle.estimate.specs.Fraction.{Fraction, _≤ᶠ_, fraction, _//_, whole, _^ᶠ_, leᶠ}
 use Rattle.estimate.specs.FractionLaws.{//-num, //-den, ≤ᶠ-refl, leᶠ-sound}
 use Rattle.laws.specs.Table.{both, both-left, both-right, allBelow, all-below}
-use Rattle.model.specs.Coefficients.{editionOne, leftTurnOne, rightTurnOne}
-use Rattle.model.specs.Widths.{Column, none, atTraffic, laneColumns, laneColumn, laneValue, shoulderColumns, shoulderColumn, shoulderValue, typeMultipliers, typeValue, ofRelated}
+use Rattle.model.specs.Coefficients.{Coefficients, editionOne, leftTurnOne, rightTurnOne}
+use Rattle.model.specs.Widths.{Column, none, atTraffic, laneColumns, laneColumn, laneValue, ofRelated, lane}
+use Rattle.model.specs.Widths.{shoulderColumns, shoulderColumn, shoulderValue, typeMultipliers, typeValue, shoulder}
 use Rattle.model.specs.Alignment.{curve, superelevation}
 use Rattle.model.specs.Access.{accessDensity, twoWayLane, passing}
 use Rattle.model.specs.Crossings.{leftTurn, rightTurn, sight}
-use Rattle.model.specs.Grade.{onePercent, gradeFirst, gradeSecond}
+use Rattle.model.specs.Parts.{ExactFactor, Lane, Shoulder, Grade, SteepGrade, TwoWayLane, Passing, Curve, Superelevation}
+use Rattle.model.specs.Parts.{LeftTurn, RightTurn, Sight, exactValue}
 
 -- a factor that is positive and at most a cap
 pub record Capped (cap x : Fraction) : Type 0 where
@@ -159,6 +161,9 @@ unfolding shoulderValue
 shoulder-value-within surface feet traffic h = at-traffic-within (shoulder-column-within surface feet h) traffic
 
 -- an r of at most 1.5 makes a factor of at most 1 + share / 2
+abbrev pub relatedMost : Coefficients → Fraction
+relatedMost k = (2000 + k .related-share) // 2000
+
 related-within : (share r unit : ℕ) → share ≤ 1000 → 0 < unit → 0 < r → 2 * r ≤ 3 * unit → Capped ((2000 + share) // 2000) (ofRelated share r unit)
 related-within share r unit hs hu hr top =
     quotient-within _ _ _ _ (omega arith) (lit< tt) (positive (1000 - share) share (omega arith)) (most (1000 - share) share (omega arith))
@@ -169,21 +174,23 @@ related-within share r unit hs hu hr top =
     most : (rest s : ℕ) → rest + s ≡ 1000 → (rest * unit + s * r) * 2000 ≤ (2000 + s) * (1000 * unit)
     most rest s e = omega (arith, mul-le-mul-left s top, ap (λ z. z * unit) e)
 
-pub lane-within : (share feet traffic : ℕ) → share ≤ 1000 → Capped ((2000 + share) // 2000) (ofRelated share (laneValue feet traffic) 100000000)
-lane-within share feet traffic h =
+lane-within : (k : Coefficients) (feet traffic : ℕ) → k .related-share ≤ 1000 → Capped (relatedMost k) (lane k feet traffic)
+unfolding lane
+lane-within k feet traffic h =
     let v = lane-value-within feet traffic in
-    related-within share (laneValue feet traffic) 100000000 h (lit< tt) (omega arith) (omega arith)
+    related-within (k .related-share) (laneValue feet traffic) 100000000 h (lit< tt) (omega arith) (omega arith)
 
-pub shoulder-within : (share surface feet traffic : ℕ) → share ≤ 1000 → surface ≤ 3
-    → Capped ((2000 + share) // 2000) (ofRelated share (shoulderValue feet traffic * typeValue surface feet) 10000000000)
-shoulder-within share surface feet traffic h k =
-    let v = shoulder-value-within surface feet traffic k in
-    related-within share (shoulderValue feet traffic * typeValue surface feet) 10000000000 h (lit< tt) (v .positive) (omega (arith, v .at-most))
+shoulder-within : (k : Coefficients) (feet surface traffic : ℕ) → k .related-share ≤ 1000 → surface ≤ 3
+    → Capped (relatedMost k) (shoulder k feet surface traffic)
+unfolding shoulder
+shoulder-within k feet surface traffic h t =
+    let v = shoulder-value-within surface feet traffic t in
+    related-within (k .related-share) (shoulderValue feet traffic * typeValue surface feet) 10000000000 h (lit< tt) (v .positive) (omega (arith, v .at-most))
 
 -- ALIGNMENT
 
 -- the sharpest and shortest curve is 1 + 80.2 / 100 / 0.00155 miles, under 518.42
-pub curve-within : (length radius spirals : ℕ) → 1 ≤ length → 100 ≤ radius → Capped (51842 // 100) (curve length radius spirals)
+curve-within : (length radius spirals : ℕ) → 1 ≤ length → 100 ≤ radius → Capped (51842 // 100) (curve length radius spirals)
 unfolding curve
 curve-within length radius spirals hl hr =
     by-test (Capped (51842 // 100)) (ltb 8020000 (600 * spirals * radius))
@@ -193,7 +200,7 @@ curve-within length radius spirals hl hr =
     bent : (straight spiral : ℕ) → 15500 ≤ straight → Capped (51842 // 100) ((straight + (8020000 - spiral)) // straight)
     bent straight spiral h = quotient-within _ _ _ _ (omega arith) (lit< tt) (omega arith) (omega arith)
 
-pub superelevation-within : (deficiency : ℕ) → deficiency ≤ 100 → Capped (13 // 10) (superelevation deficiency)
+superelevation-within : (deficiency : ℕ) → deficiency ≤ 100 → Capped (13 // 10) (superelevation deficiency)
 unfolding superelevation
 superelevation-within deficiency h =
     by-test (Capped (13 // 10)) (ltb deficiency 10)
@@ -202,34 +209,30 @@ superelevation-within deficiency h =
     (λ e. quotient-within (940 + 6 * deficiency) 1000 13 10 (lit< tt) (lit< tt) (omega arith) (omega (arith, leb-true deficiency 20 e)))
     (λ _. quotient-within (1000 + 3 * deficiency) 1000 13 10 (lit< tt) (lit< tt) (omega arith) (omega arith)))
 
--- 1.016 to the power of at most 6
-powerWithin : ℕ → Bool
-powerWithin k = both (leᶠ (onePercent ^ᶠ k) (onePercent ^ᶠ 6)) (ltb 0 ((onePercent ^ᶠ k) .num))
+-- edition 1's grade up to 12 percent, by one test for each of its two factors
+gradeWithin : (ℕ → Fraction) → ℕ → Bool
+gradeWithin grade percent = both (leᶠ (grade percent) (grade 12)) (ltb 0 (grade percent .num))
 
-powers-within : T (allBelow powerWithin 7)
-unfolding allBelow powerWithin leᶠ _^ᶠ_ _//_ fraction
-powers-within = tt
-
-power-within : (k : ℕ) → k ≤ 6 → Capped (onePercent ^ᶠ 6) (onePercent ^ᶠ k)
-unfolding powerWithin
-power-within k h =
-    let t = all-below powerWithin 7 powers-within k (omega arith) in
+grade-by-test : (grade : ℕ → Fraction) → T (allBelow (gradeWithin grade) 13) → (percent : ℕ) → percent ≤ 12 → Capped (grade 12) (grade percent)
+unfolding gradeWithin
+grade-by-test grade tested percent h =
+    let t = all-below (gradeWithin grade) 13 tested percent (omega arith) in
     record {
-      at-most = leᶠ-sound _ _ (both-left (leᶠ (onePercent ^ᶠ k) (onePercent ^ᶠ 6)) _ t);
-      positive = ltb→lt _ _ (both-right (leᶠ (onePercent ^ᶠ k) (onePercent ^ᶠ 6)) _ t);
+      at-most = leᶠ-sound _ _ (both-left (leᶠ (grade percent) (grade 12)) _ t);
+      positive = ltb→lt _ _ (both-right (leᶠ (grade percent) (grade 12)) _ t);
     }
 
-pub grade-first-within : (percent : ℕ) → Capped ((127 // 125) ^ᶠ 6) (gradeFirst percent)
-unfolding gradeFirst
-grade-first-within percent = power-within (min percent 6) (omega arith)
+grade-within : (percent : ℕ) → percent ≤ 12 → Capped (editionOne .grade 12) (editionOne .grade percent)
+unfolding allBelow gradeWithin leᶠ editionOne _^ᶠ_ _//_ fraction
+grade-within = grade-by-test (editionOne .grade) tt
 
-pub grade-second-within : (percent : ℕ) → percent ≤ 12 → Capped ((127 // 125) ^ᶠ 6) (gradeSecond percent)
-unfolding gradeSecond
-grade-second-within percent h = power-within (percent - 6) (omega arith)
+steep-grade-within : (percent : ℕ) → percent ≤ 12 → Capped (editionOne .steep-grade 12) (editionOne .steep-grade percent)
+unfolding allBelow gradeWithin leᶠ editionOne _^ᶠ_ _//_ fraction
+steep-grade-within = grade-by-test (editionOne .steep-grade) tt
 
 -- ACCESS AND CROSSINGS
 
-pub two-way-lane-within : (present driveways : ℕ) → Capped (whole 1) (twoWayLane present driveways)
+two-way-lane-within : (present driveways : ℕ) → Capped (whole 1) (twoWayLane present driveways)
 unfolding twoWayLane
 two-way-lane-within present driveways =
     by-test (Capped (whole 1)) (eqb present 1 && leb 5 driveways) (λ _. under-one (accessDensity driveways)) (λ _. one)
@@ -260,24 +263,85 @@ part-within unit part t =
     let most = leb→le _ _ (both-right (ltb 0 part) _ t) in
     one-within part unit (omega arith) least most
 
-pub passing-within : (kind : ℕ) → Capped (whole 1) (passing kind)
+passing-within : (kind : ℕ) → Capped (whole 1) (passing kind)
 unfolding passing partOf allOf
 passing-within kind = part-within 100 _ (entry (partOf 100) 100 tt (100 ∷ 75 ∷ 65 ∷ []) tt kind)
 
 -- a table of thousandths by kind and count of lanes
-turn-within : (table : List (List ℕ)) → T (allOf (allOf (partOf 1000)) table) → (kind lanes : ℕ) → Capped (whole 1) (getD (getD table kind []) lanes 1000 // 1000)
+turn-within : (table : List (List ℕ)) → T (allOf (allOf (partOf 1000)) table) → (kind lanes : ℕ)
+    → Capped (whole 1) (getD (getD table kind []) lanes 1000 // 1000)
 unfolding partOf allOf
 turn-within table t kind lanes =
     part-within 1000 _ (entry (partOf 1000) 1000 tt (getD table kind []) (entry (allOf (partOf 1000)) [] tt table t kind) lanes)
 
-pub left-turn-within : (kind lanes : ℕ) → Capped (whole 1) (leftTurn editionOne kind lanes)
+left-turn-within : (kind lanes : ℕ) → Capped (whole 1) (leftTurn editionOne kind lanes)
 unfolding leftTurn editionOne partOf allOf
 left-turn-within kind lanes = turn-within leftTurnOne tt kind lanes
 
-pub right-turn-within : (kind lanes : ℕ) → Capped (whole 1) (rightTurn editionOne kind lanes)
+right-turn-within : (kind lanes : ℕ) → Capped (whole 1) (rightTurn editionOne kind lanes)
 unfolding rightTurn editionOne partOf allOf
 right-turn-within kind lanes = turn-within rightTurnOne tt kind lanes
 
-pub sight-within : (quadrants : ℕ) → quadrants ≤ 4 → Capped (6 // 5) (sight quadrants)
+sight-within : (quadrants : ℕ) → quadrants ≤ 4 → Capped (6 // 5) (sight quadrants)
 unfolding sight
 sight-within quadrants h = quotient-within (100 + 5 * quadrants) 100 6 5 (lit< tt) (lit< tt) (omega arith) (omega arith)
+
+-- ANY EXACT FACTOR
+
+-- the bound of each; a grade's is that of 12 percent
+abbrev pub capOf : Coefficients → ExactFactor → Fraction
+capOf k (Lane feet traffic) = relatedMost k
+capOf k (Shoulder feet surface traffic) = relatedMost k
+capOf k (Grade percent) = k .grade 12
+capOf k (SteepGrade percent) = k .steep-grade 12
+capOf k (TwoWayLane present count) = whole 1
+capOf k (Passing kind) = whole 1
+capOf k (Curve length radius spirals) = 51842 // 100
+capOf k (Superelevation deficiency) = 13 // 10
+capOf k (LeftTurn kind lanes) = whole 1
+capOf k (RightTurn kind lanes) = whole 1
+capOf k (Sight quadrants) = 6 // 5
+
+-- the numbers for which it holds
+abbrev pub ExactSized : ExactFactor → Type 0
+ExactSized (Lane feet traffic) = Unit
+ExactSized (Shoulder feet surface traffic) = surface ≤ 3
+ExactSized (Grade percent) = percent ≤ 12
+ExactSized (SteepGrade percent) = percent ≤ 12
+ExactSized (TwoWayLane present count) = Unit
+ExactSized (Passing kind) = Unit
+ExactSized (Curve length radius spirals) = (1 ≤ length) × (100 ≤ radius)
+ExactSized (Superelevation deficiency) = deficiency ≤ 100
+ExactSized (LeftTurn kind lanes) = Unit
+ExactSized (RightTurn kind lanes) = Unit
+ExactSized (Sight quadrants) = quadrants ≤ 4
+
+-- what an edition keeps
+pub record Bounded (k : Coefficients) : Type 0 where
+  pub share-most : k .related-share ≤ 1000
+  pub grade : (percent : ℕ) → percent ≤ 12 → Capped (k .grade 12) (k .grade percent)
+  pub steep-grade : (percent : ℕ) → percent ≤ 12 → Capped (k .steep-grade 12) (k .steep-grade percent)
+  pub left-turn : (kind lanes : ℕ) → Capped (whole 1) (leftTurn k kind lanes)
+  pub right-turn : (kind lanes : ℕ) → Capped (whole 1) (rightTurn k kind lanes)
+
+pub edition-one-bounded : Bounded editionOne
+edition-one-bounded = record {
+  share-most = unfold editionOne in lit≤ tt;
+  grade = grade-within;
+  steep-grade = steep-grade-within;
+  left-turn = left-turn-within;
+  right-turn = right-turn-within;
+}
+
+pub capped : (k : Coefficients) → Bounded k → (factor : ExactFactor) → ExactSized factor → Capped (capOf k factor) (exactValue k factor)
+capped k b (Lane feet traffic) s = lane-within k feet traffic (b .share-most)
+capped k b (Shoulder feet surface traffic) s = shoulder-within k feet surface traffic (b .share-most) s
+capped k b (Grade percent) s = b .grade percent s
+capped k b (SteepGrade percent) s = b .steep-grade percent s
+capped k b (TwoWayLane present count) s = two-way-lane-within present count
+capped k b (Passing kind) s = passing-within kind
+capped k b (Curve length radius spirals) s = curve-within length radius spirals (s .0) (s .1)
+capped k b (Superelevation deficiency) s = superelevation-within deficiency s
+capped k b (LeftTurn kind lanes) s = b .left-turn kind lanes
+capped k b (RightTurn kind lanes) s = b .right-turn kind lanes
+capped k b (Sight quadrants) s = sight-within quadrants s

@@ -38,7 +38,8 @@ pub record KnownFigures : Type 0 where
   pub logarithm : (d : ℕ) → LnOne d
 
 pub known-figures : KnownFigures
-unfolding lane laneValue shoulder shoulderValue typeValue curve superelevation twoWayLane editionOne expectedLow expectedHigh weighed millionths _//_ fraction whole _^ᶠ_
+unfolding lane laneValue shoulder shoulderValue typeValue curve superelevation twoWayLane editionOne
+    expectedLow expectedHigh weighed millionths _//_ fraction whole _^ᶠ_
 known-figures = record {
   lane-399 = record { cross = refl };
   lane-2000 = record { cross = refl };

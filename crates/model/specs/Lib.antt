@@ -1,15 +1,15 @@
--- The road model beside document 01's sections on factors, sites and history: what a reader must believe (Coefficients to
--- Expected), then what is proved of it.
+-- The road model beside document 01's sections on factors, sites and history. What a reader must believe: Coefficients to
+-- StatedWidths. Laws: all the rest, the table of known figures among them.
 pub mod Coefficients
 pub mod Widths
 pub mod Alignment
 pub mod Access
 pub mod Crossings
-pub mod Grade
 pub mod Parts
 pub mod Predicted
 pub mod Expected
 pub mod StatedWidths
+pub mod Grade
 pub mod ExpectedLaws
 pub mod Truncation
 pub mod KnownFigures

@@ -1,12 +1,12 @@
 -- A site's prediction N at depth d: "N's under-estimate takes each part's under .. Over takes each part's over".
 use Prim.Native.Nat.{ℕ}
-use mathlib.Core.Bool.{Bool, _&&_}
 use mathlib.Core.List.{List, [], _∷_}
 use Rattle.estimate.specs.Fraction.{Fraction, whole, _+ᶠ_, _*ᶠ_}
 use Rattle.site.specs.declared.values.Site.{Site}
-use Rattle.site.specs.Rules.{inside}
+use Rattle.header.specs.declared.Header.{Header}
 use Rattle.model.specs.Coefficients.{Coefficients}
-use Rattle.model.specs.Parts.{Part, Term, number, partsOf}
+use Rattle.site.specs.Numbers.{number}
+use Rattle.model.specs.Parts.{Part, Term, partsOf}
 
 -- the product of the unders, and of the overs
 unfoldable pub productUnder : ℕ → List Part → Fraction
@@ -16,20 +16,6 @@ productUnder d (part ∷ parts) = part .under d *ᶠ productUnder d parts
 unfoldable pub productOver : ℕ → List Part → Fraction
 productOver d [] = whole 1
 productOver d (part ∷ parts) = part .over d *ᶠ productOver d parts
-
--- what a header says of every site
-pub record Header : Type 0 where
-  pub years : ℕ
-  -- in thousandths
-  pub segments : ℕ
-  pub crossings : ℕ
-
-abbrev pub headerOf : (years segments crossings : ℕ) → Header
-headerOf years segments crossings = record { years = years; segments = segments; crossings = crossings }
-
--- "years Y, 1 to 10"; "segment calibration, 1 to 9,999 thousandths. .. the same for crossings"
-unfoldable pub inLimits : Header → Bool
-inLimits header = inside 1 10 (header .years) && (inside 1 9999 (header .segments) && inside 1 9999 (header .crossings))
 
 -- one traffic for all the years
 abbrev pub termOf : (years : ℕ) → Site → Term

@@ -1,6 +1,9 @@
 -- THE STATED WIDTHS of a line and of the totals, each once: at most a part of the high, and so many millionths for each site and
 -- each observed crash.
 use Prim.Native.Nat.{ℕ}
+use Rattle.site.specs.declared.values.Site.{Site}
+use Rattle.model.specs.Coefficients.{Coefficients}
+use Rattle.site.specs.Numbers.{number}
 
 -- a hundred-thousandth of the high
 abbrev pub widthParts : ℕ
@@ -13,3 +16,11 @@ predictedEach = 4
 -- of an expected pair, for each site and each observed crash
 abbrev pub expectedEach : ℕ
 expectedEach = 8
+
+-- what a site's observed crashes count for there: in edition 1 each once
+abbrev pub observedWeight : Coefficients → Site → ℕ
+observedWeight c site = number (site .observed)
+
+-- no number of a line is above a hundred million crashes
+abbrev pub mostPredicted : ℕ
+mostPredicted = 100000000000000

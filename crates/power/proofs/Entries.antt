@@ -6,8 +6,8 @@ use mathlib.Core.Path.{_≡_, sym, ap, _∙_}
 use native.Mathlib.Nat.{add-zero}
 use native.Mathlib.Omega.{arith}
 use lib.Dec.{T, leb, ltb, eqb, leb→le, ltb→lt, eqb→eq, lit<}
-use lib.ListN.{length, getD}
-use Rattle.laws.specs.Table.{both, both-left, both-right, every, at}
+use lib.ListN.{getD}
+use Rattle.laws.specs.Table.{both, both-left, both-right, passesAll, entry-passes}
 use Rattle.estimate.specs.Power.{powerLargest, power-largest-value}
 use Rattle.power.specs.Exponents.{exponentAt}
 use Rattle.power.specs.Stored.{storedLow, storedHigh, entry, StoredPowers}
@@ -23,7 +23,7 @@ rightEntry i x = rightBound (i / 2 % 256 + 1) (exponentAt (i / 2 / 256)) (i % 2)
 
 -- the test: 2560 entries, and each is right
 unfoldable pub passes : List ℕ → Bool
-passes xs = both (eqb (length xs) 2560) (every rightEntry 0 xs)
+passes xs = passesAll rightEntry 2560 xs
 
 bound-is : (k p side x : ℕ) → T (rightBound k p side x) → x ≡ powerLargest 9 k p 100 + side
 unfolding rightBound
@@ -53,7 +53,4 @@ stored-by-test xs t = record {
 }
   where
     at-place : (e k side i : ℕ) → e < 5 → 1 ≤ k → k ≤ 256 → side ≤ 1 → i ≡ entry e k + side → getD xs i 0 ≡ powerLargest 9 k (exponentAt e) 100 + side
-    at-place e k side i h from to s q =
-        let size = eqb→eq (length xs) 2560 (both-left (eqb (length xs) 2560) (every rightEntry 0 xs) t) in
-        let inside : i < length xs = omega arith in
-        entry-is i e k side (getD xs i 0) q from to s (at rightEntry xs (both-right (eqb (length xs) 2560) (every rightEntry 0 xs) t) i inside)
+    at-place e k side i h from to s q = entry-is i e k side (getD xs i 0) q from to s (entry-passes rightEntry 2560 xs t i (omega arith))

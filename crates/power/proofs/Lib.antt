@@ -1,5 +1,4 @@
 -- What the proofs share.
 pub mod Entries
 pub mod Fitting
-pub mod Ends
 pub mod Answers

@@ -53,10 +53,7 @@ pub place-of-holds : (num : ℕ) → placeOf num < 5 → exponentAt (placeOf num
 unfolding placeOf
 place-of-holds num h = place-holds exponents num h
 
--- EACH IS FROM 0.20 TO 0.79
-
-pub exponent-from : (e : ℕ) → e < 5 → 20 ≤ exponentAt e
-exponent-from e h = leb→le 20 (exponentAt e) (at (λ i x. leb 20 x) exponents tt e h)
+-- EACH IS AT MOST 0.79
 
 pub exponent-small : (e : ℕ) → e < 5 → exponentAt e ≤ 79
 exponent-small e h = leb→le (exponentAt e) 79 (at (λ i x. leb x 79) exponents tt e h)

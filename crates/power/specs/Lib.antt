@@ -1,8 +1,8 @@
--- Brackets of powers by stored bounds: what they are, that they stand at every depth, and how wide they are.
--- What to read: Exponents, Stored, Power. The other modules prove laws about those definitions.
+-- What a reader must believe: Power, the brackets of powers and what the call answers; Exponents and Stored, of which they are made.
+-- Laws: that they stand at every depth, how wide they are, how large; that the answer is by the range.
+pub mod Power
 pub mod Exponents
 pub mod Stored
-pub mod Power
 pub mod PowerWidth
 pub mod PowerLaws
 pub mod PowerMost

@@ -2,7 +2,7 @@
 -- "The shared laws of powers are shown over the exponent, not for each": p/q is any exponent up to 1.
 use Prim.Native.Nat.{ℕ, zero, suc, _+_, _*_, _^_, _≤_, _<_}
 use mathlib.Core.Path.{_≡_, refl}
-use native.Mathlib.Nat.{le-trans, mul-le-mul-left, mul-le-mul-right, pow-le-pow-left, pow-le-pow-right}
+use native.Mathlib.Nat.{le-trans, mul-le-mul-left, mul-le-mul-right, pow-le-pow-left}
 use native.Mathlib.Omega.{arith}
 use lib.Dec.{lit<, lit≤}
 use Rattle.estimate.specs.Fraction.{fraction}
@@ -12,10 +12,10 @@ use Rattle.estimate.specs.PowerLaws.{power-low-stands, power-high-stands, power
 use Rattle.wide.specs.Scaling.{floor, ceiling}
 use Rattle.wide.specs.Rounding.{floor-le, ceiling-ge}
 use Rattle.bracket.specs.Bracket.{Stands, RelativeWidth, powerWidth}
-use Rattle.remainder.specs.Split.{firstFactor, secondFactor, restOf, Splits, split-is}
+use Rattle.remainder.specs.Split.{firstFactor, secondFactor, splitRest, Splits, split-is}
 use Rattle.remainder.specs.Remainder.{Exponent, scale, remainderLow, remainderHigh}
-use Rattle.remainder.specs.RemainderLaws.{remainder-low-stands, remainder-high-stands, remainder-near, remainder-near-to-nine-tenths, remainder-near-whole, remainder-low-from-one, remainder-high-small}
-use Rattle.power.specs.Exponents.{exponentAt, exponent-from, exponent-small, exponent-is}
+use Rattle.remainder.specs.RemainderLaws.{remainder-low-stands, remainder-high-stands, remainder-near, remainder-near-to-nine-tenths}
+use Rattle.remainder.specs.RemainderLaws.{remainder-near-whole, remainder-low-from-one, remainder-high-small}
 use Rattle.power.specs.Stored.{billion, storedLow, storedHigh, stored-low-stands, stored-high-stands, stored-near, stored-from-one, stored-from-root}
 use Rattle.power.specs.Power.{powerLow, powerHigh, powerBracket, StandingPower}
 use Rattle.power.specs.PowerWidth.{floor-rounded, ceiling-rounded, at-least, ends-apart, RoundingsWithin, roundings-from-one, roundings-from-two}
@@ -25,7 +25,7 @@ unfoldable pub shownWidth : ℕ
 shownWidth = 10 ^ 8
 
 module _ (A p q : ℕ) (from : 1 ≤ A) (to : A ≤ 65536) (e : Exponent p q) where
-  parts : Splits A (firstFactor A) (secondFactor A) (restOf A)
+  parts : Splits A (firstFactor A) (secondFactor A) (splitRest A)
   parts = split-is A from to
 
   -- (low/10^9)^q ≤ A^p
@@ -36,10 +36,10 @@ module _ (A p q : ℕ) (from : 1 ≤ A) (to : A ≤ 65536) (e : Exponent p q) wh
       let m = secondFactor A in
       let s = storedLow n p q in
       let t = storedLow m p q in
-      let g = remainderLow (n * m) (restOf A) p q in
+      let g = remainderLow (n * m) (splitRest A) p q in
       power-low-remainder A (n * m) p q billion scale (floor s t billion) g (floor (floor s t billion) g scale) (lit< tt)
       (power-low-product n m p q billion s t (floor s t billion) (lit< tt) (stored-low-stands n p q e) (stored-low-stands m p q e) (floor-le s t billion))
-      (rw (parts .is) at (remainder-low-stands (n * m) (restOf A) p q (parts .rest) e))
+      (rw (parts .is) at (remainder-low-stands (n * m) (splitRest A) p q (parts .rest) e))
       (floor-le (floor s t billion) g scale)
 
   -- A^p ≤ (high/10^9)^q
@@ -50,10 +50,11 @@ module _ (A p q : ℕ) (from : 1 ≤ A) (to : A ≤ 65536) (e : Exponent p q) wh
       let m = secondFactor A in
       let s = storedHigh n p q in
       let t = storedHigh m p q in
-      let g = remainderHigh (n * m) (restOf A) p q in
+      let g = remainderHigh (n * m) (splitRest A) p q in
       power-high-remainder A (n * m) p q billion scale (ceiling s t billion) g (ceiling (ceiling s t billion) g scale) (lit< tt)
-      (power-high-product n m p q billion s t (ceiling s t billion) (lit< tt) (stored-high-stands n p q e) (stored-high-stands m p q e) (ceiling-ge s t billion (lit< tt)))
-      (rw (parts .is) at (remainder-high-stands (n * m) (restOf A) p q (parts .rest) e))
+      (power-high-product n m p q billion s t (ceiling s t billion) (lit< tt) (stored-high-stands n p q e) (stored-high-stands m p q e)
+      (ceiling-ge s t billion (lit< tt)))
+      (rw (parts .is) at (remainder-high-stands (n * m) (splitRest A) p q (parts .rest) e))
       (ceiling-ge (ceiling s t billion) g scale (lit< tt))
 
   pub power-in-order : powerLow A p q ≤ powerHigh A p q
@@ -72,15 +73,14 @@ module _ (A p q : ℕ) (from : 1 ≤ A) (to : A ≤ 65536) (e : Exponent p q) wh
 
   -- THE WIDTH
 
-  -- the ends are near each other, and the low one is from 1 on
+  -- the ends are near each other
   record Near (c : ℕ) : Type 0 where
     first : ℕ
     near : powerHigh A p q * scale ≤ powerLow A p q * scale + c * first
     first-≤ : first ≤ powerLow A p q
-    from-one : billion ≤ first
 
   -- by how near the remainder's bounds are, and what the roundings add
-  ends : (c w : ℕ) → remainderHigh (firstFactor A * secondFactor A) (restOf A) p q ≤ remainderLow (firstFactor A * secondFactor A) (restOf A) p q + c
+  ends : (c w : ℕ) → remainderHigh (firstFactor A * secondFactor A) (splitRest A) p q ≤ remainderLow (firstFactor A * secondFactor A) (splitRest A) p q + c
       → RoundingsWithin billion w (storedLow (firstFactor A) p q) (storedLow (secondFactor A) p q) → Near (c + w)
   unfolding powerLow powerHigh
   ends c w near roundings =
@@ -89,23 +89,23 @@ module _ (A p q : ℕ) (from : 1 ≤ A) (to : A ≤ 65536) (e : Exponent p q) wh
       let s = storedLow n p q in
       let t = storedLow m p q in
       let u = floor s t billion in
-      let g = remainderLow (n * m) (restOf A) p q in
+      let g = remainderLow (n * m) (splitRest A) p q in
       let u' = ceiling (s + 1) (t + 1) billion in
-      let g' = remainderHigh (n * m) (restOf A) p q in
+      let g' = remainderHigh (n * m) (splitRest A) p q in
       let a = floor-rounded s t billion (lit< tt) in
       let f = floor-rounded u g scale (lit< tt) in
-      let apart = ends-apart billion scale s t u u' g g' (floor u g scale) (ceiling u' g' scale) c (lit< tt) a (ceiling-rounded (s + 1) (t + 1) billion (lit< tt))
-      near (remainder-high-small (n * m) (restOf A) p q (parts .rest) e) f (ceiling-rounded u' g' scale (lit< tt)) in
+      let b = ceiling-rounded (s + 1) (t + 1) billion (lit< tt) in
+      let apart = ends-apart billion scale s t u u' g g' (floor u g scale) (ceiling u' g' scale) c (lit< tt) a b near
+      (remainder-high-small (n * m) (splitRest A) p q (parts .rest) e) f (ceiling-rounded u' g' scale (lit< tt)) in
       record {
         first = u;
         near = rw (stored-near n p q e, stored-near m p q e) (omega (arith, apart, roundings u a));
-        first-≤ = at-least u g scale (floor u g scale) (remainder-low-from-one (n * m) (restOf A) p q (parts .rest) e) f;
-        from-one = omega (arith, stored-from-one n p q e (parts .n-from), at-least s t billion u (stored-from-one m p q e (parts .m-from)) a);
+        first-≤ = at-least u g scale (floor u g scale) (remainder-low-from-one (n * m) (splitRest A) p q (parts .rest) e) f;
       }
 
   roundings-any : RoundingsWithin billion 6021 (storedLow (firstFactor A) p q) (storedLow (secondFactor A) p q)
   roundings-any =
-      roundings-from-one billion _ _ (lit≤ tt) (mul-le-mul-left 100 (stored-from-one _ p q e (parts .n-from))) (mul-le-mul-left 100 (stored-from-one _ p q e (parts .m-from)))
+      roundings-from-one billion _ _ (lit≤ tt) (stored-from-one _ p q e (parts .n-from)) (stored-from-one _ p q e (parts .m-from))
 
   ends-any : Near 13604
   ends-any = ends 7583 6021 (remainder-near _ _ p q (parts .rest) e) roundings-any
@@ -121,7 +121,7 @@ module _ (A p q : ℕ) (from : 1 ≤ A) (to : A ≤ 65536) (e : Exponent p q) wh
 
   module _ (from-fifth : q ≤ p * 5) (to-nine-tenths : 10 * p ≤ 9 * q) where
     -- a rest leaves n from 2 and m from 128 on: their powers are from 1.14 and 2.6 on
-    roundings-beside-rest : 0 < restOf A → RoundingsWithin billion 2622 (storedLow (firstFactor A) p q) (storedLow (secondFactor A) p q)
+    roundings-beside-rest : 0 < splitRest A → RoundingsWithin billion 2622 (storedLow (firstFactor A) p q) (storedLow (secondFactor A) p q)
     roundings-beside-rest r =
         let n = stored-from-root (firstFactor A) p q e (parts .n-from) 2 5 (114 * 10 ^ 7) (lit< tt) from-fifth (parts .n-from-two r) (lit≤ tt) in
         let m = stored-from-root (secondFactor A) p q e (parts .m-from) 128 5 (260 * 10 ^ 7) (lit< tt) from-fifth (parts .m-from-128 r) (lit≤ tt) in
@@ -132,47 +132,15 @@ module _ (A p q : ℕ) (from : 1 ≤ A) (to : A ≤ 65536) (e : Exponent p q) wh
     narrow c h w = record { width = omega (arith, w .near, mul-le-mul-right (w .first) h, w .first-≤, power-in-order) }
 
     pub power-shown-width : RelativeWidth shownWidth 1 (powerBracket A p q)
-    power-shown-width = by-rest (restOf A) refl
+    power-shown-width = by-rest (splitRest A) refl
       where
-        by-rest : (r : ℕ) → restOf A ≡ r → RelativeWidth shownWidth 1 (powerBracket A p q)
+        by-rest : (r : ℕ) → splitRest A ≡ r → RelativeWidth shownWidth 1 (powerBracket A p q)
         by-rest zero is = narrow 6103 (lit≤ tt) (ends 82 6021 (remainder-near-whole _ _ p q (parts .rest) e is) roundings-any)
         by-rest (suc r) is =
             narrow 9455 (lit≤ tt) (ends 6833 2622 (remainder-near-to-nine-tenths _ _ p q (parts .rest) e to-nine-tenths) (roundings-beside-rest (omega arith)))
 
-  -- HOW LARGE THE ENDS ARE
+  -- HOW LARGE THE LOW END IS
 
-  pub power-low-from-one : billion ≤ powerLow A p q
-  power-low-from-one = let w = ends-any in omega (arith, w .first-≤, w .from-one)
-
-  pub power-high-from-one : billion ≤ powerHigh A p q
-  power-high-from-one = omega (arith, power-low-from-one, power-in-order)
-
-  -- c billionths bound B^(P/q), for a B from A on and a P from p on: they bound the low end
-  pub power-low-below : (B P c : ℕ) → A ≤ B → p ≤ P → 0 < B → B ^ P * billion ^ q ≤ c ^ q → powerLow A p q ≤ c
-  power-low-below B P c hA hp hB h =
-      pow-le-cancel q (e .positive)
-      (le-trans power-low-≤ (le-trans (mul-le-mul-right (billion ^ q) (le-trans (pow-le-pow-left hA p) (pow-le-pow-right hB hp))) h))
-
--- AT A STORED EXPONENT: 20,000^0.79 is below 2,500, and the high end below 2,600
-
-pub power-high-small : (A p : ℕ) → 1 ≤ A → A ≤ 20000 → p ≤ 79 → powerHigh A p 100 ≤ 2600 * billion
-unfolding powerWidth powerBracket
-power-high-small A p from to hp =
-    let big : A ≤ 65536 = omega arith in
-    let e : Exponent p 100 = record { at-most-one = omega arith; positive = omega arith } in
-    let low = power-low-below A p 100 from big e 20000 79 (2500 * billion) to hp (lit< tt) (lit≤ tt) in
-    omega (arith, low, power-width A p 100 from big e .width)
-
-module _ (base e : ℕ) (from : 1 ≤ base) (to : base ≤ 20000) (h : e < 5) where
-  pub stored-exponent-standing : StandingPower base (exponentAt e) 100 (powerBracket base (exponentAt e) 100)
-  stored-exponent-standing = power-standing base (exponentAt e) 100 from (omega arith) (exponent-is e h)
-
-  pub stored-exponent-shown-width : RelativeWidth shownWidth 1 (powerBracket base (exponentAt e) 100)
-  stored-exponent-shown-width =
-      power-shown-width base (exponentAt e) 100 from (omega arith) (exponent-is e h) (omega (arith, exponent-from e h)) (omega (arith, exponent-small e h))
-
-  pub stored-exponent-low-from-one : billion ≤ powerLow base (exponentAt e) 100
-  stored-exponent-low-from-one = power-low-from-one base (exponentAt e) 100 from (omega arith) (exponent-is e h)
-
-  pub stored-exponent-high-small : powerHigh base (exponentAt e) 100 ≤ 2600 * billion
-  stored-exponent-high-small = power-high-small base (exponentAt e) from to (exponent-small e h)
+  -- c billionths bound B^(p/q), for a B from A on: they bound the low end
+  pub power-low-below : (B c : ℕ) → A ≤ B → B ^ p * billion ^ q ≤ c ^ q → powerLow A p q ≤ c
+  power-low-below B c hA h = pow-le-cancel q (e .positive) (le-trans power-low-≤ (le-trans (mul-le-mul-right (billion ^ q) (pow-le-pow-left hA p)) h))

@@ -1,12 +1,12 @@
 -- What a caller of powers in hundredths has of their brackets, for any exponent up to 1: they stand, and a bound from one
 -- computed power.
 use Prim.Native.Nat.{ℕ, _+_, _*_, _^_, _≤_, _<_}
-use native.Mathlib.Nat.{le-refl, mul-le-mul-right}
+use native.Mathlib.Nat.{mul-le-mul-right}
 use native.Mathlib.Omega.{arith}
 use lib.Dec.{lit<}
 use Rattle.estimate.specs.WholePower.{mul-pow}
 use Rattle.bracket.specs.Bracket.{powerWidth}
-use Rattle.bracket.specs.WidthLaws.{high-below, steps-apart, power-width-large}
+use Rattle.bracket.specs.WidthLaws.{high-below, power-width-large}
 use Rattle.remainder.specs.Remainder.{Exponent}
 use Rattle.power.specs.Stored.{billion}
 use Rattle.power.specs.Power.{powerBracket, StandingPower}
@@ -24,6 +24,6 @@ module _ (A p : ℕ) (from : 1 ≤ A) (to : A ≤ 20000) (part : p ≤ 100) wher
   unfolding powerBracket
   hundredths-below c few power =
       let scaled : 20000 ^ p * billion ^ 100 ≤ (c * billion) ^ 100 = rw (mul-pow c billion 100) (mul-le-mul-right (billion ^ 100) power) in
-      let low = power-low-below A p 100 from (omega arith) exponent 20000 p (c * billion) to (le-refl p) (lit< tt) scaled in
-      high-below powerWidth (powerBracket A p 100) c 1 (c + 1) 1 power-width-large (hundredths-standing .narrow) (lit< tt) (lit< tt)
-      (omega (arith, low)) (steps-apart powerWidth c (c + 1) 1 (omega arith) (omega arith))
+      let low = power-low-below A p 100 from (omega arith) exponent 20000 (c * billion) to scaled in
+      high-below powerWidth (powerBracket A p 100) c (c + 1) 1 power-width-large (lit< tt) (hundredths-standing .narrow) (omega arith) (omega arith)
+      (omega (arith, low))

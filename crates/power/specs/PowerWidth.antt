@@ -2,7 +2,6 @@
 use Prim.Native.Nat.{ℕ, _+_, _*_, _≤_, _<_}
 use native.Mathlib.Nat.{mul-le-mul, mul-le-mul-left, mul-le-mul-right, le-of-mul-le-mul-right}
 use native.Mathlib.Omega.{arith}
-use lib.Dec.{lit≤}
 use Rattle.wide.specs.Scaling.{floor, ceiling}
 use Rattle.wide.specs.Rounding.{floor-le, floor-lt, ceiling-ge, ceiling-lt}
 use Rattle.remainder.specs.Quotient.{RoundedDown, RoundedUp, at-most}
@@ -48,22 +47,18 @@ record Beside (k l S s t u : ℕ) : Type 0 where
   first : l * s ≤ 100 * (u + 1)
   second : k * t ≤ 100 * (u + 1)
   unit : k * l * S ≤ 10000 * (u + 1)
-  from-s : s ≤ u
 
-beside : (k l S s t u : ℕ) → 0 < S → 100 ≤ l → k * S ≤ 100 * s → l * S ≤ 100 * t → RoundedDown (s * t) S u → Beside k l S s t u
-beside k l S s t u h hl hs ht a =
-    let from-one : S ≤ t = omega (arith, mul-le-mul-right S hl) in
-    record {
-      first = le-of-mul-le-mul-right {k = S} (omega (arith, mul-le-mul-left s ht, a .near)) h;
-      second = le-of-mul-le-mul-right {k = S} (omega (arith, mul-le-mul-left t hs, a .near)) h;
-      unit = le-of-mul-le-mul-right {k = S} (omega (arith, mul-le-mul hs ht, a .near)) h;
-      from-s = at-least s t S u from-one a;
-    }
+beside : (k l S s t u : ℕ) → 0 < S → k * S ≤ 100 * s → l * S ≤ 100 * t → RoundedDown (s * t) S u → Beside k l S s t u
+beside k l S s t u h hs ht a = record {
+  first = le-of-mul-le-mul-right {k = S} (omega (arith, mul-le-mul-left s ht, a .near)) h;
+  second = le-of-mul-le-mul-right {k = S} (omega (arith, mul-le-mul-left t hs, a .near)) h;
+  unit = le-of-mul-le-mul-right {k = S} (omega (arith, mul-le-mul hs ht, a .near)) h;
+}
 
 module _ (S s t : ℕ) (big : 10000 ≤ S) where
-  pub roundings-from-one : 100 * S ≤ 100 * s → 100 * S ≤ 100 * t → RoundingsWithin S 6021 s t
-  roundings-from-one hs ht u a = let b = beside 100 100 S s t u (omega arith) (lit≤ tt) hs ht a in omega arith
+  pub roundings-from-one : S ≤ s → S ≤ t → RoundingsWithin S 6021 s t
+  roundings-from-one hs ht u a = let b = beside 100 100 S s t u (omega arith) (omega arith) (omega arith) a in omega arith
 
   -- s from 1.14 S, t from 2.6 S on
   pub roundings-from-two : 114 * S ≤ 100 * s → 260 * S ≤ 100 * t → RoundingsWithin S 2622 s t
-  roundings-from-two hs ht u a = let b = beside 114 260 S s t u (omega arith) (lit≤ tt) hs ht a in omega arith
+  roundings-from-two hs ht u a = let b = beside 114 260 S s t u (omega arith) hs ht a in omega arith

@@ -2,12 +2,12 @@
 use Prim.Native.Nat.{ℕ, _+_, _-_, _*_, _^_, _≤_, _<_}
 use mathlib.Core.List.{List}
 use mathlib.Core.Path.{_≡_, refl}
-use native.Mathlib.Nat.{le-trans, le-of-lt, lt-of-not-le, not-suc-le-self, mul-comm, mul-le-mul-right, one-le-pow, pow-le-pow-left, pow-le-pow-right}
-use native.Mathlib.Numerals.{add-one}
+use native.Mathlib.Nat.{le-trans, mul-comm, mul-le-mul-right, one-le-pow, pow-le-pow-left, pow-le-pow-right}
 use native.Mathlib.Omega.{arith}
 use lib.ListN.{getD}
 use Rattle.estimate.specs.WholePower.{mul-pow, pow-mul, pow-le-cancel}
 use Rattle.estimate.specs.Power.{powerLargest, power-largest-is}
+use Rattle.estimate.specs.PowerLaws.{above-power}
 use Rattle.remainder.specs.Remainder.{Exponent}
 use Rattle.power.specs.Exponents.{exponentAt}
 
@@ -52,8 +52,7 @@ module _ (k p q : ℕ) (e : Exponent p q) where
 
   pub stored-high-stands : k ^ p * billion ^ q ≤ storedHigh k p q ^ q
   unfolding storedHigh
-  stored-high-stands =
-      le-of-lt (lt-of-not-le (λ h. not-suc-le-self (powerLargest 9 k p q) (rw add-one at (power-largest-is 9 k p q (e .positive) .most (powerLargest 9 k p q + 1) h))))
+  stored-high-stands = above-power k p q (e .positive) 9
 
   pub stored-near : storedHigh k p q ≡ storedLow k p q + 1
   unfolding storedLow storedHigh

@@ -14,6 +14,7 @@ use crate::stored::stored_low;
 use crate::stored::stored_powers;
 use bracket::Bracket;
 use bracket::BracketAnswer;
+use remainder::SCALE;
 use remainder::remainder_high;
 use remainder::remainder_low;
 use remainder::split;
@@ -21,8 +22,6 @@ use wide::scale::times_down;
 use wide::scale::times_up;
 
 const BILLION: u64 = 1_000_000_000;
-
-const SCALE: u64 = 1_000_000_000_000;
 
 // The low end, in billionths, for the exponent at a place below 5.
 fn power_low_with(stored: &[u64; 2560], base: u64, exponent: u64) -> u64

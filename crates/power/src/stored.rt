@@ -1,8 +1,8 @@
 // Stored bounds of the powers of 1 to 256 at five exponents, in billionths: made once, and lent to the calls that read them.
 ghost use mathlib.Core.Path.{_≡_};
-ghost use Prim.Native.Nat.{_≤_, _<_};
+ghost use Prim.Native.Nat.{_*_, _≤_, _<_};
 ghost use Rattle.power.specs.Exponents.{exponentAt, placeOf};
-ghost use Rattle.power.specs.Stored.{StoredPowers, storedLow, storedHigh};
+ghost use Rattle.power.specs.Stored.{StoredPowers, billion, storedLow, storedHigh};
 
 // The exponents, in hundredths.
 const HUNDREDTHS: [u64; 5] = [79, 49, 60, 61, 20];
@@ -2605,6 +2605,7 @@ pub fn exponent_place(num: u64) -> u64
 pub fn stored_low(stored: &[u64; 2560], exponent: u64, k: u64) -> u64
     requires { ⌜ StoredPowers (now stored) × (exponent < 5) × (1 ≤ k) × (k ≤ 256) ⌝ }
     ensures { λ r. ⌜ r ≡ storedLow k (exponentAt exponent) 100 ⌝ }
+    ensures small { λ r. ⌜ r ≤ 257 * billion ⌝ }
 {
     let i = (2 * (exponent * 256 + (k - 1))) as usize;
     stored[i]
@@ -2614,6 +2615,7 @@ pub fn stored_low(stored: &[u64; 2560], exponent: u64, k: u64) -> u64
 pub fn stored_high(stored: &[u64; 2560], exponent: u64, k: u64) -> u64
     requires { ⌜ StoredPowers (now stored) × (exponent < 5) × (1 ≤ k) × (k ≤ 256) ⌝ }
     ensures { λ r. ⌜ r ≡ storedHigh k (exponentAt exponent) 100 ⌝ }
+    ensures small { λ r. ⌜ r ≤ 257 * billion ⌝ }
 {
     let i = (2 * (exponent * 256 + (k - 1)) + 1) as usize;
     stored[i]

@@ -1,68 +1,56 @@
--- Edition 1 keeps what its sites are carried by: computed tests of the base factors, and of the room of a segment, straight or bent.
-use Prim.Native.Nat.{ℕ, _*_, _≤_}
+-- Edition 1 keeps what its sites are carried by: computed tests of the base factors, and of the room of a segment, straight or bent,
+-- and of each kind of crossing.
+use Prim.Native.Nat.{ℕ, _≤_}
+use mathlib.Core.Path.{_≡_, refl}
+use mathlib.Core.Bool.{Bool, true, false, cond}
+use mathlib.Core.List.{[], _++_}
 use native.Mathlib.Omega.{arith}
 use lib.Dec.{T, lit≤}
-use Rattle.estimate.specs.Fraction.{fraction, _//_, whole, _^ᶠ_}
 use Rattle.laws.specs.Table.{allBelow, all-below}
-use Rattle.bracket.specs.Pieces.{Kept, bounds, hasRoom, grown, absoluteMost}
-use Rattle.site.specs.declared.values.Site.{Site}
-use Rattle.site.specs.declared.values.Slot.{Slot}
-use Rattle.site.specs.declared.values.Slot.the-variants.{Absent, Number}
+use Rattle.estimate.specs.Fraction.{fraction, _//_, whole, _^ᶠ_}
+use Rattle.site.specs.declared.numbers.Segment.{Segment}
+use Rattle.site.specs.declared.numbers.Crossing.{Crossing}
+use Rattle.site.specs.Tested.{by-kind}
+use Rattle.site.specs.Numbers.{by-crossing}
 use Rattle.model.specs.Coefficients.{editionOne}
-use Rattle.model.specs.Grade.{grade-pieces}
-use Rattle.model.specs.FactorBounds.{left-turn-within, right-turn-within}
-use Rattle.model.specs.Parts.{Term}
-use Rattle.prediction.specs.Stored.{storedBracket, storedWidth, basePart}
-use Rattle.prediction.specs.Pieces.{parts, storedPiece, baseMost, segmentPieces}
-use Rattle.prediction.specs.Pair.{unit}
-use Rattle.prediction.specs.Numbers.{by-kind}
-use Rattle.prediction.specs.Kept.{InOrder, isKept, stored-kept, negative-in-order, Rated, segmentMost, carriedMost}
+use Rattle.model.specs.Parts.{Base, partOf, straightFactors, curveFactors, segmentFactors, crossingFactors}
+use Rattle.model.specs.FactorBounds.{edition-one-bounded}
+use Rattle.prediction.specs.Stored.{storedBracket, storedWidth}
+use Rattle.prediction.specs.Factors.{piecesOf}
+use Rattle.prediction.specs.Kept.{narrowly, Roomy, Rated, segmentMost, crossingMost}
 
--- the base factors: a test of the segment's, and one of the crossings'
-base-in-order : (kind : ℕ) → kind ≤ 3 → InOrder (basePart editionOne kind)
+base-most : (kind : ℕ) → kind ≤ 3 → editionOne .base-exponent kind ≤ 210000
 unfolding editionOne
-base-in-order kind h = negative-in-order _ (by-kind (λ kind. editionOne .base-exponent kind ≤ 210000) (lit≤ tt) (lit≤ tt) (lit≤ tt) (lit≤ tt) kind h)
+base-most kind h = by-kind (λ kind. editionOne .base-exponent kind ≤ 210000) (lit≤ tt) (lit≤ tt) (lit≤ tt) (lit≤ tt) kind h
 
-segment-base : T (isKept baseMost (basePart editionOne 0))
-unfolding isKept storedBracket storedWidth editionOne _//_
-segment-base = tt
+bases-narrow : T (allBelow (λ kind. narrowly (storedBracket (partOf editionOne (Base kind)))) 4)
+unfolding allBelow narrowly storedBracket storedWidth editionOne
+bases-narrow = tt
 
-crossing-bases : T (allBelow (λ kind. isKept (whole 1) (basePart editionOne kind)) 4)
-unfolding allBelow isKept storedBracket storedWidth editionOne whole
-crossing-bases = tt
+segment-roomy : (v : Segment) → Roomy segmentMost (piecesOf editionOne (segmentFactors v))
+unfolding segmentFactors straightFactors curveFactors storedBracket editionOne whole _//_ fraction _^ᶠ_
+segment-roomy v = by (v .curved)
+  where
+    by : (curved : Bool) → Roomy segmentMost (piecesOf editionOne (straightFactors v ++ cond curved (curveFactors v) []))
+    by true = record { fits = tt; small = lit≤ tt; steps = lit≤ tt }
+    by false = record { fits = tt; small = lit≤ tt; steps = lit≤ tt }
 
-crossing-base : (kind : ℕ) → 1 ≤ kind → kind ≤ 3 → Kept parts (storedPiece (basePart editionOne kind) (whole 1))
-crossing-base kind from to =
-    stored-kept (basePart editionOne kind) (whole 1) (base-in-order kind to)
-    (all-below (λ kind. isKept (whole 1) (basePart editionOne kind)) 4 crossing-bases kind (omega arith))
-
-room : (bend : Slot) (site : Site) (term : Term) → T (hasRoom segmentMost (bounds (segmentPieces editionOne bend site term)))
-unfolding segmentPieces editionOne whole _//_ fraction _^ᶠ_
-room Absent site term = tt
-room (Number n) site term = tt
-
-small : (bend : Slot) (site : Site) (term : Term) → grown segmentMost (bounds (segmentPieces editionOne bend site term)) ≤ carriedMost
-unfolding segmentPieces editionOne whole _//_ fraction _^ᶠ_
-small Absent site term = lit≤ tt
-small (Number n) site term = lit≤ tt
-
-steps : (bend : Slot) (site : Site) (term : Term) → absoluteMost 0 (bounds (segmentPieces editionOne bend site term)) ≤ 2 * unit
-unfolding segmentPieces editionOne whole _//_ fraction _^ᶠ_
-steps Absent site term = lit≤ tt
-steps (Number n) site term = lit≤ tt
+crossing-roomy : (v : Crossing) → 1 ≤ v .kind → v .kind ≤ 3 → Roomy crossingMost (piecesOf editionOne (crossingFactors v))
+unfolding crossingFactors storedBracket editionOne whole _//_ fraction
+crossing-roomy v from to =
+    by-crossing (λ kind. v .kind ≡ kind → Roomy crossingMost (piecesOf editionOne (crossingFactors v)))
+    (λ e. rw e (record { fits = tt; small = lit≤ tt; steps = lit≤ tt }))
+    (λ e. rw e (record { fits = tt; small = lit≤ tt; steps = lit≤ tt }))
+    (λ e. rw e (record { fits = tt; small = lit≤ tt; steps = lit≤ tt }))
+    (v .kind) from to refl
 
 pub edition-one-rated : Rated editionOne
-unfolding editionOne
 edition-one-rated = record {
-  share-most = lit≤ tt;
-  constant-least = lit≤ tt;
-  constant-most = lit≤ tt;
-  base-kept = stored-kept (basePart editionOne 0) baseMost (base-in-order 0 (lit≤ tt)) segment-base;
-  crossing-base-kept = crossing-base;
-  grade-is = grade-pieces;
-  left-most = λ kind lanes. left-turn-within kind lanes .at-most;
-  right-most = λ kind lanes. right-turn-within kind lanes .at-most;
-  segment-room = room;
-  segment-small = small;
-  segment-steps = steps;
+  bounded = edition-one-bounded;
+  constant-least = unfold editionOne in lit≤ tt;
+  constant-most = unfold editionOne in lit≤ tt;
+  base-most = base-most;
+  base-narrow = λ kind h. all-below (λ kind. narrowly (storedBracket (partOf editionOne (Base kind)))) 4 bases-narrow kind (omega arith);
+  segment-room = segment-roomy;
+  crossing-room = crossing-roomy;
 }

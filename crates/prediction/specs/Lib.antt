@@ -1,9 +1,11 @@
--- The predicted pair of a site: its pieces, the pair they make, and what holds of it.
+-- What a reader must believe: Factors, the bracket of each factor; Stored, those that are stored; Pair, what a site's factors make.
+-- Laws: what each factor keeps (Kept), edition 1 (EditionOne), what is shown of a pair (PredictedLaws), that no prediction is 0
+-- (Positive), and what the code takes from them (Carrying).
 pub mod Stored
-pub mod Pieces
+pub mod Factors
 pub mod Pair
-pub mod Numbers
 pub mod Kept
 pub mod EditionOne
-pub mod Values
 pub mod PredictedLaws
+pub mod Positive
+pub mod Carrying

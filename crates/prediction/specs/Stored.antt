@@ -5,13 +5,13 @@ use mathlib.Core.Path.{_≡_}
 use mathlib.Core.List.{List}
 use lib.Dec.{T, eqb}
 use lib.ListN.{getD}
-use Rattle.estimate.specs.Fraction.{fraction, inverse, tenThousandths}
+use Rattle.estimate.specs.Fraction.{Fraction, fraction, _//_, inverse, tenThousandths}
 use Rattle.estimate.specs.Exponential.{expUnder, expOver, expNegUnder, expNegOver, partialSum, sumWithTail, sumNum, termNum, termDen}
 use Rattle.laws.specs.Table.{allBelow, agree-below}
 use Rattle.bracket.specs.declared.Bracket.{Bracket}
 use Rattle.bracket.specs.Rounded.{roundedOutward}
-use Rattle.model.specs.Coefficients.{Coefficients, editionOne}
-use Rattle.model.specs.Parts.{Part, exponentialNegative, hazard}
+use Rattle.model.specs.Coefficients.{editionOne}
+use Rattle.model.specs.Parts.{Part, Base, partOf, hazard}
 
 -- a power of ten, by which a division is cheap
 abbrev pub storedScale : ℕ
@@ -30,9 +30,9 @@ storedBracket part = roundedOutward storedScale storedDepth (part .under) (part 
 unfoldable pub storedWidth : ℕ
 storedWidth = 10 ^ 8
 
--- "e^(−0.4865)" of a segment, "e^(−10.9)" of a 3ST and so on, by kind
-abbrev pub basePart : Coefficients → (kind : ℕ) → Part
-basePart k kind = exponentialNegative (k .base-exponent kind)
+-- its high end
+abbrev pub storedMost : Part → Fraction
+storedMost part = storedBracket part .«high_num» // storedScale
 
 -- the two numerators of each of n parts side by side
 pub record StoredParts (n : ℕ) (part : ℕ → Part) (table : List ℕ) : Type 0 where
@@ -41,7 +41,7 @@ pub record StoredParts (n : ℕ) (part : ℕ → Part) (table : List ℕ) : Type
 
 -- the base factors of edition 1, by kind
 abbrev pub StoredBases : List ℕ → Type 0
-StoredBases = StoredParts 4 (basePart editionOne)
+StoredBases = StoredParts 4 (λ kind. partOf editionOne (Base kind))
 
 -- the hazard factors, by rating from 1 on
 abbrev pub StoredHazards : List ℕ → Type 0

@@ -3,8 +3,9 @@
 ghost use mathlib.Core.Path.{_≡_};
 ghost use Prim.Native.Nat.{_≤_};
 ghost use Rattle.model.specs.Coefficients.{editionOne};
-ghost use Rattle.model.specs.Parts.{hazard};
-ghost use Rattle.prediction.specs.Stored.{StoredBases, StoredHazards, overScale, storedBracket, basePart};
+ghost use Rattle.model.specs.Parts.{Base, Hazard};
+ghost use Rattle.prediction.specs.Stored.{StoredBases, StoredHazards, overScale};
+ghost use Rattle.prediction.specs.Factors.{bracketOf};
 use bracket::Bracket;
 
 // What a stored number is over.
@@ -67,7 +68,7 @@ fn over_scale(low: u64, high: u64) -> Bracket
 // The base factor of a kind, e^(-0.4865) for a segment.
 pub fn base_factor(kind: u8) -> Bracket
     requires { ⌜ kind ≤ 3 ⌝ }
-    ensures { λ r. ⌜ r ≡ storedBracket (basePart editionOne kind) ⌝ }
+    ensures { λ r. ⌜ r ≡ bracketOf editionOne (Base kind) ⌝ }
 {
     let ends = stored_bases();
     let at = 2 * (kind as usize);
@@ -77,7 +78,7 @@ pub fn base_factor(kind: u8) -> Bracket
 // e^(0.0668 (rating - 3)).
 pub fn hazard_factor(rating: u64) -> Bracket
     requires { ⌜ (1 ≤ rating) × (rating ≤ 7) ⌝ }
-    ensures { λ r. ⌜ r ≡ storedBracket (hazard rating) ⌝ }
+    ensures { λ r. ⌜ r ≡ bracketOf editionOne (Hazard rating) ⌝ }
 {
     let ends = stored_hazards();
     let at = 2 * ((rating - 1) as usize);

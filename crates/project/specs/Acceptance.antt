@@ -8,11 +8,15 @@ use native.Mathlib.Omega.{arith}
 use lib.ListN.{length, drop}
 use lib.Dec.{ltb}
 use borrow.Author.Tests.{ltb-true, ltb-false}
-use Rattle.site.specs.RecordCauses.{RecordCause, map-past, kind-above, bit-lacked, bit-missing, field-past, field-outside, field-spelled, cause-number, cause-not-zero}
+use Rattle.site.specs.RecordCauses.{RecordCause, map-past, kind-above, bit-lacked, bit-missing, field-past, field-outside, field-spelled}
+use Rattle.site.specs.RecordCauses.{cause-number, cause-not-zero}
+use Rattle.header.specs.Header.{countIn}
+use Rattle.header.specs.Causes.{HeaderCause, header-cut, header-edition, header-limits}
 use Rattle.project.specs.declared.ScanAnswer.{ScanAnswer}
 use Rattle.project.specs.declared.ScanAnswer.the-variants.{Accepted, Refused}
-use Rattle.project.specs.File.{countIn, scanFile}
-use Rattle.project.specs.Causes.{Starts, RecordNumber, RunsPast, header-past, record-past, reportLength, NoCause, HeaderCause, header-cut, header-edition, header-limits, FirstInBytes, in-header, in-record, in-rest, Whole, FirstCause, in-bytes, in-report}
+use Rattle.project.specs.File.{scanFile}
+use Rattle.project.specs.Causes.{Starts, RecordNumber, RunsPast, header-past, record-past, reportLength, NoCause}
+use Rattle.project.specs.Causes.{FirstInBytes, in-header, in-record, in-rest, Whole, FirstCause, in-bytes, in-report}
 use Rattle.project.specs.Scan.{same-place, earlier, refused-exactly, accepted-exactly}
 
 counted : (s : List ℕ) (n : ℕ) → Whole s n → Whole s (countIn s)
@@ -39,10 +43,6 @@ module _ (s : List ℕ) (room : ℕ) where
   bytes-none none (in-header c) = header-none none c
   bytes-none none (in-record {number} {p} header r) = record-none none p (r .cause) r
   bytes-none none (in-rest {p} header r) = none .none-after p r
-
-  pub first-is-cause : NoCause s room → {number p : ℕ} → FirstCause s room number p → ⊥
-  first-is-cause none (in-bytes f) = bytes-none none f
-  first-is-cause none (in-report w h) = none .report-suffices 0 h
 
   -- no row of the table holds of a whole file whose report suffices
   module _ (w : Whole s (countIn s)) where

@@ -1,16 +1,14 @@
 -- Document 01's causes to refuse a project, each found in the bytes apart from any scan, and their order.
 use mathlib.Core.Path.{_≡_}
-use mathlib.Core.Bool.{true}
 use mathlib.Core.List.{List}
-use Prim.Native.Nat.{ℕ, zero, suc, _+_, _*_, _<_, _≤_}
+use Prim.Native.Nat.{ℕ, zero, suc, _+_, _*_, _<_}
 use lib.ListN.{length, drop}
 use Rattle.site.specs.declared.values.Site.{Site}
 use Rattle.site.specs.declared.values.SiteAnswer.the-variants as site
 use Rattle.site.specs.Record.{readSite}
 use Rattle.site.specs.RecordCauses.{RecordCause}
-use Rattle.model.specs.Predicted.{inLimits}
-use Rattle.project.specs.File.{headerLength, editionIn, headerIn, countIn, mostSites}
-use Rattle.project.specs.Headed.{HeaderAccepted}
+use Rattle.header.specs.Header.{headerLength, countIn}
+use Rattle.header.specs.Causes.{EditionNot, OutsideLimits, HeaderCause, HeaderAccepted}
 
 -- the record with an index starts at a place: the first after the header, each other after a record that can be read
 pub data Starts (s : List ℕ) : ℕ → ℕ → Type 0 where
@@ -33,18 +31,6 @@ pub data RunsPast (s : List ℕ) : ℕ → Type 0 where
 pub record BytesAfter (s : List ℕ) (p : ℕ) : Type 0 where
   pub starts : Starts s (countIn s) p
   pub more : p < length s
-
--- "edition not 1": 3, at "place 0"
-pub record EditionNot (s : List ℕ) (p : ℕ) : Type 0 where
-  pub place-is : p ≡ 0
-  pub there : 0 < length s
-  pub other : editionIn s ≡ 1 → ⊥
-
--- "years, calibration or sites outside limits": 4, at "place 0"
-pub record OutsideLimits (s : List ℕ) (p : ℕ) : Type 0 where
-  pub place-is : p ≡ 0
-  pub there : headerLength ≤ length s
-  pub outside : (inLimits (headerIn s) ≡ true) × (countIn s ≤ mostSites) → ⊥
 
 -- "kind above 3": 5
 abbrev pub KindAbove : List ℕ → ℕ → Type 0
@@ -87,12 +73,6 @@ pub record NoCause (s : List ℕ) (room : ℕ) : Type 0 where
   pub ranges-kept : (p : ℕ) → OutsideRange s p → ⊥
   pub none-spelled : (p : ℕ) → DefaultSpelled s p → ⊥
   pub report-suffices : (p : ℕ) → TooShort s room p → ⊥
-
--- "Order: header 1, 3, 4"
-pub data HeaderCause (s : List ℕ) : ℕ → Type 0 where
-  header-cut : length s < headerLength → HeaderCause s 1
-  header-edition : headerLength ≤ length s → EditionNot s 0 → HeaderCause s 3
-  header-limits : editionIn s ≡ 1 → OutsideLimits s 0 → HeaderCause s 4
 
 -- "each record in turn .. last 2": the first cause that the bytes alone show. A record starts where those before it are read,
 -- so the record that has a number is the first

@@ -1,7 +1,6 @@
--- The project file: what its bytes say, what a scan of them answers, and the causes to refuse it.
+-- The project file. To be believed: File, what its bytes say and what a scan of them answers, Causes, why it is refused, and
+-- Promise, what the scan promises. Laws of these: the others.
 pub mod File
-pub mod Fields
-pub mod Headed
 pub mod Causes
 pub mod Scan
 pub mod Promise

@@ -17,9 +17,10 @@ use Rattle.site.specs.Tested.{tested-rules}
 use Rattle.laws.specs.Truth.{or-left}
 use Rattle.site.specs.BytesRead.{headRefused, bears, past-nothing}
 use Rattle.site.specs.Theorems.{words-most, longest, read-length}
+use Rattle.header.specs.Header.{headerLength, countIn, mostSites, headerNumber}
+use Rattle.header.specs.HeaderLaws.{header-accepted}
 use Rattle.project.specs.declared.ScanAnswer.the-variants.{Refused}
-use Rattle.project.specs.File.{headerLength, countIn, mostSites, headerNumber, onward, scanRecords, scanFile}
-use Rattle.project.specs.Headed.{header-accepted}
+use Rattle.project.specs.File.{afterRecord, scanRecords, scanFile}
 use Rattle.project.specs.Scan.{scan-past-header, scan-header}
 
 -- a header and 1,900 records of 33 bytes
@@ -51,7 +52,7 @@ module _ (s t : List ℕ) (full : longestFile < length s) where
 
   same-step : (sites left at : ℕ) (answer : SiteAnswer)
       → ((value : Site) (n : ℕ) → answer ≡ site.Read value n → scanRecords sites left (at + n) (s ++ t) ≡ scanRecords sites left (at + n) s)
-      → onward at answer (λ next. scanRecords sites left next (s ++ t)) ≡ onward at answer (λ next. scanRecords sites left next s)
+      → afterRecord at answer (λ next. scanRecords sites left next (s ++ t)) ≡ afterRecord at answer (λ next. scanRecords sites left next s)
   same-step sites left at (site.Refused number) later = refl
   same-step sites left at (site.Read value n) later = later value n refl
 

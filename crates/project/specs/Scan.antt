@@ -1,13 +1,13 @@
 -- The scan finds the first cause that the bytes show, and accepts a file exactly when there is none.
 use mathlib.Core.Path.{_≡_, refl, ap, sym, subst, _∙_}
-use mathlib.Core.Bool.{Bool, true, false, cond, _&&_, true≢false}
+use mathlib.Core.Bool.{Bool, true, false, cond}
 use mathlib.Core.List.{List}
 use mathlib.Core.Logic.{_↔_}
 use Prim.Native.Nat.{ℕ, zero, suc, _+_, _-_, _<_, _≤_}
 use native.Mathlib.Omega.{arith}
 use lib.ListN.{length, drop, length-drop}
-use lib.Dec.{ltb, leb, eqb}
-use borrow.Author.Tests.{ltb-true, ltb-false, lt-ltb, le-ltb, eqb-true, eqb-false, eq-eqb, ne-eqb, leb-true, leb-false}
+use lib.Dec.{ltb, eqb}
+use borrow.Author.Tests.{ltb-true, ltb-false, lt-ltb, le-ltb, eqb-true, eqb-false, eq-eqb, ne-eqb}
 use Rattle.site.specs.declared.values.Site.{Site}
 use Rattle.site.specs.declared.values.SiteAnswer.{SiteAnswer}
 use Rattle.site.specs.declared.values.SiteAnswer.the-variants as site
@@ -16,12 +16,13 @@ use Rattle.site.specs.Record.{refusalOf, readSite}
 use Rattle.site.specs.RecordCauses.{refused-by-cause}
 use Rattle.site.specs.Accepted.{number-read}
 use Rattle.site.specs.Theorems.{read-length}
-use Rattle.model.specs.Predicted.{inLimits}
+use Rattle.header.specs.Header.{headerLength, countIn, headerNumber}
+use Rattle.header.specs.Causes.{HeaderAccepted}
+use Rattle.header.specs.HeaderLaws.{header-cause, cause-header, header-not-zero, header-accepted, accepted-header}
 use Rattle.project.specs.declared.ScanAnswer.{ScanAnswer}
 use Rattle.project.specs.declared.ScanAnswer.the-variants.{Accepted, Refused}
-use Rattle.project.specs.File.{headerLength, editionIn, headerIn, countIn, mostSites, headerNumber, onward, place-of-record, scanRecords, scanFile}
-use Rattle.project.specs.Headed.{HeaderAccepted, header-accepted, accepted-header}
-use Rattle.project.specs.Causes.{Starts, first, next, RecordNumber, BytesAfter, HeaderCause, header-cut, header-edition, header-limits, FirstInBytes, in-header, in-record, in-rest, Whole}
+use Rattle.project.specs.File.{afterRecord, place-of-record, scanRecords, scanFile}
+use Rattle.project.specs.Causes.{Starts, first, next, RecordNumber, BytesAfter, FirstInBytes, in-header, in-record, in-rest, Whole}
 
 pub read-zero : (x : List ℕ) (value : Site) (n : ℕ) → readSite x ≡ site.Read value n → refusalOf x ≡ 0
 read-zero x value n e = sym (number-read x) ∙ ap readNumber e
@@ -97,7 +98,7 @@ module _ (s : List ℕ) (long : headerLength ≤ length s) where
   scanned-step : (left i p : ℕ) → Starts s i p → i < countIn s
       → ((n : ℕ) → Starts s (suc i) (p + n) → Scanned s (scanRecords (countIn s) left (p + n) s))
       → (answer : SiteAnswer) → readSite (drop p s) ≡ answer
-      → Scanned s (onward p answer (λ next. scanRecords (countIn s) left next s))
+      → Scanned s (afterRecord p answer (λ next. scanRecords (countIn s) left next s))
   scanned-step left i p st h later (site.Refused number) e =
       rw (place-of-record p number (λ next. scanRecords (countIn s) left next s))
       (at-record (record { index = i; counted = h; starts = st; cause = refused-by-cause (drop p s) number .0 e }))
@@ -113,48 +114,6 @@ module _ (s : List ℕ) (long : headerLength ≤ length s) where
 
   scanned : Scanned s (scanRecords (countIn s) (countIn s) headerLength s)
   scanned = scanned-from (countIn s) zero headerLength first (omega arith)
-
--- a header's number, told by its causes
-module _ (s : List ℕ) where
-  header-by : (short known limits few : Bool) → ltb (length s) headerLength ≡ short → eqb (editionIn s) 1 ≡ known
-      → inLimits (headerIn s) ≡ limits → leb (countIn s) mostSites ≡ few
-      → (headerNumber s ≡ 0 → ⊥) → HeaderCause s (headerNumber s)
-  unfolding headerNumber
-  header-by true known limits few a b c d ne = rw a (header-cut (ltb-true (length s) headerLength a))
-  header-by false false limits few a b c d ne =
-      let l = ltb-false (length s) headerLength a in
-      rw (a, b) (header-edition l (record { place-is = refl; there = omega arith; other = eqb-false (editionIn s) 1 b }))
-  header-by false true false few a b c d ne =
-      rw (a, b, c) (header-limits (eqb-true (editionIn s) 1 b)
-      (record { place-is = refl; there = ltb-false (length s) headerLength a; outside = λ h. true≢false (sym (h .0) ∙ c) }))
-  header-by false true true false a b c d ne =
-      let w = leb-false (countIn s) mostSites d in
-      rw (a, b, c, d) (header-limits (eqb-true (editionIn s) 1 b)
-      (record { place-is = refl; there = ltb-false (length s) headerLength a; outside = λ h. let q = h .1 in omega arith }))
-  header-by false true true true a b c d ne = absurd (ne (rw (a, b, c, d)))
-
-  header-cause : (headerNumber s ≡ 0 → ⊥) → HeaderCause s (headerNumber s)
-  header-cause =
-      header-by (ltb (length s) headerLength) (eqb (editionIn s) 1) (inLimits (headerIn s)) (leb (countIn s) mostSites) refl refl refl refl
-
-  limits-by : (limits few : Bool) → inLimits (headerIn s) ≡ limits → leb (countIn s) mostSites ≡ few
-      → ((inLimits (headerIn s) ≡ true) × (countIn s ≤ mostSites) → ⊥) → _≡_ {A = ℕ} (cond (limits && few) 0 4) 4
-  limits-by true true a b out = absurd (out (a, leb-true (countIn s) mostSites b))
-  limits-by true false a b out = refl
-  limits-by false few a b out = refl
-
-  cause-header : {number : ℕ} → HeaderCause s number → headerNumber s ≡ number
-  unfolding headerNumber
-  cause-header (header-cut h) = rw (lt-ltb (length s) headerLength h)
-  cause-header (header-edition l h) = rw (le-ltb (length s) headerLength l, ne-eqb (editionIn s) 1 (h .other))
-  cause-header (header-limits e h) =
-      rw (le-ltb (length s) headerLength (h .there), eq-eqb (editionIn s) 1 e)
-      (limits-by (inLimits (headerIn s)) (leb (countIn s) mostSites) refl refl (h .outside))
-
-  header-not-zero : {number : ℕ} → HeaderCause s number → number ≡ 0 → ⊥
-  header-not-zero (header-cut h) e = omega arith
-  header-not-zero (header-edition l h) e = omega arith
-  header-not-zero (header-limits q h) e = omega arith
 
 -- where the header is accepted, a scan of the file is one of its records
 pub scan-past-header : (s : List ℕ) → headerNumber s ≡ 0 → scanFile s ≡ scanRecords (countIn s) (countIn s) headerLength s

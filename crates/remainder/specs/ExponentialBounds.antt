@@ -1,57 +1,46 @@
 -- The bounds of e^x for an x up to 0.004: the sums of their rounded terms, over any scale R where that is possible.
 use Prim.Native.Nat.{ℕ, _+_, _*_, _^_, _≤_, _<_}
-use mathlib.Core.Path.{_≡_}
 use native.Mathlib.Nat.{mul-le-mul, mul-le-mul-left, mul-le-mul-right}
 use native.Mathlib.Omega.{arith}
 use lib.Dec.{lit<, lit≤}
-use Rattle.estimate.specs.Exponential.{termNum, termDen, sumNum}
+use Rattle.estimate.specs.Exponential.{termNum, termDen, sumNum, term-den-positive}
 use Rattle.remainder.specs.Quotient.{quotientDown, quotientUp, RoundedDown, RoundedUp, rounded-down, quotient-up, at-most, product-down-≤, product-up-≤}
 use Rattle.remainder.specs.Remainder.{scale, exponentialLow, exponentialHigh}
-
--- the first sums of e^(x/R), multiplied out
-third-sum : (x R : ℕ) → sumNum x R 3 ≡ 6 * (R * R * R) + 6 * (R * R * x) + 3 * (R * x * x) + x * x * x
-unfolding sumNum termNum
-third-sum x R = omega arith
-
-third-den : (R : ℕ) → termDen R 3 ≡ 6 * (R * R * R)
-unfolding termDen
-third-den R = omega arith
-
-fourth-term : (x : ℕ) → termNum x 4 ≡ x * x * x * x
-unfolding termNum
-fourth-term x = omega arith
-
-fourth-den : (R : ℕ) → termDen R 4 ≡ 24 * (R * R * R * R)
-unfolding termDen
-fourth-den R = omega arith
 
 -- THE LOW SUM
 
 low-sum-stands : (R x square cube : ℕ) → square * (2 * R) ≤ x * x → cube * (3 * R) ≤ square * x → (R + x + square + cube) * termDen R 3 ≤ sumNum x R 3 * R
-low-sum-stands R x square cube a b =
-    rw (third-sum x R, third-den R) (omega (arith, mul-le-mul-right (3 * (R * R)) a, mul-le-mul-right (R * x) a, mul-le-mul-right (2 * (R * R)) b))
+unfolding sumNum termNum termDen
+low-sum-stands R x square cube a b = omega (arith, mul-le-mul-right (3 * (R * R)) a, mul-le-mul-right (R * x) a, mul-le-mul-right (2 * (R * R)) b)
 
 low-sum-near : (R x square cube : ℕ) → x ≤ R → x * x ≤ square * (2 * R) + 2 * R → square * x ≤ cube * (3 * R) + 3 * R
     → sumNum x R 3 * R ≤ (R + x + square + cube + 3) * termDen R 3
+unfolding sumNum termNum termDen
 low-sum-near R x square cube s a b =
-    rw (third-sum x R, third-den R)
-    (omega (arith, mul-le-mul-right (3 * (R * R)) a, mul-le-mul-right (R * x) a, mul-le-mul-right (2 * (R * R)) b, mul-le-mul-left (R * R) s))
+    omega (arith, mul-le-mul-right (3 * (R * R)) a, mul-le-mul-right (R * x) a, mul-le-mul-right (2 * (R * R)) b, mul-le-mul-left (R * R) s)
 
 -- THE HIGH SUM
 
 high-sum-stands : (R x square cube fourth : ℕ) → x * x ≤ square * (2 * R) → square * x ≤ cube * (3 * R) → cube * x ≤ fourth * (4 * R)
     → (sumNum x R 3 * (R * 4) + 2 * termNum x 4) * R ≤ (R + x + square + cube + 2 * fourth) * termDen R 4
+unfolding sumNum termNum termDen
 high-sum-stands R x square cube fourth a b c =
     let t3 : x * x * x ≤ 6 * (R * R * cube) = omega (arith, mul-le-mul-right x a, mul-le-mul-right (2 * R) b) in
     let t4 : x * x * x * x ≤ 24 * (R * R * R * fourth) = omega (arith, mul-le-mul-right x t3, mul-le-mul-right (6 * (R * R)) c) in
-    rw (third-sum x R, fourth-den R, fourth-term x)
-    (omega (arith, mul-le-mul-right (12 * (R * R * R)) a, mul-le-mul-right (4 * (R * R)) t3, mul-le-mul-right (2 * R) t4))
+    omega (arith, mul-le-mul-right (12 * (R * R * R)) a, mul-le-mul-right (4 * (R * R)) t3, mul-le-mul-right (2 * R) t4)
 
 high-sum-near : (R x square cube fourth : ℕ) → x ≤ R → fourth ≤ 13 → square * (2 * R) ≤ x * x + 2 * R → cube * (3 * R) ≤ square * x + 3 * R
     → (R + x + square + cube + 2 * fourth) * termDen R 3 ≤ sumNum x R 3 * R + 30 * termDen R 3
+unfolding sumNum termNum termDen
 high-sum-near R x square cube fourth s t a b =
-    rw (third-sum x R, third-den R)
-    (omega (arith, mul-le-mul-right (3 * (R * R)) a, mul-le-mul-right (R * x) a, mul-le-mul-right (2 * (R * R)) b, mul-le-mul-left (R * R) s, mul-le-mul-left (R * R * R) t))
+    omega (
+      arith,
+      mul-le-mul-right (3 * (R * R)) a,
+      mul-le-mul-right (R * x) a,
+      mul-le-mul-right (2 * (R * R)) b,
+      mul-le-mul-left (R * R) s,
+      mul-le-mul-left (R * R * R) t,
+    )
 
 -- HOW LARGE THE TERMS ARE
 
@@ -92,7 +81,6 @@ pub record ExponentialLow (x w : ℕ) : Type 0 where
 pub record ExponentialHigh (x w : ℕ) : Type 0 where
   pub stands : (sumNum x scale 3 * (scale * 4) + 2 * termNum x 4) * scale ≤ w * termDen scale 4
   pub near : w * termDen scale 3 ≤ sumNum x scale 3 * scale + 30 * termDen scale 3
-  pub from-one : scale ≤ w
   pub small : w ≤ 1005 * 10 ^ 9
 
 pub exponential-low-is : (x : ℕ) → x ≤ 4000000000 → ExponentialLow x (exponentialLow x)
@@ -121,24 +109,27 @@ exponential-high-is x h =
     record {
       stands = high-sum-stands scale x square cube fourth (f .above) (g .above) (k .above);
       near = high-sum-near scale x square cube fourth (omega arith) (fourth-small h f g k) (omega (arith, f .near)) (omega (arith, g .near));
-      from-one = omega arith;
       small = omega (arith, square-up-small h f, cube-up-small h f g, fourth-small h f g k);
     }
 
 -- TWO CLOSE ARGUMENTS HAVE CLOSE SUMS
 
 sums-near : (R x y d : ℕ) → 250 * x ≤ R → 250 * y ≤ R → d ≤ 7502 → y ≤ x + d → sumNum y R 3 * R ≤ sumNum x R 3 * R + (d + 48) * termDen R 3
+unfolding sumNum termNum termDen
 sums-near R x y d s t few h =
     let near : y ≤ x + 7502 = omega arith in
     let t2 : y * y ≤ x * x + 62 * R = omega (arith, mul-le-mul-left y near, mul-le-mul-left x near) in
     let t3 : y * y * y ≤ x * x * x + R * R =
     omega (arith, mul-le-mul-left y t2, mul-le-mul-right (x * x) near, mul-le-mul-left x s, mul-le-mul-left R s, mul-le-mul-left R t) in
-    rw (third-sum x R, third-sum y R, third-den R) (omega (arith, mul-le-mul-left (R * R * R) h, mul-le-mul-left (3 * (R * R)) t2, mul-le-mul-left R t3))
-
-bounds-near : (K P Q v w d : ℕ) → P ≤ (v + 3) * K → w * K ≤ Q + 30 * K → Q ≤ P + (d + 48) * K → 0 < K → w ≤ v + (d + 81)
-bounds-near K P Q v w d a b c h = at-most w K (v + (d + 81)) (omega arith)
+    omega (arith, mul-le-mul-left (R * R * R) h, mul-le-mul-left (3 * (R * R)) t2, mul-le-mul-left R t3)
 
 pub exponentials-near : (x y d : ℕ) → x ≤ 4000000000 → y ≤ 4000000000 → d ≤ 7502 → y ≤ x + d → exponentialHigh y ≤ exponentialLow x + (d + 81)
 exponentials-near x y d s t few h =
-    bounds-near (termDen scale 3) (sumNum x scale 3 * scale) (sumNum y scale 3 * scale) (exponentialLow x) (exponentialHigh y) d
-    (exponential-low-is x s .near) (exponential-high-is y t .near) (sums-near scale x y d (omega arith) (omega arith) few h) (rw (third-den scale) (lit< tt))
+    at-most (exponentialHigh y) (termDen scale 3) (exponentialLow x + (d + 81))
+    (omega (
+      arith,
+      exponential-low-is x s .near,
+      exponential-high-is y t .near,
+      sums-near scale x y d (omega arith) (omega arith) few h,
+      term-den-positive scale 3 (lit< tt),
+    ))

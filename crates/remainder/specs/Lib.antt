@@ -1,5 +1,5 @@
--- A number as a product and a small rest, and bounds of what the rest adds to its logarithm and its powers.
--- What to read: Split, Remainder. The other modules prove laws about those definitions.
+-- What a reader must believe: Quotient, Split, a number as a product and a small rest, and Remainder, what the rest adds to its logarithm and powers.
+-- Laws: that the bounds are bounds, how near they are, how large.
 pub mod Quotient
 pub mod Split
 pub mod Remainder

@@ -9,7 +9,7 @@ use Rattle.estimate.specs.FractionLaws.{≤ᶠ-refl}
 use Rattle.estimate.specs.ExponentialBounds.{AtMostExp, AtLeastExp, at-most-weaker, at-least-weaker}
 use Rattle.estimate.specs.Remainder.{ratio, twiceZ, twiceZAndCube, ratio-at-least, ratio-at-most}
 use Rattle.remainder.specs.Quotient.{quotientUp, RoundedDown, RoundedUp, rounded-down, quotient-up, quotient-up-zero, half-up, at-most, product-up-≤}
-use Rattle.remainder.specs.Remainder.{SmallRest, scale, logLow, logHigh}
+use Rattle.remainder.specs.Remainder.{SmallRest, scale, logLow, logHigh, withCube}
 
 module _ (N r : ℕ) (s : SmallRest N r) where
   log-low-rounded : RoundedDown (2 * r * scale) (2 * N + r) (logLow N r)
@@ -41,12 +41,6 @@ module _ {z : ℕ} (h : z ≤ 1957000000) where
 
     pub cube-small : {cube : ℕ} → RoundedUp (square * z) scale cube → cube ≤ 7499
     cube-small k = product-up-≤ square-small h k (lit≤ tt)
-
--- 2z + z^3, each term rounded up, from 2z: z is half of it, rounded up
-unfoldable pub withCube : ℕ → ℕ
-withCube twice =
-    let z = quotientUp twice 2 in
-    twice + quotientUp (quotientUp (z * z) scale * z) scale
 
 pub log-high-with-cube : (N r : ℕ) → SmallRest N r → logHigh N r ≡ withCube (quotientUp (2 * r * scale) (2 * N + r))
 unfolding logHigh withCube

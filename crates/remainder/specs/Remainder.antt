@@ -33,6 +33,12 @@ logHigh N r =
     let z = quotientUp (r * scale) (2 * N + r) in
     quotientUp (2 * r * scale) (2 * N + r) + quotientUp (quotientUp (z * z) scale * z) scale
 
+-- the same from 2z: z is half of it, rounded up
+unfoldable pub withCube : ℕ → ℕ
+withCube twice =
+    let z = quotientUp twice 2 in
+    twice + quotientUp (quotientUp (z * z) scale * z) scale
+
 abbrev pub logBoundsOf : (N r : ℕ) → LogBounds
 logBoundsOf N r = record { low = logLow N r; high = logHigh N r }
 

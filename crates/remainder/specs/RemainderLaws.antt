@@ -82,8 +82,5 @@ module _ (N r p q : ℕ) (s : SmallRest N r) (e : Exponent p q) where
   pub remainder-low-small : remainderLow N r p q ≤ 1005 * 10 ^ 9
   remainder-low-small = low-is .small
 
-  pub remainder-high-from-one : scale ≤ remainderHigh N r p q
-  remainder-high-from-one = high-is .from-one
-
   pub remainder-high-small : remainderHigh N r p q ≤ 1005 * 10 ^ 9
   remainder-high-small = high-is .small

@@ -16,11 +16,11 @@ unfoldable pub secondFactor : ℕ → ℕ
 secondFactor a = quotientDown a (firstFactor a)
 
 -- r = a - n m
-unfoldable pub restOf : ℕ → ℕ
-restOf a = a - firstFactor a * secondFactor a
+unfoldable pub splitRest : ℕ → ℕ
+splitRest a = a - firstFactor a * secondFactor a
 
 abbrev pub splitOf : ℕ → Parts
-splitOf a = record { n = firstFactor a; m = secondFactor a; r = restOf a }
+splitOf a = record { n = firstFactor a; m = secondFactor a; r = splitRest a }
 
 -- what the split gives: both factors within the stored numbers, and a rest that is small beside their product; where there is one,
 -- the factors are not small
@@ -54,8 +54,8 @@ splits-by a n m h k f g =
     from-one zero n h = absurd (omega arith)
     from-one (suc m) n h = omega arith
 
-pub split-is : (a : ℕ) → 1 ≤ a → a ≤ 65536 → Splits a (firstFactor a) (secondFactor a) (restOf a)
-unfolding firstFactor secondFactor restOf
+pub split-is : (a : ℕ) → 1 ≤ a → a ≤ 65536 → Splits a (firstFactor a) (secondFactor a) (splitRest a)
+unfolding firstFactor secondFactor splitRest
 split-is a h k =
     let f = quotient-up a 256 (omega arith) in
     splits-by a (quotientUp a 256) (quotientDown a (quotientUp a 256)) h k f (rounded-down a (quotientUp a 256) (omega (arith, f .above)))

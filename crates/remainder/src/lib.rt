@@ -1,14 +1,14 @@
 // A number up to 65536 as a product of two up to 256 and a small rest, and bounds of what the rest adds to its logarithm
 // and to its powers. Bounds are whole numbers over 10^12.
 ghost use mathlib.Core.Path.{_≡_};
-ghost use Prim.Native.Nat.{_+_, _^_, _≤_, _<_};
-ghost use Rattle.remainder.specs.Quotient.{quotientDown, quotientUp};
-ghost use Rattle.remainder.specs.Split.{splitOf};
-ghost use Rattle.remainder.specs.Remainder.{SmallRest, Exponent, mostDenominator};
+ghost use Prim.Native.Nat.{_+_, _*_, _^_, _≤_, _<_};
+ghost use Rattle.remainder.specs.Quotient.{quotientDown, quotientUp, RoundedUp};
+ghost use Rattle.remainder.specs.Split.{splitOf, Splits};
+ghost use Rattle.remainder.specs.Remainder.{SmallRest, Exponent, mostDenominator, withCube};
 ghost use Rattle.remainder.specs.Remainder.{logLow, logBoundsOf, exponentialLow, exponentialHigh, remainderLow, remainderHigh};
-ghost use Rattle.remainder.specs.LogarithmBounds.{withCube};
 
-const SCALE: u64 = 1_000_000_000_000;
+// The bounds' denominator.
+pub const SCALE: u64 = 1_000_000_000_000;
 
 // The number n * m + r.
 pub struct Parts {
@@ -27,6 +27,7 @@ pub struct LogBounds {
 fn up(a: u64, d: u64) -> u64
     requires { ⌜ (0 < d) × (a + d < 2 ^ 64) ⌝ }
     ensures { λ q. ⌜ q ≡ quotientUp a d ⌝ }
+    ensures rounded { λ q. ⌜ RoundedUp a d q ⌝ }
 {
     (a + (d - 1)) / d
 }
@@ -35,6 +36,7 @@ fn up(a: u64, d: u64) -> u64
 fn up_from(a: u64, d: u64, q: u64) -> u64
     requires { ⌜ (0 < d) × (q ≡ quotientDown a d) ⌝ }
     ensures { λ r. ⌜ r ≡ quotientUp a d ⌝ }
+    ensures rounded { λ r. ⌜ RoundedUp a d r ⌝ }
 {
     if q * d < a {
         return q + 1;
@@ -46,6 +48,7 @@ fn up_from(a: u64, d: u64, q: u64) -> u64
 pub fn split(a: u64) -> Parts
     requires { ⌜ (1 ≤ a) × (a ≤ 65536) ⌝ }
     ensures { λ s. ⌜ s ≡ splitOf a ⌝ }
+    ensures parts { λ s. ⌜ Splits a (s .n) (s .m) (s .r) ⌝ }
 {
     let n = up(a, 256);
     let m = a / n;
@@ -56,6 +59,7 @@ pub fn split(a: u64) -> Parts
 fn log_low(product: u64, rest: u64) -> u64
     requires { ⌜ SmallRest product rest ⌝ }
     ensures { λ y. ⌜ y ≡ logLow product rest ⌝ }
+    ensures small { λ y. ⌜ y ≤ 3914000000 ⌝ }
 {
     2 * rest * SCALE / (2 * product + rest)
 }
@@ -75,6 +79,7 @@ fn with_cube(twice: u64) -> u64
 pub fn log_bounds(product: u64, rest: u64) -> LogBounds
     requires { ⌜ SmallRest product rest ⌝ }
     ensures { λ y. ⌜ y ≡ logBoundsOf product rest ⌝ }
+    ensures small { λ y. ⌜ (y .low ≤ 3914000000) × (y .high ≤ 3914000000) ⌝ }
 {
     let low = log_low(product, rest);
     let twice = up_from(2 * rest * SCALE, 2 * product + rest, low);
@@ -109,6 +114,7 @@ fn exponential_high(x: u64) -> u64
 pub fn remainder_low(product: u64, rest: u64, num: u64, den: u64) -> u64
     requires { ⌜ SmallRest product rest × Exponent num den × (den ≤ mostDenominator) ⌝ }
     ensures { λ w. ⌜ w ≡ remainderLow product rest num den ⌝ }
+    ensures small { λ w. ⌜ w ≤ 1005 * 10 ^ 9 ⌝ }
 {
     exponential_low(log_low(product, rest) * num / den)
 }
@@ -117,6 +123,7 @@ pub fn remainder_low(product: u64, rest: u64, num: u64, den: u64) -> u64
 pub fn remainder_high(product: u64, rest: u64, num: u64, den: u64) -> u64
     requires { ⌜ SmallRest product rest × Exponent num den × (den ≤ mostDenominator) ⌝ }
     ensures { λ w. ⌜ w ≡ remainderHigh product rest num den ⌝ }
+    ensures small { λ w. ⌜ w ≤ 1005 * 10 ^ 9 ⌝ }
 {
     let log = log_bounds(product, rest);
     exponential_high(up(log.high * num, den))

@@ -8,23 +8,24 @@ use native.Mathlib.Nat.{zero-add}
 use native.Mathlib.Omega.{arith}
 use Rattle.site.specs.declared.values.Site.{Site}
 use Rattle.site.specs.Writing.{Valid}
-use Rattle.model.specs.Predicted.{Header}
+use Rattle.header.specs.declared.Header.{Header}
+use Rattle.header.specs.Header.{headerLength, headerIn, countIn}
+use Rattle.header.specs.HeaderLaws.{limits-of, accepted-header}
+use Rattle.model.specs.Coefficients.{editionOne}
+use Rattle.prediction.specs.EditionOne.{edition-one-rated}
 use Rattle.line.specs.declared.Line.{Line}
-use Rattle.line.specs.AnswerLaws.{limits-of}
-use Rattle.project.specs.declared.Header as file
+use Rattle.line.specs.LineLaws.{edition-one-line}
+use Rattle.line.specs.Weighing.{line-small}
 use Rattle.project.specs.declared.ScanAnswer.the-variants.{Accepted}
-use Rattle.project.specs.File.{headerLength, headerIn, countIn, scanRecords, scanFile, sitesIn}
-use Rattle.project.specs.Fields.{valuesOf, ReadsHeader}
-use Rattle.project.specs.Headed.{accepted-header}
+use Rattle.project.specs.File.{scanRecords, scanFile, sitesIn}
 use Rattle.project.specs.Scan.{scan-past-header, accepted-exactly}
 use Rattle.project.specs.SitesRead.{AcceptedFile, accepted-sites}
 use Rattle.project.specs.Causes.{reportLength}
 use Rattle.laws.specs.Lent.{laidOver}
-use Rattle.report.specs.Report.{numbersOf, allNumbers, noLine, totalOf, reportNumbers, linesIn}
+use Rattle.report.specs.Report.{coefficientsIn, numbersOf, allNumbers, noLine, totalOf, reportNumbers, linesIn}
 use Rattle.report.specs.Demand.{Demand}
 use Rattle.report.specs.DemandLaws.{AllValid, length-lines, report-each, report-totals}
-use Rattle.report.specs.Fill.{fillFrom, fill-report}
-use Rattle.report.specs.FillSteps.{Fillable}
+use Rattle.report.specs.Fill.{fillFrom, fill-report, Fillable}
 
 -- a report is as long as it says
 length-numbers : (lines : List Line) → length (allNumbers lines) ≡ 4 * length lines
@@ -47,35 +48,42 @@ module _ (s : List ℕ) (n : ℕ) (accepted : scanFile s ≡ Accepted n) where
   scanned : scanRecords (countIn s) (countIn s) headerLength s ≡ Accepted (countIn s)
   scanned = sym (scan-past-header s (accepted-header s (accepted-exactly s n .0 accepted .header))) ∙ accepted ∙ ap Accepted (facts .count-is)
 
-  -- WHAT A FILL ASKS is there
-  pub fillable : (header : file.Header) (room : ℕ) → ReadsHeader s header → reportLength n ≤ room → Fillable s header room
-  fillable header room r h =
-      let l = limits-of (headerIn s) (facts .limits) in
-      record {
-        limits = record { years-most = omega (arith, r .years-is, l .years-most); segments-most = omega (arith, r .segments-is, l .segments-most); crossings-most = omega (arith, r .crossings-is, l .crossings-most) };
-        most = omega (arith, r .sites-is, facts .count-is, facts .few);
-        long = facts .long;
-        scanned = rw (r .sites-is) scanned;
-        room-for = omega (arith, r .sites-is, facts .count-is, h);
-      }
+  pub count-lines : length (linesIn s) ≡ n
+  count-lines = length-lines (coefficientsIn s) (headerIn s) (sitesIn s) ∙ facts .sites .count-is
 
-  pub filled-report : (header : file.Header) → ReadsHeader s header → fillFrom (valuesOf header) (header .sites) headerLength noLine s ≡ reportNumbers (linesIn s)
-  filled-report header r = rw (r .years-is, r .segments-is, r .crossings-is, r .sites-is) (fill-report s scanned)
-
-  count-lines : length (linesIn s) ≡ n
-  count-lines = length-lines (headerIn s) (sitesIn s) ∙ facts .sites .count-is
-
-  pub report-fits : (before : List ℕ) → reportLength n ≤ length before → sets before 0 (reportNumbers (linesIn s)) ≡ reportNumbers (linesIn s) ++ drop (length (reportNumbers (linesIn s))) before
+  report-fits : (before : List ℕ) → reportLength n ≤ length before
+      → sets before 0 (reportNumbers (linesIn s)) ≡ reportNumbers (linesIn s) ++ drop (length (reportNumbers (linesIn s))) before
   report-fits before h = sets-eq (reportNumbers (linesIn s)) before 0 (omega (arith, length-report (linesIn s), count-lines)) ∙ rw zero-add refl
 
   -- THE DEMAND
   pub demand-met : (rest : List ℕ) → Demand s (reportNumbers (linesIn s) ++ rest)
   demand-met rest =
       let v = all-valid (sitesIn s) (facts .sites .valid) in
-      let l = limits-of (headerIn s) (facts .limits) in
+      let stands = edition-one-line (headerIn s) (limits-of (headerIn s) (facts .limits)) in
       rw (append-assoc (allNumbers (linesIn s)) (numbersOf (totalOf (linesIn s))) rest)
-      (record { each = λ i h. report-each (headerIn s) l (sitesIn s) v rest i (omega (arith, h)); totals = report-totals (headerIn s) l (sitesIn s) v rest })
+      (record {
+        each = λ i h. report-each editionOne (headerIn s) stands (sitesIn s) v rest i (omega (arith, h));
+        totals = report-totals editionOne (headerIn s) stands (sitesIn s) v rest;
+      })
 
-  -- a run that the report is laid over meets it
-  pub laid-meets : (before after : List ℕ) → after ≡ laidOver (reportNumbers (linesIn s)) before → (after ≡ laidOver (reportNumbers (linesIn s)) before) × Demand s after
-  laid-meets before after e = (e, rw e (demand-met (drop (length (reportNumbers (linesIn s))) before)))
+  module _ (header : Header) (sites : ℕ) (header-is : header ≡ headerIn s) (sites-are : sites ≡ countIn s) where
+    -- WHAT A FILL ASKS is there
+    pub fillable : (room : ℕ) → reportLength n ≤ room → Fillable editionOne s header sites room
+    fillable room h =
+        rw (header-is, sites-are)
+        (record {
+          limits = limits-of (headerIn s) (facts .limits);
+          lines-fit = line-small editionOne edition-one-rated (headerIn s) (limits-of (headerIn s) (facts .limits));
+          most = omega (arith, facts .count-is, facts .few);
+          long = facts .long;
+          scanned = scanned;
+          room-for = omega (arith, facts .count-is, h);
+        })
+
+    -- what it leaves is the report laid over the run, and meets the demand
+    pub filled-meets : (before after : List ℕ) → reportLength n ≤ length before → after ≡ sets before 0 (fillFrom editionOne header sites headerLength noLine s)
+        → (after ≡ laidOver (reportNumbers (linesIn s)) before) × Demand s after
+    filled-meets before after h e =
+        let filled : fillFrom editionOne header sites headerLength noLine s ≡ reportNumbers (linesIn s) = rw (header-is, sites-are) (fill-report s scanned) in
+        let laid : after ≡ laidOver (reportNumbers (linesIn s)) before = e ∙ ap (sets before 0) filled ∙ report-fits before h in
+        (laid, rw laid (demand-met (drop (length (reportNumbers (linesIn s))) before)))

@@ -9,16 +9,17 @@ use Rattle.estimate.specs.Standing.{Between}
 use Rattle.wide.specs.Rounding.{Narrow}
 use Rattle.site.specs.declared.values.Site.{Site}
 use Rattle.site.specs.Record.{siteOf}
-use Rattle.model.specs.Coefficients.{Coefficients, editionOne}
-use Rattle.model.specs.Parts.{number}
-use Rattle.model.specs.Predicted.{Header, predictedUnder, predictedOver}
+use Rattle.header.specs.declared.Header.{Header}
+use Rattle.header.specs.Header.{headerIn, countIn}
+use Rattle.model.specs.Coefficients.{Coefficients}
+use Rattle.model.specs.Predicted.{predictedUnder, predictedOver}
 use Rattle.model.specs.Expected.{expectedUnder, expectedOver}
 use Rattle.line.specs.declared.Line.{Line}
-use Rattle.model.specs.StatedWidths.{widthParts, predictedEach, expectedEach}
+use Rattle.model.specs.StatedWidths.{widthParts, predictedEach, expectedEach, observedWeight}
 use Rattle.line.specs.Stands.{LineStands}
-use Rattle.project.specs.File.{headerIn, countIn, sitesIn}
+use Rattle.project.specs.File.{sitesIn}
 use Rattle.project.specs.Causes.{reportLength, NoCause, FirstCause}
-use Rattle.report.specs.Report.{answerNumber, answerValue}
+use Rattle.report.specs.Report.{coefficientsIn, projectAnswer, answerNumber, answerValue, reportAfter}
 use Rattle.report.specs.declared.ProjectAnswer.{ProjectAnswer}
 use Rattle.report.specs.declared.ProjectAnswer.the-variants.{Reported, Refused}
 
@@ -36,30 +37,30 @@ abbrev pub siteAt : List Site → ℕ → Site
 siteAt sites i = getD sites i (siteOf 0 [])
 
 -- "A project's estimates are sums over sites"
-unfoldable pub sumOver : (Site → ℕ → Fraction) → List Site → ℕ → Fraction
-sumOver estimate [] d = whole 0
-sumOver estimate (site ∷ sites) d = estimate site d +ᶠ sumOver estimate sites d
+unfoldable pub sumOfSites : (Site → ℕ → Fraction) → List Site → ℕ → Fraction
+sumOfSites estimate [] d = whole 0
+sumOfSites estimate (site ∷ sites) d = estimate site d +ᶠ sumOfSites estimate sites d
 
--- "A project's observed crashes are the sum of the O that stand"
-unfoldable pub observedIn : List Site → ℕ
-observedIn [] = 0
-observedIn (site ∷ sites) = number (site .observed) + observedIn sites
+-- "A project's observed crashes are the sum of the O that stand", each as it counts
+unfoldable pub observedIn : Coefficients → List Site → ℕ
+observedIn c [] = 0
+observedIn c (site ∷ sites) = observedWeight c site + observedIn c sites
 
 -- the totals of a list of sites: at most 4 a site, or 8 for sites and crashes together, and a hundred-thousandth of the high apart
 pub record TotalsStand (c : Coefficients) (header : Header) (sites : List Site) (total : Line) : Type 0 where
   pub predicted-between : Between (millionths (total .«predicted_low»)) (millionths (total .«predicted_high»))
-      (sumOver (predictedUnder c header) sites) (sumOver (predictedOver c header) sites)
+      (sumOfSites (predictedUnder c header) sites) (sumOfSites (predictedOver c header) sites)
   pub expected-between : Between (millionths (total .«expected_low»)) (millionths (total .«expected_high»))
-      (sumOver (expectedUnder c header) sites) (sumOver (expectedOver c header) sites)
+      (sumOfSites (expectedUnder c header) sites) (sumOfSites (expectedOver c header) sites)
   pub predicted-in-order : total .«predicted_low» ≤ total .«predicted_high»
   pub expected-in-order : total .«expected_low» ≤ total .«expected_high»
   pub predicted-narrow : Narrow widthParts (predictedEach * length sites) 1 (total .«predicted_low») (total .«predicted_high»)
-  pub expected-narrow : Narrow widthParts (expectedEach * (length sites + observedIn sites)) 1 (total .«expected_low») (total .«expected_high»)
+  pub expected-narrow : Narrow widthParts (expectedEach * (length sites + observedIn c sites)) 1 (total .«expected_low») (total .«expected_high»)
 
--- THE CLAIM
+-- THE CLAIM, with the coefficients of the project's edition
 pub record Demand (bytes report : List ℕ) : Type 0 where
-  pub each : (i : ℕ) → i < length (sitesIn bytes) → LineStands editionOne (headerIn bytes) (siteAt (sitesIn bytes) i) (lineAt report i)
-  pub totals : TotalsStand editionOne (headerIn bytes) (sitesIn bytes) (lineAt report (length (sitesIn bytes)))
+  pub each : (i : ℕ) → i < length (sitesIn bytes) → LineStands (coefficientsIn bytes) (headerIn bytes) (siteAt (sitesIn bytes) i) (lineAt report i)
+  pub totals : TotalsStand (coefficientsIn bytes) (headerIn bytes) (sitesIn bytes) (lineAt report (length (sitesIn bytes)))
 
 -- what an answer says: a report is made where no cause is found in the file or its report, as long as document 01 has it, and
 -- it meets the demand; a refusal is the first cause in document 01's order, and the report stays as it was
@@ -71,3 +72,9 @@ AnswerMeets bytes before report (Reported count) =
     × Demand bytes report
 AnswerMeets bytes before report (Refused number place) =
     FirstCause bytes (length before) (answerNumber (Refused number place)) (answerValue (Refused number place)) × (report ≡ before)
+
+-- the project reader's promise: its answer, the report afterwards number for number, and what both say
+pub record ReportsProject (bytes before report : List ℕ) (answer : ProjectAnswer) : Type 0 where
+  pub answer-is : answer ≡ projectAnswer bytes (length before)
+  pub report-is : report ≡ reportAfter bytes before
+  pub meets : AnswerMeets bytes before report answer

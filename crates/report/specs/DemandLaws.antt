@@ -1,21 +1,36 @@
--- The numbers of a report, read back by index, meet the demand.
+-- The report of valid sites, read back by index, meets the demand where the line of each stands: lines that stand have totals that
+-- stand.
 use Prim.Native.Nat.{ℕ, zero, suc, _+_, _*_, _<_}
 use mathlib.Core.Path.{_≡_, refl, ap, _∙_}
 use mathlib.Core.List.{List, [], _∷_, _++_, map}
 use lib.ListN.{length, getD}
+use lib.Dec.{lit≤}
 use native.Mathlib.Omega.{arith}
+use Rattle.estimate.specs.Fraction.{Fraction, fraction, _//_, whole, millionths, _+ᶠ_}
+use Rattle.estimate.specs.FractionLaws.{=ᶠ-≤ᶠ, =ᶠ-≥ᶠ}
+use Rattle.estimate.specs.Standing.{Between, smaller-low-right, larger-high-right, low-sum-right, high-sum-right}
 use Rattle.site.specs.declared.values.Site.{Site}
 use Rattle.site.specs.Writing.{Valid}
-use Rattle.model.specs.Coefficients.{Coefficients, editionOne}
-use Rattle.model.specs.Predicted.{Header}
-use Rattle.prediction.specs.PredictedLaws.{HeaderMost}
+use Rattle.header.specs.declared.Header.{Header}
+use Rattle.model.specs.Coefficients.{Coefficients}
+use Rattle.prediction.specs.PredictedLaws.{millionths-add}
 use Rattle.line.specs.declared.Line.{Line}
-use Rattle.line.specs.Line.{lineOf}
+use Rattle.line.specs.Line.{siteLine}
 use Rattle.line.specs.Stands.{LineStands}
-use Rattle.line.specs.LineLaws.{edition-one-line}
 use Rattle.report.specs.Report.{numbersOf, allNumbers, noLine, totalOf}
-use Rattle.report.specs.Demand.{lineAt, siteAt, TotalsStand}
-use Rattle.report.specs.TotalLaws.{AllStand, totals-stand}
+use Rattle.report.specs.Demand.{lineAt, siteAt, sumOfSites, observedIn, TotalsStand}
+
+-- two figures between their numbers have a sum between the sums of these; a sum of none is between 0 and 0
+between-adds : (a b x y : ℕ) {f g u v : ℕ → Fraction} → Between (millionths a) (millionths b) f g → Between (millionths x) (millionths y) u v
+    → Between (millionths (a + x)) (millionths (b + y)) (λ d. f d +ᶠ u d) (λ d. g d +ᶠ v d)
+between-adds a b x y h k = record {
+  low-right = smaller-low-right (=ᶠ-≤ᶠ (millionths-add a x)) (low-sum-right (h .low-right) (k .low-right));
+  high-right = larger-high-right (=ᶠ-≥ᶠ (millionths-add b y)) (high-sum-right (h .high-right) (k .high-right));
+}
+
+none-between : Between (millionths 0) (millionths 0) (λ d. whole 0) (λ d. whole 0)
+unfolding millionths _//_ whole fraction
+none-between = record { low-right = record { at = λ d l. record { cross = lit≤ tt } }; high-right = record { at = λ d l. record { cross = lit≤ tt } } }
 
 -- the lines of a report by index: the first, and the ones after it
 next-line : (line : Line) (numbers : List ℕ) (i : ℕ) → lineAt (numbersOf line ++ numbers) (suc i) ≡ lineAt numbers i
@@ -37,39 +52,55 @@ unfolding allNumbers
 total-of-report [] total rest = refl
 total-of-report (line ∷ lines) total rest = next-line line (allNumbers lines ++ (numbersOf total ++ rest)) (length lines) ∙ total-of-report lines total rest
 
--- one line for each site, by index
-stand-at : (c : Coefficients) (header : Header) (sites : List Site) (lines : List Line) → AllStand c header sites lines
-    → (i : ℕ) → i < length sites → LineStands c header (siteAt sites i) (getD lines i noLine)
-stand-at c header [] [] a i h = absurd (omega arith)
-stand-at c header [] (line ∷ lines) a i h = absurd a
-stand-at c header (site ∷ sites) [] a i h = absurd a
-stand-at c header (site ∷ sites) (line ∷ lines) a zero h = a .0
-stand-at c header (site ∷ sites) (line ∷ lines) a (suc i) h = stand-at c header sites lines (a .1) i (omega arith)
-
--- the lines of valid sites stand
 abbrev pub AllValid : List Site → Type 0
 AllValid [] = Unit
 AllValid (site ∷ sites) = Valid site × AllValid sites
 
-lines-stand : (header : Header) → HeaderMost header → (sites : List Site) → AllValid sites → AllStand editionOne header sites (map (lineOf editionOne header) sites)
-lines-stand header limits [] v = tt
-lines-stand header limits (site ∷ sites) v = (edition-one-line header limits site (v .0), lines-stand header limits sites (v .1))
+pub length-lines : (c : Coefficients) (header : Header) (sites : List Site) → length (map (siteLine c header) sites) ≡ length sites
+length-lines c header [] = refl
+length-lines c header (site ∷ sites) = ap suc (length-lines c header sites)
 
-pub length-lines : (header : Header) (sites : List Site) → length (map (lineOf editionOne header) sites) ≡ length sites
-length-lines header [] = refl
-length-lines header (site ∷ sites) = ap suc (length-lines header sites)
+-- THE REPORT of valid sites, whatever follows it, where the line of each stands
+module _ (c : Coefficients) (header : Header) (stands : (site : Site) → Valid site → LineStands c header site (siteLine c header site)) where
+  abbrev linesOf : List Site → List Line
+  linesOf sites = map (siteLine c header) sites
 
--- THE REPORT of valid sites, whatever follows it
-module _ (header : Header) (limits : HeaderMost header) (sites : List Site) (valid : AllValid sites) (rest : List ℕ) where
-  abbrev lines : List Line
-  lines = map (lineOf editionOne header) sites
+  each-stands : (sites : List Site) → AllValid sites → (i : ℕ) → i < length sites → LineStands c header (siteAt sites i) (getD (linesOf sites) i noLine)
+  each-stands [] v i h = absurd (omega arith)
+  each-stands (site ∷ sites) v zero h = stands site (v .0)
+  each-stands (site ∷ sites) v (suc i) h = each-stands sites (v .1) i (omega arith)
 
-  pub report-each : (i : ℕ) → i < length sites → LineStands editionOne header (siteAt sites i) (lineAt (allNumbers lines ++ (numbersOf (totalOf lines) ++ rest)) i)
-  report-each i h =
-      rw (line-of-report lines (numbersOf (totalOf lines) ++ rest) i (omega (arith, length-lines header sites)))
-      (stand-at editionOne header sites lines (lines-stand header limits sites valid) i h)
+  pub totals-stand : (sites : List Site) → AllValid sites → TotalsStand c header sites (totalOf (linesOf sites))
+  unfolding totalOf sumOfSites observedIn
+  totals-stand [] v = record {
+    predicted-between = none-between;
+    expected-between = none-between;
+    predicted-in-order = lit≤ tt;
+    expected-in-order = lit≤ tt;
+    predicted-narrow = record { width = lit≤ tt };
+    expected-narrow = record { width = lit≤ tt };
+  }
+  totals-stand (site ∷ sites) v =
+      let s = stands site (v .0) in
+      let r = totals-stand sites (v .1) in
+      record {
+        predicted-between = between-adds _ _ _ _ (s .predicted-between) (r .predicted-between);
+        expected-between = between-adds _ _ _ _ (s .expected-between) (r .expected-between);
+        predicted-in-order = omega (arith, s .predicted-in-order, r .predicted-in-order);
+        expected-in-order = omega (arith, s .expected-in-order, r .expected-in-order);
+        predicted-narrow = record { width = omega (arith, s .predicted-narrow .width, r .predicted-narrow .width) };
+        expected-narrow = record { width = omega (arith, s .expected-narrow .width, r .expected-narrow .width) };
+      }
 
-  pub report-totals : TotalsStand editionOne header sites (lineAt (allNumbers lines ++ (numbersOf (totalOf lines) ++ rest)) (length sites))
-  report-totals =
-      rw (← length-lines header sites, total-of-report lines (totalOf lines) rest)
-      (totals-stand editionOne header sites lines (lines-stand header limits sites valid))
+  module _ (sites : List Site) (valid : AllValid sites) (rest : List ℕ) where
+    abbrev numbers : List ℕ
+    numbers = allNumbers (linesOf sites) ++ (numbersOf (totalOf (linesOf sites)) ++ rest)
+
+    pub report-each : (i : ℕ) → i < length sites → LineStands c header (siteAt sites i) (lineAt numbers i)
+    report-each i h =
+        rw (line-of-report (linesOf sites) (numbersOf (totalOf (linesOf sites)) ++ rest) i (omega (arith, length-lines c header sites)))
+        (each-stands sites valid i h)
+
+    pub report-totals : TotalsStand c header sites (lineAt numbers (length sites))
+    report-totals =
+        rw (← length-lines c header sites, total-of-report (linesOf sites) (totalOf (linesOf sites)) rest) (totals-stand sites valid)

@@ -10,13 +10,14 @@ use Rattle.estimate.specs.Fraction.{fraction, _//_, millionths, _<ᶠ_}
 use Rattle.estimate.specs.FractionLaws.{not-≤ᶠ-and-<ᶠ, <ᶠ-≤ᶠ-trans, ≤ᶠ-<ᶠ-trans}
 use Rattle.site.specs.declared.values.Site.{Site}
 use Rattle.site.specs.declared.values.Slot.the-variants.{Number}
-use Rattle.model.specs.Coefficients.{editionOne}
-use Rattle.model.specs.Parts.{number}
+use Rattle.header.specs.Header.{headerIn}
+use Rattle.site.specs.Numbers.{number}
 use Rattle.model.specs.Predicted.{predictedUnder, predictedOver}
 use Rattle.model.specs.Expected.{expectedUnder, expectedOver}
 use Rattle.line.specs.NeededParts as line
-use Rattle.project.specs.File.{headerIn, sitesIn}
-use Rattle.report.specs.Demand.{Demand, siteAt, sumOver, observedIn}
+use Rattle.project.specs.File.{sitesIn}
+use Rattle.report.specs.Report.{coefficientsIn}
+use Rattle.report.specs.Demand.{Demand, siteAt, sumOfSites, observedIn}
 
 -- ONE SITE'S LINE, the numbers from 4 i on
 module _ (bytes report : List ℕ) (i : ℕ) (h : i < length (sitesIn bytes)) where
@@ -38,16 +39,16 @@ module _ (bytes report : List ℕ) (i : ℕ) (h : i < length (sitesIn bytes)) wh
   abbrev Fails : Type 0
   Fails = Demand bytes report → ⊥
 
-  pub site-predicted-low-too-high : (d : ℕ) → 1 ≤ d → predictedOver editionOne (headerIn bytes) site d <ᶠ millionths predictedLow → Fails
+  pub site-predicted-low-too-high : (d : ℕ) → 1 ≤ d → predictedOver (coefficientsIn bytes) (headerIn bytes) site d <ᶠ millionths predictedLow → Fails
   site-predicted-low-too-high d k l m = line.predicted-low-too-high _ _ _ _ d k l (m .each i h)
 
-  pub site-predicted-high-too-low : (d : ℕ) → 1 ≤ d → millionths predictedHigh <ᶠ predictedUnder editionOne (headerIn bytes) site d → Fails
+  pub site-predicted-high-too-low : (d : ℕ) → 1 ≤ d → millionths predictedHigh <ᶠ predictedUnder (coefficientsIn bytes) (headerIn bytes) site d → Fails
   site-predicted-high-too-low d k l m = line.predicted-high-too-low _ _ _ _ d k l (m .each i h)
 
-  pub site-expected-low-too-high : (d : ℕ) → 1 ≤ d → expectedOver editionOne (headerIn bytes) site d <ᶠ millionths expectedLow → Fails
+  pub site-expected-low-too-high : (d : ℕ) → 1 ≤ d → expectedOver (coefficientsIn bytes) (headerIn bytes) site d <ᶠ millionths expectedLow → Fails
   site-expected-low-too-high d k l m = line.expected-low-too-high _ _ _ _ d k l (m .each i h)
 
-  pub site-expected-high-too-low : (d : ℕ) → 1 ≤ d → millionths expectedHigh <ᶠ expectedUnder editionOne (headerIn bytes) site d → Fails
+  pub site-expected-high-too-low : (d : ℕ) → 1 ≤ d → millionths expectedHigh <ᶠ expectedUnder (coefficientsIn bytes) (headerIn bytes) site d → Fails
   site-expected-high-too-low d k l m = line.expected-high-too-low _ _ _ _ d k l (m .each i h)
 
   pub site-predicted-exchanged : predictedHigh < predictedLow → Fails
@@ -95,16 +96,20 @@ module _ (bytes report : List ℕ) where
   abbrev Wrong : Type 0
   Wrong = Demand bytes report → ⊥
 
-  pub total-predicted-low-too-high : (d : ℕ) → 1 ≤ d → sumOver (predictedOver editionOne (headerIn bytes)) (sitesIn bytes) d <ᶠ millionths low → Wrong
+  pub total-predicted-low-too-high : (d : ℕ) → 1 ≤ d
+      → sumOfSites (predictedOver (coefficientsIn bytes) (headerIn bytes)) (sitesIn bytes) d <ᶠ millionths low → Wrong
   total-predicted-low-too-high d k l m = not-≤ᶠ-and-<ᶠ (m .totals .predicted-between .low-right .at d k) l
 
-  pub total-predicted-high-too-low : (d : ℕ) → 1 ≤ d → millionths high <ᶠ sumOver (predictedUnder editionOne (headerIn bytes)) (sitesIn bytes) d → Wrong
+  pub total-predicted-high-too-low : (d : ℕ) → 1 ≤ d
+      → millionths high <ᶠ sumOfSites (predictedUnder (coefficientsIn bytes) (headerIn bytes)) (sitesIn bytes) d → Wrong
   total-predicted-high-too-low d k l m = not-≤ᶠ-and-<ᶠ (m .totals .predicted-between .high-right .at d k) l
 
-  pub total-expected-low-too-high : (d : ℕ) → 1 ≤ d → sumOver (expectedOver editionOne (headerIn bytes)) (sitesIn bytes) d <ᶠ millionths lowExpected → Wrong
+  pub total-expected-low-too-high : (d : ℕ) → 1 ≤ d
+      → sumOfSites (expectedOver (coefficientsIn bytes) (headerIn bytes)) (sitesIn bytes) d <ᶠ millionths lowExpected → Wrong
   total-expected-low-too-high d k l m = not-≤ᶠ-and-<ᶠ (m .totals .expected-between .low-right .at d k) l
 
-  pub total-expected-high-too-low : (d : ℕ) → 1 ≤ d → millionths highExpected <ᶠ sumOver (expectedUnder editionOne (headerIn bytes)) (sitesIn bytes) d → Wrong
+  pub total-expected-high-too-low : (d : ℕ) → 1 ≤ d
+      → millionths highExpected <ᶠ sumOfSites (expectedUnder (coefficientsIn bytes) (headerIn bytes)) (sitesIn bytes) d → Wrong
   total-expected-high-too-low d k l m = not-≤ᶠ-and-<ᶠ (m .totals .expected-between .high-right .at d k) l
 
   pub total-predicted-exchanged : high < low → Wrong
@@ -116,7 +121,8 @@ module _ (bytes report : List ℕ) where
   pub total-predicted-too-wide : 100000 * (low + 4 * n) + high < 100000 * high → Wrong
   total-predicted-too-wide l m = omega (arith, m .totals .predicted-narrow .width)
 
-  pub total-expected-too-wide : 100000 * (lowExpected + 8 * (n + observedIn (sitesIn bytes))) + highExpected < 100000 * highExpected → Wrong
+  pub total-expected-too-wide : let observed = observedIn (coefficientsIn bytes) (sitesIn bytes) in
+      100000 * (lowExpected + 8 * (n + observed)) + highExpected < 100000 * highExpected → Wrong
   total-expected-too-wide l m = omega (arith, m .totals .expected-narrow .width)
 
 -- A PAIR FROM ZERO TO THE TOP for the first site, whatever stands after it
@@ -130,8 +136,8 @@ unfolding millionths _//_ fraction
 order a b h = omega (arith, h .cross)
 
 pub one-report-for-two : (bytes others report : List ℕ) → 0 < length (sitesIn bytes) → 0 < length (sitesIn others) → (d a b : ℕ) → 1 ≤ d
-    → predictedOver editionOne (headerIn bytes) (siteAt (sitesIn bytes) 0) d <ᶠ millionths a
-    → millionths b <ᶠ predictedUnder editionOne (headerIn others) (siteAt (sitesIn others) 0) d
+    → predictedOver (coefficientsIn bytes) (headerIn bytes) (siteAt (sitesIn bytes) 0) d <ᶠ millionths a
+    → millionths b <ᶠ predictedUnder (coefficientsIn others) (headerIn others) (siteAt (sitesIn others) 0) d
     → 100000 * (a + 4) + b < 100000 * b → Demand bytes report → Demand others report → ⊥
 one-report-for-two bytes others report h k d a b l over under apart m o =
     let first = m .each 0 h in

@@ -8,10 +8,11 @@ use Rattle.estimate.specs.Fraction.{fraction, _//_, whole, tenThousandths, mill
 use Rattle.estimate.specs.Power.{powerLargest, powerUnder, powerOver, power-largest-value}
 use Rattle.estimate.specs.Exponential.{termNum, termDen, sumNum, partialSum, sumWithTail, expUnder, expOver, expNegUnder, expNegOver}
 use Rattle.site.specs.Known.{signal, signal-read}
+use Rattle.header.specs.Header.{headerOf}
 use Rattle.model.specs.Coefficients.{editionOne}
 use Rattle.model.specs.Crossings.{leftTurn, rightTurn, sight}
-use Rattle.model.specs.Parts.{crossingParts}
-use Rattle.model.specs.Predicted.{headerOf, productUnder, productOver, termsOf, sumUnder, sumOver, predictedUnder, predictedOver}
+use Rattle.model.specs.Parts.{crossingParts, crossingFactors}
+use Rattle.model.specs.Predicted.{productUnder, productOver, termsOf, sumUnder, sumOver, predictedUnder, predictedOver}
 use Rattle.project.specs.File.{sitesFrom, sitesIn}
 use Rattle.report.specs.Demand.{Demand}
 use Rattle.report.specs.NeededParts.{one-report-for-two}
@@ -33,14 +34,17 @@ minor = power-largest-value 1 1000 20 100 _ (lit< tt) (lit≤ tt) (lit< tt)
 
 -- under 0.004 crashes, and over 200
 few : predictedOver editionOne (headerOf 1 1 1) signal 1 <ᶠ millionths 4000
-unfolding predictedOver sumOver termsOf productOver crossingParts editionOne powerOver decimal expOver expNegOver expUnder partialSum sumWithTail sumNum termNum termDen inverse leftTurn rightTurn sight _*ᶠ_ _+ᶠ_ whole tenThousandths fraction _//_ millionths signal
+unfolding predictedOver sumOver termsOf productOver crossingParts crossingFactors editionOne powerOver decimal expOver expNegOver expUnder
+    partialSum sumWithTail sumNum termNum termDen inverse leftTurn rightTurn sight _*ᶠ_ _+ᶠ_ whole tenThousandths fraction _//_ millionths signal
 few = rw (major, minor) (record { cross = lit< tt })
 
 many : millionths 200000000 <ᶠ predictedUnder editionOne (headerOf 10 9999 9999) signal 1
-unfolding predictedUnder sumUnder termsOf productUnder crossingParts editionOne powerUnder decimal expUnder expNegUnder expOver partialSum sumWithTail sumNum termNum termDen inverse leftTurn rightTurn sight _*ᶠ_ _+ᶠ_ whole tenThousandths fraction _//_ millionths signal
+unfolding predictedUnder sumUnder termsOf productUnder crossingParts crossingFactors editionOne powerUnder decimal expUnder expNegUnder expOver
+    partialSum sumWithTail sumNum termNum termDen inverse leftTurn rightTurn sight _*ᶠ_ _+ᶠ_ whole tenThousandths fraction _//_ millionths signal
 many = rw (major, minor) (record { cross = lit< tt })
 
 pub one-report-for-all : (report : List ℕ) → Demand (signalProject 1 0 1) report → Demand (signalProject 10 39 15) report → ⊥
 one-report-for-all report =
-    one-report-for-two (signalProject 1 0 1) (signalProject 10 39 15) report (rw (one-site 1 0 1) (lit< tt)) (rw (one-site 10 39 15) (lit< tt)) 1 4000 200000000 (lit≤ tt)
+    one-report-for-two (signalProject 1 0 1) (signalProject 10 39 15) report
+    (rw (one-site 1 0 1) (lit< tt)) (rw (one-site 10 39 15) (lit< tt)) 1 4000 200000000 (lit≤ tt)
     (rw (one-site 1 0 1) few) (rw (one-site 10 39 15) many) (lit< tt)

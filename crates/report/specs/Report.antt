@@ -6,12 +6,13 @@ use mathlib.Core.List.{List, [], _∷_, _++_, map}
 use lib.ListN.{length}
 use lib.Dec.{leb}
 use Rattle.laws.specs.Lent.{laidOver}
-use Rattle.model.specs.Coefficients.{editionOne}
+use Rattle.header.specs.Header.{editionIn, headerIn}
+use Rattle.model.specs.Coefficients.{Coefficients, coefficientsOf}
 use Rattle.line.specs.declared.Line.{Line}
-use Rattle.line.specs.Line.{lineOf}
+use Rattle.line.specs.Line.{siteLine}
 use Rattle.project.specs.declared.ScanAnswer.{ScanAnswer}
 use Rattle.project.specs.declared.ScanAnswer.the-variants as scan
-use Rattle.project.specs.File.{headerIn, sitesIn, scanFile}
+use Rattle.project.specs.File.{sitesIn, scanFile}
 use Rattle.project.specs.Causes.{reportLength}
 use Rattle.report.specs.declared.ProjectAnswer.{ProjectAnswer}
 use Rattle.report.specs.declared.ProjectAnswer.the-variants.{Reported, Refused}
@@ -44,9 +45,13 @@ totalOf (line ∷ lines) = addLine line (totalOf lines)
 abbrev pub reportNumbers : List Line → List ℕ
 reportNumbers lines = allNumbers lines ++ numbersOf (totalOf lines)
 
+-- the coefficients of a file's edition
+abbrev pub coefficientsIn : List ℕ → Coefficients
+coefficientsIn s = coefficientsOf (editionIn s)
+
 -- the lines of a file
 abbrev pub linesIn : List ℕ → List Line
-linesIn s = map (lineOf editionOne (headerIn s)) (sitesIn s)
+linesIn s = map (siteLine (coefficientsIn s) (headerIn s)) (sitesIn s)
 
 -- "last 2, then 10. Success returns 0 and 4(sites + 1)"
 abbrev pub spaced : ScanAnswer → (room : ℕ) → ProjectAnswer

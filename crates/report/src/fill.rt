@@ -7,22 +7,25 @@ ghost use Rattle.exponential.specs.Stored.{StoredExponentials};
 ghost use Rattle.logarithm.specs.Stored.{StoredLogarithms};
 ghost use Rattle.power.specs.Stored.{StoredPowers};
 ghost use Rattle.site.specs.Record.{readSite};
-ghost use Rattle.model.specs.Predicted.{headerOf};
-ghost use Rattle.project.specs.File.{headerLength};
-ghost use Rattle.project.specs.Fields.{valuesOf};
 ghost use Rattle.laws.specs.Lent.{laidOver};
+ghost use Rattle.header.specs.Header.{headerLength};
+ghost use Rattle.header.specs.HeaderLaws.{HeaderWithin};
+ghost use Rattle.model.specs.Coefficients.{editionOne};
+ghost use Rattle.line.specs.Weighing.{LineAtMost};
 ghost use Rattle.report.specs.Report.{numbersOf, noLine, addLine, reportNumbers, linesIn};
 ghost use Rattle.report.specs.Demand.{Demand};
-ghost use Rattle.report.specs.Fill.{fillFrom, recordLine, LineAtMost};
-ghost use Rattle.report.specs.FillSteps.{Fillable, Acceptable};
+ghost use Rattle.report.specs.Fill.{fillFrom, recordLine, mostTotal, Fillable, Acceptable};
 use exponential::stored::stored_exponentials;
+use header::HEADER_LENGTH;
+use header::Header;
+use header::count_in;
+use header::header_in;
 use line::Line;
 use line::line_with;
 use logarithm::stored::stored_logarithms;
 use power::stored::stored_powers;
-use project::Header;
-use project::header_of;
 use site::values::SiteAnswer;
+use site_reader::read_site;
 
 // A record's line and its length in bytes, or that no record was read.
 pub enum RecordLine {
@@ -39,22 +42,15 @@ fn line_at(
     at: usize,
     header: Header,
 ) -> RecordLine
-    requires { ⌜ StoredPowers (now powers) × StoredLogarithms (now logarithms) × StoredExponentials (now exponentials) × (at ≤ length (now file)) × (header .years ≤ 10) × (header .segments ≤ 9999) × (header .crossings ≤ 9999) ⌝ }
-    ensures { λ r. ⌜ r ≡ recordLine (headerOf (header .years) (header .segments) (header .crossings)) (readSite (drop at (now (file .entry)))) ⌝ }
+    requires { ⌜ StoredPowers (now powers) × StoredLogarithms (now logarithms) × StoredExponentials (now exponentials)
+        × (at ≤ length (now file)) × HeaderWithin header ⌝ }
+    ensures { λ r. ⌜ r ≡ recordLine editionOne header (readSite (drop at (now (file .entry)))) ⌝ }
 {
-    let answer = site_reader::read_site(&file[at..]);
+    let answer = read_site(&file[at..]);
     match answer {
         SiteAnswer::Refused(_) => RecordLine::Unread,
         SiteAnswer::Read(site, n) => {
-            let line = line_with(
-                powers,
-                logarithms,
-                exponentials,
-                header.years,
-                header.segments,
-                header.crossings,
-                site,
-            );
+            let line = line_with(powers, logarithms, exponentials, header, site);
             RecordLine::Next(line, n)
         }
     }
@@ -73,7 +69,7 @@ fn put_line(line: Line, report: &mut [u64], at: usize)
 
 // Totals with one line more.
 fn add_line(total: Line, line: Line) -> Line
-    requires { ⌜ LineAtMost 1000000000000000000 total × LineAtMost 1000000000000000000 line ⌝ }
+    requires { ⌜ LineAtMost mostTotal total × LineAtMost mostTotal line ⌝ }
     ensures { λ r. ⌜ r ≡ addLine total line ⌝ }
 {
     Line {
@@ -91,10 +87,12 @@ fn fill_lines(
     exponentials: &[u64; 15],
     file: &[u8],
     header: Header,
+    sites: usize,
     report: &mut [u64],
 )
-    requires { ⌜ StoredPowers (now powers) × StoredLogarithms (now logarithms) × StoredExponentials (now exponentials) × Fillable (now file) header (length (now report)) ⌝ }
-    ensures { λ r. ⌜ now (report .exit) ≡ sets (now (report .entry)) 0 (fillFrom (valuesOf header) (header .sites) headerLength noLine (now (file .entry))) ⌝ }
+    requires { ⌜ StoredPowers (now powers) × StoredLogarithms (now logarithms) × StoredExponentials (now exponentials)
+        × Fillable editionOne (now file) header sites (length (now report)) ⌝ }
+    ensures { λ r. ⌜ now (report .exit) ≡ sets (now (report .entry)) 0 (fillFrom editionOne header sites headerLength noLine (now (file .entry))) ⌝ }
 {
     let mut total = Line {
         predicted_low: 0,
@@ -102,9 +100,9 @@ fn fill_lines(
         expected_low: 0,
         expected_high: 0,
     };
-    let mut at = 8;
+    let mut at = HEADER_LENGTH;
     let mut i = 0;
-    while i < header.sites {
+    while i < sites {
         let next = line_at(powers, logarithms, exponentials, file, at, header);
         let RecordLine::Next(line, n) = next else {
             return;
@@ -126,6 +124,15 @@ pub(crate) fn fill(file: &[u8], report: &mut [u64])
     let powers = stored_powers();
     let logarithms = stored_logarithms();
     let exponentials = stored_exponentials();
-    let header = header_of(file);
-    fill_lines(&powers, &logarithms, &exponentials, file, header, report);
+    let header = header_in(file);
+    let sites = count_in(file);
+    fill_lines(
+        &powers,
+        &logarithms,
+        &exponentials,
+        file,
+        header,
+        sites,
+        report,
+    );
 }

@@ -3,11 +3,10 @@ pub mod fill;
 
 ghost use mathlib.Core.Path.{_≡_};
 ghost use Prim.Native.Nat.{_≤_};
-ghost use lib.ListN.{length};
-ghost use Rattle.project.specs.File.{mostSites};
+ghost use Rattle.header.specs.Header.{mostSites};
 ghost use Rattle.project.specs.declared.ScanAnswer.the-variants.{Accepted};
-ghost use Rattle.report.specs.Report.{spaced, projectAnswer, reportAfter};
-ghost use Rattle.report.specs.Demand.{AnswerMeets};
+ghost use Rattle.report.specs.Report.{spaced};
+ghost use Rattle.report.specs.Demand.{ReportsProject};
 use crate::fill::fill;
 use project::ScanAnswer;
 use project::scan;
@@ -33,8 +32,7 @@ fn space(sites: usize, room: usize) -> ProjectAnswer
 // Reads a project and makes its report from the start of a lent run. The rest of the run, and all of it where the project is
 // refused, stays as it was.
 pub fn read_project(file: &[u8], report: &mut [u64]) -> ProjectAnswer
-    ensures { λ r. ⌜ (r ≡ projectAnswer (now (file .entry)) (length (now (report .entry)))) × (now (report .exit) ≡ reportAfter (now (file .entry)) (now (report .entry))) ⌝ }
-    ensures demand { λ r. ⌜ AnswerMeets (now (file .entry)) (now (report .entry)) (now (report .exit)) r ⌝ }
+    ensures { λ r. ⌜ ReportsProject (now (file .entry)) (now (report .entry)) (now (report .exit)) r ⌝ }
 {
     let found = scan(file);
     match found {

@@ -41,7 +41,8 @@ pub record LinesLeft (numbers before : List ℕ) (i at : ℕ) (now : List ℕ) :
   pub left : sets now at (reportText (drop i numbers)) ≡ sets before 0 (reportText numbers)
 
 four-on : (numbers : List ℕ) (i : ℕ) → i + 4 ≤ length numbers
-    → reportText (drop i numbers) ≡ lineText (getD numbers i 0) (getD numbers (i + 1) 0) (getD numbers (i + 2) 0) (getD numbers (i + 3) 0) ++ reportText (drop (i + 4) numbers)
+    → reportText (drop i numbers)
+    ≡ lineText (getD numbers i 0) (getD numbers (i + 1) 0) (getD numbers (i + 2) 0) (getD numbers (i + 3) 0) ++ reportText (drop (i + 4) numbers)
 unfolding reportText
 four-on numbers i h =
     let one : i + 1 ≡ suc i = omega arith in
@@ -85,7 +86,8 @@ few-left (a ∷ b ∷ []) h = refl
 few-left (a ∷ b ∷ c ∷ []) h = refl
 few-left (a ∷ b ∷ c ∷ d ∷ numbers) h = absurd (omega arith)
 
-pub lines-end : (numbers before now : List ℕ) (i at : ℕ) → LinesLeft numbers before i at now → length numbers < i + 4 → Puts before 0 (reportText numbers) at now
+pub lines-end : (numbers before now : List ℕ) (i at : ℕ) → LinesLeft numbers before i at now → length numbers < i + 4
+    → Puts before 0 (reportText numbers) at now
 lines-end numbers before now i at k h =
     let e = few-left (drop i numbers) (omega (arith, length-drop i numbers, k .inside)) in
     record {

@@ -15,7 +15,8 @@ use Rattle.site.specs.Record.{restOf, anyField, fieldWords, words, field
 use Rattle.laws.specs.Walk.{next, at-end, fill-start, fill-more}
 
 -- a loop that looks for a field that passes a test
-module _ {A : Type 0} (rule : A → Rule) (test : A → ℕ → Bool) (last : ℕ → Bool) (xs : List A) (i map : ℕ) (whole : Bool) (count : length xs ≡ slotCount) (inv : anyField rule test last (drop i xs) map ≡ whole) where
+module _ {A : Type 0} (rule : A → Rule) (test : A → ℕ → Bool) (last : ℕ → Bool) (xs : List A) (i map : ℕ) (whole : Bool)
+    (count : length xs ≡ slotCount) (inv : anyField rule test last (drop i xs) map ≡ whole) where
   any-step : (d : A) → i < slotCount
       → (test (getD xs i d) map || anyField rule test last (drop (i + 1) xs) (restOf (rule (getD xs i d)) map)) ≡ whole
   unfolding anyField
@@ -38,14 +39,16 @@ either true false told before = refl
 either false later told before = refl
 
 -- a loop that keeps a number from the field on that passes a test
-module _ {A : Type 0} (rule : A → Rule) (test : A → ℕ → Bool) (xs : List A) (i map told : ℕ) (count : length xs ≡ slotCount) (number : ℕ) {whole : ℕ} (inv : cond (anyField rule test (λ (left : ℕ). false) (drop i xs) map) told number ≡ whole) where
+module _ {A : Type 0} (rule : A → Rule) (test : A → ℕ → Bool) (xs : List A) (i map told : ℕ) (count : length xs ≡ slotCount)
+    (number : ℕ) {whole : ℕ} (inv : cond (anyField rule test (λ (left : ℕ). false) (drop i xs) map) told number ≡ whole) where
   pub kept-more : (d : A) (n rest : ℕ) → i < slotCount → n ≡ cond (test (getD xs i d) map) told number
       → rest ≡ restOf (rule (getD xs i d)) map
       → cond (anyField rule test (λ (left : ℕ). false) (drop (i + 1) xs) rest) told n ≡ whole
   unfolding anyField
   kept-more d n rest h en er =
       let w : i < length xs = omega arith in
-      rw (en, er) (sym (either (test (getD xs i d) map) (anyField rule test (λ (left : ℕ). false) (drop (i + 1) xs) (restOf (rule (getD xs i d)) map)) told number) ∙ rw (next xs i d w) at inv)
+      let later = anyField rule test (λ (left : ℕ). false) (drop (i + 1) xs) (restOf (rule (getD xs i d)) map) in
+      rw (en, er) (sym (either (test (getD xs i d) map) later told number) ∙ rw (next xs i d w) at inv)
 
   pub kept-end : slotCount ≤ i → number ≡ whole
   unfolding anyField
@@ -70,19 +73,23 @@ module _ (rules : List Rule) (i map : ℕ) (count : length rules ≡ slotCount) 
   pub words-done : (total whole : ℕ) → slotCount ≤ i → total + words (drop i rules) map ≡ whole → total ≡ whole
   words-done total whole h inv = omega (arith, words-end h)
 
-  -- room for the fields from i on is room for the next, and for those after it
-  pub room-next : (d : Rule) (at room : ℕ) → i < slotCount → at + 2 * words (drop i rules) map ≤ room
-      → at + 2 * fieldWords (getD rules i d) map ≤ room
-  room-next d at room h inv = omega (arith, words-step d h)
+  -- a loop that goes from field to field, and ends where the last does: there is room for the next field where there is for all
+  module _ (at whole : ℕ) (inv : at + 2 * words (drop i rules) map ≡ whole) where
+    pub room-next : (d : Rule) (room : ℕ) → i < slotCount → whole ≤ room → at + 2 * fieldWords (getD rules i d) map ≤ room
+    room-next d room h w = omega (arith, words-step d h)
 
-  pub room-after : (d : Rule) (n rest at room : ℕ) → i < slotCount → n ≡ fieldWords (getD rules i d) map
-      → rest ≡ restOf (getD rules i d) map → at + 2 * words (drop i rules) map ≤ room
-      → at + 2 * n + 2 * words (drop (i + 1) rules) rest ≤ room
-  room-after d n rest at room h en er inv = rw (en, er) (omega (arith, words-step d h))
+    pub room-turn : (d : Rule) (n rest : ℕ) → i < slotCount → n ≡ fieldWords (getD rules i d) map → rest ≡ restOf (getD rules i d) map
+        → at + 2 * n + 2 * words (drop (i + 1) rules) rest ≡ whole
+    room-turn d n rest h en er = rw (en, er) (omega (arith, words-step d h))
+
+    pub room-end : slotCount ≤ i → at ≡ whole
+    room-end h = omega (arith, words-end h)
 
   module _ (s : List ℕ) (at whole : ℕ) (inv : fieldsNumber (drop i rules) map (drop at s) ≡ whole) where
     number-step : (d : Rule) → i < slotCount
-        → cond (eqb (fieldNumber (getD rules i d) map (drop at s)) 0) (fieldsNumber (drop (i + 1) rules) (restOf (getD rules i d) map) (drop (at + 2 * fieldWords (getD rules i d) map) s)) (fieldNumber (getD rules i d) map (drop at s)) ≡ whole
+        → cond (eqb (fieldNumber (getD rules i d) map (drop at s)) 0)
+        (fieldsNumber (drop (i + 1) rules) (restOf (getD rules i d) map) (drop (at + 2 * fieldWords (getD rules i d) map) s))
+        (fieldNumber (getD rules i d) map (drop at s)) ≡ whole
     unfolding fieldsNumber
     number-step d h = let w : i < length rules = omega arith in simp drop-drop at (rw (next rules i d w) at inv)
 
@@ -103,7 +110,9 @@ module _ (rules : List Rule) (i map : ℕ) (count : length rules ≡ slotCount) 
 
   module _ (s : List ℕ) (at : ℕ) (v whole : List Slot) (inv : sets v i (fieldsValues (drop i rules) map (drop at s)) ≡ whole) where
     values-next : (d : Rule) → i < slotCount
-        → fieldsValues (drop i rules) map (drop at s) ≡ fieldValue (getD rules i d) map (drop at s) ∷ fieldsValues (drop (i + 1) rules) (restOf (getD rules i d) map) (drop (at + 2 * fieldWords (getD rules i d) map) s)
+        → fieldsValues (drop i rules) map (drop at s)
+        ≡ fieldValue (getD rules i d) map (drop at s)
+        ∷ fieldsValues (drop (i + 1) rules) (restOf (getD rules i d) map) (drop (at + 2 * fieldWords (getD rules i d) map) s)
     unfolding fieldsValues
     values-next d h = let w : i < length rules = omega arith in rw (next rules i d w) (simp drop-drop)
 

@@ -18,10 +18,11 @@ use Rattle.site.specs.declared.rules.Entry.the-variants.{Always, OnCurve
 use Rattle.site.specs.declared.values.Slot.{Slot}
 use Rattle.site.specs.declared.values.Slot.the-variants.{Absent, Number}
 use Rattle.site.specs.Rules.{absentOf, needed, lacking, bits, settle}
-use Rattle.site.specs.Record.{word, restOf, stands, anyField, neededBitAbsent, lacks, misses, curved, words, valueNumber, fieldNumber, after, fieldsNumber, fieldsValues}
+use Rattle.site.specs.Record.{word, restOf, stands, anyField, neededBitAbsent, lacks, misses, curved}
+use Rattle.site.specs.Record.{words, valueNumber, fieldNumber, after, fieldsNumber, fieldsValues}
 use Rattle.site.specs.Fields.{bitAt, standing}
-use Rattle.laws.specs.Truth.{and-left, and-right, or-left, or-right, both-zero}
-use Rattle.site.specs.Tested.{right, entryRight, entriesRight}
+use Rattle.laws.specs.Truth.{and-left, and-right, or-left, or-right}
+use Rattle.site.specs.Tested.{right, entryRight, every}
 
 -- a bit of a map is its digit by powers of 2
 pub bit-by-power : (b map : ℕ) → bitAt b map ≡ eqb (map / 2 ^ b % 2) 1
@@ -126,51 +127,37 @@ needed-stands (suc n) g map one e (suc b) h k =
     let q : misses (listed (λ j. g (suc j)) n) (map / 2) ≡ false = rw (one 0) at (or-right (neededBitAbsent (g 0) map) _ e) in
     needed-stands n (λ j. g (suc j)) (map / 2) (λ j. one (suc j)) q b (omega arith) k
 
--- fields without refusal: each bit that stands has a right number
-pub all-right : (n : ℕ) (g : ℕ → Rule) (map : ℕ) (s : List ℕ) → EachHasBit g → fieldsNumber (listed g n) map s ≡ 0
-    → (b : ℕ) → b < n → bitNumber g b map s ≡ 0
-unfolding listed fieldsNumber standing
-all-right zero g map s one e b h = let z : ⊥ = omega arith in absurd z
-all-right (suc n) g map s one e b h =
-    let p = both-zero (fieldNumber (g 0) map s) _ _ refl e in
-    by b h (rw (one 0) at (p .0)) (all-right n (λ j. g (suc j)) (map / 2) (drop (2 * (map % 2)) s) (λ j. one (suc j)) (rw (one 0) at (p .1)))
-  where
-    by : (b : ℕ) → b < suc n → bitNumber g 0 map s ≡ 0
-        → ((c : ℕ) → c < n → bitNumber (λ j. g (suc j)) c (map / 2) (drop (2 * (map % 2)) s) ≡ 0) → bitNumber g b map s ≡ 0
-    by zero h first later = first
-    by (suc c) h first later = rw (word-after c map s) (later c (omega arith))
+-- the number of the fields, told by bit number: that of the first bit that is refused, or no bit is
+pub data BitsTell (n : ℕ) (g : ℕ → Rule) (map : ℕ) (s : List ℕ) : ℕ → Type 0 where
+  none-refused : ((c : ℕ) → c < n → bitNumber g c map s ≡ 0) → BitsTell n g map s 0
+  first-refused : {number : ℕ} → (number ≡ 0 → ⊥) → (b : ℕ) → bitNumber g b map s ≡ number → ((c : ℕ) → c < b → bitNumber g c map s ≡ 0)
+      → BitsTell n g map s number
 
--- the first bit whose number is refused: those below it are not
-pub record FirstRefused (n : ℕ) (g : ℕ → Rule) (map : ℕ) (s : List ℕ) (number : ℕ) : Type 0 where
-  pub at : ℕ
-  pub among : at < n
-  pub number-is : bitNumber g at map s ≡ number
-  pub below : (c : ℕ) → c < at → bitNumber g c map s ≡ 0
-
-pub first-refused : (n : ℕ) (g : ℕ → Rule) (map : ℕ) (s : List ℕ) (number : ℕ) → EachHasBit g → (number ≡ 0 → ⊥)
-    → fieldsNumber (listed g n) map s ≡ number → FirstRefused n g map s number
+pub bits-tell : (n : ℕ) (g : ℕ → Rule) (map : ℕ) (s : List ℕ) → EachHasBit g → BitsTell n g map s (fieldsNumber (listed g n) map s)
 unfolding listed fieldsNumber standing
-first-refused zero g map s number one ne e = absurd (ne (sym e))
-first-refused (suc n) g map s number one ne e =
-    by (eqb (fieldNumber (g 0) map s) 0) refl e
-    (λ q. first-refused n (λ j. g (suc j)) (map / 2) (drop (2 * (map % 2)) s) number (λ j. one (suc j)) ne (rw (one 0) at q))
+bits-tell zero g map s one = none-refused (λ c h. absurd (omega arith))
+bits-tell (suc n) g map s one =
+    by (eqb (fieldNumber (g 0) map s) 0) refl (bits-tell n (λ j. g (suc j)) (map / 2) (drop (2 * (map % 2)) s) (λ j. one (suc j)))
   where
-    below-by : (r : FirstRefused n (λ j. g (suc j)) (map / 2) (drop (2 * (map % 2)) s) number) → bitNumber g 0 map s ≡ 0
-        → (c : ℕ) → c < suc (r .at) → bitNumber g c map s ≡ 0
-    below-by r z zero h = z
-    below-by r z (suc c) h = rw (word-after c map s) (r .below c (omega arith))
+    below : (m : ℕ) → bitNumber g 0 map s ≡ 0 → ((c : ℕ) → c < m → bitNumber (λ j. g (suc j)) c (map / 2) (drop (2 * (map % 2)) s) ≡ 0)
+        → (c : ℕ) → c < suc m → bitNumber g c map s ≡ 0
+    below m z later zero h = z
+    below m z later (suc c) h = rw (word-after c map s) (later c (omega arith))
+
+    one-up : {number : ℕ} → bitNumber g 0 map s ≡ 0 → BitsTell n (λ j. g (suc j)) (map / 2) (drop (2 * (map % 2)) s) number → BitsTell (suc n) g map s number
+    one-up z (none-refused later) = none-refused (below n z later)
+    one-up z (first-refused ne b e later) = first-refused ne (suc b) (rw (word-after b map s) e) (below b z later)
 
     by : (b : Bool) → eqb (fieldNumber (g 0) map s) 0 ≡ b
-        → cond b (fieldsNumber (listed (λ j. g (suc j)) n) (restOf (g 0) map) (after (g 0) map s)) (fieldNumber (g 0) map s) ≡ number
-        → (fieldsNumber (listed (λ j. g (suc j)) n) (restOf (g 0) map) (after (g 0) map s) ≡ number
-        → FirstRefused n (λ j. g (suc j)) (map / 2) (drop (2 * (map % 2)) s) number)
-        → FirstRefused (suc n) g map s number
-    by true t q later =
-        let r = later q in
-        let z : bitNumber g 0 map s ≡ 0 = rw (one 0) at (eqb-true (fieldNumber (g 0) map s) 0 t) in
-        record { at = suc (r .at); among = let h = r .among in omega arith; number-is = rw (word-after (r .at) map s) (r .number-is); below = below-by r z }
-    by false t q later =
-        record { at = 0; among = omega arith; number-is = rw (one 0) at q; below = λ c h. absurd (omega arith) }
+        → BitsTell n (λ j. g (suc j)) (map / 2) (drop (2 * (map % 2)) s) (fieldsNumber (listed (λ j. g (suc j)) n) (map / 2) (drop (2 * (map % 2)) s))
+        → BitsTell (suc n) g map s (cond b (fieldsNumber (listed (λ j. g (suc j)) n) (restOf (g 0) map) (after (g 0) map s)) (fieldNumber (g 0) map s))
+    by true t later = rw (one 0) (one-up (rw (one 0) at (eqb-true (fieldNumber (g 0) map s) 0 t)) later)
+    by false t later = first-refused (eqb-false (fieldNumber (g 0) map s) 0 t) 0 (rw (one 0) refl) (λ c h. absurd (omega arith))
+
+pub all-right : {n : ℕ} {g : ℕ → Rule} {map : ℕ} {s : List ℕ} {number : ℕ} → BitsTell n g map s number → number ≡ 0
+    → (b : ℕ) → b < n → bitNumber g b map s ≡ 0
+all-right (none-refused all) z = all
+all-right (first-refused ne b e below) z = absurd (ne z)
 
 pub refused-first : (n : ℕ) (g : ℕ → Rule) (map : ℕ) (s : List ℕ) (number b : ℕ) → EachHasBit g → (number ≡ 0 → ⊥)
     → b < n → bitNumber g b map s ≡ number → ((c : ℕ) → c < b → bitNumber g c map s ≡ 0) → fieldsNumber (listed g n) map s ≡ number
@@ -243,21 +230,22 @@ standing-past zero (suc m) map h none =
 standing-past (suc n) (suc m) map h none = rw (standing-past n m (map / 2) (omega arith) (λ b k. none (suc b) (omega arith)))
 
 -- where no bit of the curve stands, a straight road's rules refuse what a curve's do
-pub record SameStraight (entries : List Entry) (map : ℕ) (s : List ℕ) : Type 0 where
-  pub lack : lacks (settle false entries) map ≡ lacks (settle true entries) map
-  pub count : words (settle false entries) map ≡ words (settle true entries) map
-  pub number : fieldsNumber (settle false entries) map s ≡ fieldsNumber (settle true entries) map s
+pub record SameRoad (curve : Bool) (entries : List Entry) (map : ℕ) (s : List ℕ) : Type 0 where
+  pub lack : lacks (settle curve entries) map ≡ lacks (settle true entries) map
+  pub count : words (settle curve entries) map ≡ words (settle true entries) map
+  pub number : fieldsNumber (settle curve entries) map s ≡ fieldsNumber (settle true entries) map s
 
-pub same-straight : (entries : List Entry) (map : ℕ) (s : List ℕ) → entriesRight entries ≡ true → curved entries map ≡ false
-    → SameStraight entries map s
-unfolding anyField words fieldsNumber entriesRight
-same-straight [] map s r e = record { lack = refl; count = refl; number = refl }
-same-straight (Always rule ∷ entries) map s r e =
-    let w = same-straight entries (restOf rule map) (after rule map s) (and-right (entryRight (Always rule)) _ r) e in
+pub same-road : (curve : Bool) (entries : List Entry) (map : ℕ) (s : List ℕ) → every entryRight entries ≡ true → curved entries map ≡ curve
+    → SameRoad curve entries map s
+unfolding anyField words fieldsNumber every
+same-road true entries map s r e = record { lack = refl; count = refl; number = refl }
+same-road false [] map s r e = record { lack = refl; count = refl; number = refl }
+same-road false (Always rule ∷ entries) map s r e =
+    let w = same-road false entries (restOf rule map) (after rule map s) (and-right (entryRight (Always rule)) _ r) e in
     record { lack = rw (w .lack); count = rw (w .count); number = rw (w .number) }
-same-straight (OnCurve rule ∷ entries) map s r e =
+same-road false (OnCurve rule ∷ entries) map s r e =
     let one : bits rule ≡ 1 = eqb-true (bits rule) 1 (and-right (right rule) _ (and-left _ _ r)) in
     let e′ : (eqb (map % 2) 1 || curved entries (map / 2)) ≡ false = rw one at e in
     let off = or-left (eqb (map % 2) 1) (curved entries (map / 2)) e′ in
-    let w = same-straight entries (map / 2) (drop (2 * (map % 2)) s) (and-right (entryRight (OnCurve rule)) _ r) (or-right (eqb (map % 2) 1) _ e′) in
+    let w = same-road false entries (map / 2) (drop (2 * (map % 2)) s) (and-right (entryRight (OnCurve rule)) _ r) (or-right (eqb (map % 2) 1) _ e′) in
     record { lack = rw (one, off, and-false (lacking rule)) (w .lack); count = rw (one, w .count); number = rw (one, off) (w .number) }

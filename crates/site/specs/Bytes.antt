@@ -17,7 +17,7 @@ use Rattle.site.specs.Rules.{entriesOf, bits}
 use Rattle.site.specs.Writing.{slotsOf, curveHeld, rulesHeld, fits, allFit, slotBit, mapOf, slotBytes, fieldBytes, bytesOf, recordBy, recordOf, Valid}
 use Rattle.laws.specs.Truth.{and-left, and-right}
 use Rattle.site.specs.Digits.{Bytes}
-use Rattle.site.specs.Tested.{bitCount, top, topsLow, bits-most, allows-top, tested-rules}
+use Rattle.site.specs.Tested.{bitCount, top, bits-most, allows-top, tested-rules, every, topLow}
 use Rattle.site.specs.Ranges.{valid-fits, valid-kind}
 use Rattle.site.specs.WriteRead.{slot-bit-most}
 
@@ -72,8 +72,8 @@ field-bytes rule (Number value) f h = by (eqb (slotBit rule (Number value)) 1) (
     by true bytes = bytes
     by false bytes = bytes-nil
 
-fields-bytes : (rules : List Rule) (slots : List Slot) → allFit rules slots ≡ true → topsLow rules ≡ true → Bytes (bytesOf rules slots)
-unfolding allFit topsLow bytesOf
+fields-bytes : (rules : List Rule) (slots : List Slot) → allFit rules slots ≡ true → every topLow rules ≡ true → Bytes (bytesOf rules slots)
+unfolding allFit every bytesOf
 fields-bytes [] slots f h = bytes-nil
 fields-bytes (rule ∷ rules) [] f h = bytes-nil
 fields-bytes (rule ∷ rules) (slot ∷ slots) f h =

@@ -8,14 +8,16 @@ use native.Mathlib.Omega.{arith}
 use lib.ListN.{length, take, drop, length-append, length-drop, take-append-drop, List·getD-append}
 use lib.Seq.{drop-append-le, length-take-le}
 use lib.Dec.{ltb, eqb}
-use borrow.Author.Tests.{ltb-true, ltb-false, le-ltb, eqb-true}
+use borrow.Author.Tests.{lt-ltb, le-ltb, eqb-true}
 use Rattle.site.specs.declared.rules.Rule.{Rule}
 use Rattle.site.specs.declared.values.Site.{Site}
 use Rattle.site.specs.declared.values.SiteAnswer.the-variants.{Read, Refused}
 use Rattle.site.specs.Rules.{lastKind, allows, absentOf, holds}
-use Rattle.site.specs.Record.{word, bitOf, restOf, stands, words, valueNumber, fieldNumber, fieldValue, after, fieldsNumber, fieldsValues, lacks, misses, siteOf, kindIn, mapIn, rulesIn, lengthIn, siteIn, recordNumber, refusalOf, readSite}
+use Rattle.site.specs.Record.{word, bitOf, restOf, stands, words, fieldNumber, fieldValue, after, fieldsNumber, fieldsValues}
+use Rattle.site.specs.Record.{lacks, misses, siteOf, kindIn, mapIn, rulesIn, lengthIn, siteIn, refusalOf, readSite}
 use Rattle.site.specs.Answers.{readAnswer}
-use Rattle.site.specs.Accepted.{accepted, reading}
+use Rattle.site.specs.Accepted.{HeadPresent, Tried, head-short, kind-unknown, map-lacks, map-misses}
+use Rattle.site.specs.Accepted.{fields-short, fields-tell, tried, tried-number, accepted, reading}
 
 -- kind or map is refused: 5, 6 or 7
 abbrev pub headRefused : List ℕ → Bool
@@ -63,34 +65,25 @@ alike (rule ∷ rules) map s t h =
       values = rw (f .value, d, rest .values);
     }
 
-record-alike : (rules : List Rule) (map : ℕ) (s t : List ℕ)
-    → ((lacks rules map || misses rules map) ≡ false → 2 * words rules map ≤ length s)
-    → recordNumber rules map (s ++ t) ≡ recordNumber rules map s
-unfolding recordNumber
-record-alike rules map s t h = by (lacks rules map) (misses rules map) refl refl
-  where
-    by : (a b : Bool) → lacks rules map ≡ a → misses rules map ≡ b
-        → cond a 6 (cond b 7 (cond (ltb (length (s ++ t)) (2 * words rules map)) 1 (fieldsNumber rules map (s ++ t))))
-        ≡ cond a 6 (cond b 7 (cond (ltb (length s) (2 * words rules map)) 1 (fieldsNumber rules map s)))
-    by true b p q = refl
-    by false true p q = refl
-    by false false p q =
-        let full : 2 * words rules map ≤ length s = h (rw (p, q)) in
-        let full′ : 2 * words rules map ≤ length (s ++ t) = omega (arith, length-append s t) in
-        rw (le-ltb (length s) (2 * words rules map) full, le-ltb (length (s ++ t)) (2 * words rules map) full′) (alike rules map s t full .number)
+-- where kind and map are right, the fields bear on the answer, and where they are not, nothing past them does
+fields-bear : {s : List ℕ} → HeadPresent s → lacks (rulesIn s) (mapIn s) ≡ false → misses (rulesIn s) (mapIn s) ≡ false → bears s ≡ lengthIn s
+unfolding bears
+fields-bear h l m = rw (le-ltb _ _ (h .long), le-ltb _ _ (h .known), l, m)
 
-same-refusal : (k a b : ℕ) (s t : List ℕ)
-    → (headRefused (k ∷ a ∷ b ∷ s) ≡ false → 2 * words (rulesIn (k ∷ a ∷ b ∷ s)) (mapIn (k ∷ a ∷ b ∷ s)) ≤ length s)
-    → refusalOf (k ∷ a ∷ b ∷ (s ++ t)) ≡ refusalOf (k ∷ a ∷ b ∷ s)
-unfolding refusalOf
-same-refusal k a b s t full =
-    rw (le-ltb (length (k ∷ a ∷ b ∷ s)) 3 (omega arith), le-ltb (length (k ∷ a ∷ b ∷ (s ++ t))) 3 (omega arith)) (by (ltb lastKind k) refl)
-  where
-    by : (c : Bool) → ltb lastKind k ≡ c
-        → cond c 5 (recordNumber (rulesIn (k ∷ a ∷ b ∷ s)) (mapIn (k ∷ a ∷ b ∷ s)) (s ++ t))
-        ≡ cond c 5 (recordNumber (rulesIn (k ∷ a ∷ b ∷ s)) (mapIn (k ∷ a ∷ b ∷ s)) s)
-    by true e = refl
-    by false e = record-alike (rulesIn (k ∷ a ∷ b ∷ s)) (mapIn (k ∷ a ∷ b ∷ s)) s t (λ q. full (rw (e, q)))
+module _ (k a b : ℕ) (s t : List ℕ) where
+  longer : HeadPresent (k ∷ a ∷ b ∷ s) → HeadPresent (k ∷ a ∷ b ∷ (s ++ t))
+  longer h = record { long = omega arith; known = h .known }
+
+  -- the tests of a part come out as those of the bytes that bear on it
+  tried-alike : {n : ℕ} → bears (k ∷ a ∷ b ∷ s) ≤ length (k ∷ a ∷ b ∷ s) → Tried (k ∷ a ∷ b ∷ s) n → Tried (k ∷ a ∷ b ∷ (s ++ t)) n
+  tried-alike e (head-short h) = absurd (omega arith)
+  tried-alike e (kind-unknown l h) = kind-unknown (omega arith) h
+  tried-alike e (map-lacks h l) = map-lacks (longer h) l
+  tried-alike e (map-misses h l m) = map-misses (longer h) l m
+  tried-alike e (fields-short h l m f) = absurd (omega (arith, fields-bear h l m))
+  tried-alike e (fields-tell h l m f) =
+      let x = k ∷ a ∷ b ∷ s in
+      rw (← alike (rulesIn x) (mapIn x) s t (omega arith) .number) (fields-tell (longer h) l m (omega (arith, length-append s t)))
 
 -- an answer by a number tells the site only where the number is 0
 same-answer : (number : ℕ) (site other : Site) (n : ℕ) → (number ≡ 0 → site ≡ other)
@@ -109,11 +102,9 @@ past-nothing (k ∷ []) t h = let z : ⊥ = omega arith in absurd z
 past-nothing (k ∷ a ∷ []) t h = let z : ⊥ = omega arith in absurd z
 past-nothing (k ∷ a ∷ b ∷ s) t h =
     let x = k ∷ a ∷ b ∷ s in
-    let known : cond (headRefused x) 3 (lengthIn x) ≤ length x = rw (le-ltb (length x) 3 (omega arith)) at h in
-    let full : headRefused x ≡ false → 2 * words (rulesIn x) (mapIn x) ≤ length s = λ e. let k : lengthIn x ≤ length x = rw e at known in omega arith in
-    rw (same-refusal k a b s t full)
+    rw (tried-number (k ∷ a ∷ b ∷ (s ++ t)) (tried-alike k a b s t h (tried x)))
     (same-answer (refusalOf x) (siteIn (k ∷ a ∷ b ∷ (s ++ t))) (siteIn x) (lengthIn x)
-    (λ e. ap (siteOf k) (alike (rulesIn x) (mapIn x) s t (accepted x e .full) .values)))
+    (λ e. ap (siteOf k) (alike (rulesIn x) (mapIn x) s t (omega (arith, accepted x e .full)) .values)))
 
 -- the bytes that bear on an answer are told by kind and map
 bears-same : (s t : List ℕ) → 3 ≤ length s → bears (s ++ t) ≡ bears s
@@ -143,40 +134,19 @@ same-for-any s t h =
     let enough : bears x ≤ length x = omega arith in
     past-nothing x t enough ∙ sym (past-nothing x (drop (bears s) s) enough) ∙ ap readSite e
 
--- 5 to 7 rest on kind and map alone
-pub head-bears : (s : List ℕ) → headRefused s ≡ true → bears s ≡ 3
-unfolding bears
-head-bears s e = by (ltb (length s) 3)
-  where
-    by : (a : Bool) → cond a 3 (cond (headRefused s) 3 (lengthIn s)) ≡ 3
-    by true = refl
-    by false = rw e
-
--- 8, 9 and success rest on kind, map and fields
-pub fields-bear : (s : List ℕ) → 3 ≤ length s → headRefused s ≡ false → bears s ≡ lengthIn s
-unfolding bears
-fields-bear s h e = rw (le-ltb (length s) 3 h, e)
-
 -- a record that is read is the bytes that bear on its answer
 pub read-bears : (s : List ℕ) (site : Site) (n : ℕ) → readSite s ≡ Read site n → bears s ≡ n
 read-bears s site n e =
     let r = reading s site n e in
     let a = r .accepts in
-    let free : headRefused s ≡ false = rw (le-ltb lastKind (kindIn s) (a .known), a .lack, a .miss) in
-    fields-bear s (a .long) free ∙ r .length-is
+    fields-bear (record { long = a .long; known = a .known }) (a .lack) (a .miss) ∙ r .length-is
 
 -- no field is refused with 1
-value-not-one : (a d : Bool) → _≡_ {A = ℕ} (cond a (cond d 9 0) 8) 1 → ⊥
-value-not-one true true e = omega arith
-value-not-one true false e = omega arith
-value-not-one false d e = omega arith
-
-field-not-one : (rule : Rule) (map : ℕ) (s : List ℕ) → fieldNumber rule map s ≡ 1 → ⊥
-field-not-one rule map s = by (stands rule map)
-  where
-    by : (b : Bool) → cond b (valueNumber rule (word s)) 0 ≡ 1 → ⊥
-    by true e = value-not-one (allows rule (word s)) (holds (absentOf rule) (word s)) e
-    by false e = omega arith
+field-not-one : (b a d : Bool) → _≡_ {A = ℕ} (cond b (cond a (cond d 9 0) 8) 0) 1 → ⊥
+field-not-one false a d e = omega arith
+field-not-one true false d e = omega arith
+field-not-one true true true e = omega arith
+field-not-one true true false e = omega arith
 
 fields-not-one : (rules : List Rule) (map : ℕ) (s : List ℕ) → fieldsNumber rules map s ≡ 1 → ⊥
 unfolding fieldsNumber
@@ -187,30 +157,21 @@ fields-not-one (rule ∷ rules) map s e =
     by : (b : Bool) → cond b (fieldsNumber rules (restOf rule map) (after rule map s)) (fieldNumber rule map s) ≡ 1
         → (fieldsNumber rules (restOf rule map) (after rule map s) ≡ 1 → ⊥) → ⊥
     by true q later = later q
-    by false q later = field-not-one rule map s q
+    by false q later = field-not-one (stands rule map) (allows rule (word s)) (holds (absentOf rule) (word s)) q
 
 -- 1 exactly when the bytes that bear on the answer are not all there
 module _ (s : List ℕ) where
-  other : (number : ℕ) → refusalOf s ≡ number → bears s ≡ 3 → ltb (length s) 3 ≡ false → (number ≡ 1 → ⊥)
-      → (refusalOf s ≡ 1) ↔ (length s < bears s)
-  other number e b a ne = (λ q. absurd (ne (sym e ∙ q)), λ q. absurd (omega (arith, b, ltb-false (length s) 3 a)))
+  other : {n : ℕ} → (n ≡ 1 → ⊥) → 3 ≤ length s → bears s ≡ 3 → (n ≡ 1) ↔ (length s < bears s)
+  other ne l b = (λ q. absurd (ne q), λ q. absurd (omega arith))
 
-  one-by : (short known lack miss cut : Bool) → ltb (length s) 3 ≡ short → ltb lastKind (kindIn s) ≡ known
-      → lacks (rulesIn s) (mapIn s) ≡ lack → misses (rulesIn s) (mapIn s) ≡ miss
-      → ltb (length (drop 3 s)) (2 * words (rulesIn s) (mapIn s)) ≡ cut → (refusalOf s ≡ 1) ↔ (length s < bears s)
-  unfolding refusalOf recordNumber bears
-  one-by true known lack miss cut a b c d e = (λ q. rw a (ltb-true (length s) 3 a), λ q. rw a)
-  one-by false true lack miss cut a b c d e = other 5 (rw (a, b)) (rw (a, b)) a (omega arith)
-  one-by false false true miss cut a b c d e = other 6 (rw (a, b, c)) (rw (a, b, c)) a (omega arith)
-  one-by false false false true cut a b c d e = other 7 (rw (a, b, c, d)) (rw (a, b, c, d)) a (omega arith)
-  one-by false false false false true a b c d e =
-      let missing = ltb-true (length (drop 3 s)) (2 * words (rulesIn s) (mapIn s)) e in
-      (λ q. rw (a, b, c, d) (omega (arith, missing, length-drop 3 s, ltb-false (length s) 3 a)), λ q. rw (a, b, c, d, e))
-  one-by false false false false false a b c d e =
-      let full = ltb-false (length (drop 3 s)) (2 * words (rulesIn s) (mapIn s)) e in (
-        λ q. absurd (fields-not-one (rulesIn s) (mapIn s) (drop 3 s) (rw (a, b, c, d, e) at q)),
-        λ q. let z : length s < lengthIn s = rw (a, b, c, d) at q in absurd (omega (arith, ltb-false (length s) 3 a, full, length-drop 3 s)),
-      )
+  one-by : {n : ℕ} → Tried s n → (n ≡ 1) ↔ (length s < bears s)
+  unfolding bears
+  one-by (head-short h) = (λ q. rw (lt-ltb _ _ h) h, λ q. refl)
+  one-by (kind-unknown l k) = other (omega arith) l (rw (le-ltb _ _ l, lt-ltb _ _ k))
+  one-by (map-lacks h l) = other (omega arith) (h .long) (rw (le-ltb _ _ (h .long), le-ltb _ _ (h .known), l))
+  one-by (map-misses h l m) = other (omega arith) (h .long) (rw (le-ltb _ _ (h .long), le-ltb _ _ (h .known), l, m))
+  one-by (fields-short h l m f) = (λ q. rw (fields-bear h l m) f, λ q. refl)
+  one-by (fields-tell h l m f) = (λ q. absurd (fields-not-one _ _ _ q), λ q. absurd (omega (arith, fields-bear h l m)))
 
   pub one-exactly : (refusalOf s ≡ 1) ↔ (length s < bears s)
-  one-exactly = one-by _ _ _ _ _ refl refl refl refl refl
+  one-exactly = one-by (tried s)

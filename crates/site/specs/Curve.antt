@@ -3,13 +3,13 @@
 use mathlib.Core.Path.{_≡_, refl, sym, _∙_}
 use mathlib.Core.Bool.{Bool, true, false, cond, _&&_, _||_, not, Bool·beq, true≢false}
 use Prim.Native.Nat.{ℕ, zero, suc, _/_, _≤_}
-use native.Mathlib.Omega.{arith}
 use native.Mathlib.Nat.{div-one}
 use borrow.Author.Tests.{not-false}
 use Rattle.site.specs.Rules.{entriesOf, lastKind, segment, settle}
 use Rattle.site.specs.Record.{anyField, misses, curved, rulesRead}
 use Rattle.site.specs.Fields.{bitAt, roadCurves}
 use Rattle.laws.specs.Truth.{and-right}
+use Rattle.site.specs.Tested.{by-kind}
 
 -- 6 and 7 stand together, and 8 and 9 only with them
 abbrev pub matched : Bool → Bool → Bool → Bool → Bool
@@ -20,74 +20,58 @@ two true true = refl
 two true false = refl
 two false first = refl
 
-by-bits : (zeroth first six seven eight nine c : Bool) → (six || (seven || (eight || (nine || false)))) ≡ c
-    → cond c (not zeroth || (not first || (not six || (not seven || false)))) (not zeroth || (not first || false))
+either-way : (c : Bool) → cond c true true ≡ true
+either-way true = refl
+either-way false = refl
+
+by-bits : (zeroth first six seven eight nine : Bool)
+    → cond (six || (seven || (eight || (nine || false)))) (not zeroth || (not first || (not six || (not seven || false)))) (not zeroth || (not first || false))
     ≡ not (zeroth && (first && matched six seven eight nine))
-by-bits false first six seven eight nine true e = refl
-by-bits false first six seven eight nine false e = refl
-by-bits true false six seven eight nine true e = refl
-by-bits true false six seven eight nine false e = refl
-by-bits true true false false false false true e = absurd (true≢false (sym e))
-by-bits true true false false false false false e = refl
-by-bits true true false false false true true e = refl
-by-bits true true false false false true false e = absurd (true≢false e)
-by-bits true true false false true nine true e = refl
-by-bits true true false false true nine false e = absurd (true≢false e)
-by-bits true true false true eight nine true e = refl
-by-bits true true false true eight nine false e = absurd (true≢false e)
-by-bits true true true false eight nine true e = refl
-by-bits true true true false eight nine false e = absurd (true≢false e)
-by-bits true true true true false false true e = refl
-by-bits true true true true false true true e = refl
-by-bits true true true true true nine true e = refl
-by-bits true true true true eight nine false e = absurd (true≢false e)
+by-bits false first six seven eight nine = either-way (six || (seven || (eight || (nine || false))))
+by-bits true false six seven eight nine = either-way (six || (seven || (eight || (nine || false))))
+by-bits true true false false false false = refl
+by-bits true true false false false true = refl
+by-bits true true false false true nine = refl
+by-bits true true false true eight nine = refl
+by-bits true true true false eight nine = refl
+by-bits true true true true false false = refl
+by-bits true true true true false true = refl
+by-bits true true true true true nine = refl
 
 pub curve-bits : (map : ℕ) → curved segment map ≡ (bitAt 6 map || (bitAt 7 map || (bitAt 8 map || (bitAt 9 map || false))))
 unfolding anyField
 curve-bits map = rw (div-one (map / 2 / 2))
 
-misses-on-curve : (map : ℕ)
-    → misses (settle true segment) map ≡ (not (bitAt 0 map) || (not (bitAt 1 map) || (not (bitAt 6 map) || (not (bitAt 7 map) || false))))
+misses-on-road : (curve : Bool) (map : ℕ)
+    → misses (settle curve segment) map
+    ≡ cond curve (not (bitAt 0 map) || (not (bitAt 1 map) || (not (bitAt 6 map) || (not (bitAt 7 map) || false))))
+    (not (bitAt 0 map) || (not (bitAt 1 map) || false))
 unfolding anyField
-misses-on-curve map = rw (div-one (map / 2 / 2))
-
-misses-straight : (map : ℕ) → misses (settle false segment) map ≡ (not (bitAt 0 map) || (not (bitAt 1 map) || false))
-unfolding anyField
-misses-straight map = refl
+misses-on-road true map = rw (div-one (map / 2 / 2))
+misses-on-road false map = refl
 
 -- a segment is refused with 7 exactly where these do not all hold
 pub segment-misses : (map : ℕ)
     → misses (rulesRead 0 map) map ≡ not (bitAt 0 map && (bitAt 1 map && matched (bitAt 6 map) (bitAt 7 map) (bitAt 8 map) (bitAt 9 map)))
 unfolding entriesOf
 segment-misses map =
-    by (curved segment map) refl
-    ∙ by-bits (bitAt 0 map) (bitAt 1 map) (bitAt 6 map) (bitAt 7 map) (bitAt 8 map) (bitAt 9 map) (curved segment map) (sym (curve-bits map))
-  where
-    by : (c : Bool) → curved segment map ≡ c
-        → misses (settle c segment) map
-        ≡ cond c (not (bitAt 0 map) || (not (bitAt 1 map) || (not (bitAt 6 map) || (not (bitAt 7 map) || false))))
-        (not (bitAt 0 map) || (not (bitAt 1 map) || false))
-    by true e = misses-on-curve map
-    by false e = misses-straight map
-
--- a crossing is refused with 7 exactly where bits 0 and 1 do not both stand: it has no curve
-pub crossing-misses : (kind map : ℕ) → 1 ≤ kind → kind ≤ lastKind
-    → misses (rulesRead kind map) map ≡ not (bitAt 0 map && bitAt 1 map)
-unfolding anyField entriesOf
-crossing-misses zero map h k = let z : ⊥ = omega arith in absurd z
-crossing-misses (suc zero) map h k = rw (div-one (map / 2)) (two (bitAt 0 map) (bitAt 1 map))
-crossing-misses (suc (suc zero)) map h k = rw (div-one (map / 2)) (two (bitAt 0 map) (bitAt 1 map))
-crossing-misses (suc (suc (suc zero))) map h k = rw (div-one (map / 2)) (two (bitAt 0 map) (bitAt 1 map))
-crossing-misses (suc (suc (suc (suc kind)))) map h k = let z : ⊥ = omega arith in absurd z
+    misses-on-road (curved segment map) map
+    ∙ rw (curve-bits map) (by-bits (bitAt 0 map) (bitAt 1 map) (bitAt 6 map) (bitAt 7 map) (bitAt 8 map) (bitAt 9 map))
 
 -- "Bits 0 and 1 always stand. Bits 6 and 7 of a segment stand together, and 8 and 9 only with them"
 abbrev pub mapMatched : ℕ → ℕ → Bool
 mapMatched zero map = bitAt 0 map && (bitAt 1 map && matched (bitAt 6 map) (bitAt 7 map) (bitAt 8 map) (bitAt 9 map))
 mapMatched (suc kind) map = bitAt 0 map && bitAt 1 map
 
+-- a crossing has no curve
 pub misses-by-bits : (kind map : ℕ) → kind ≤ lastKind → misses (rulesRead kind map) map ≡ not (mapMatched kind map)
-misses-by-bits zero map h = segment-misses map
-misses-by-bits (suc kind) map h = crossing-misses (suc kind) map (omega arith) h
+unfolding anyField entriesOf
+misses-by-bits kind map =
+    by-kind (λ kind. misses (rulesRead kind map) map ≡ not (mapMatched kind map)) (segment-misses map)
+    (rw (div-one (map / 2)) (two (bitAt 0 map) (bitAt 1 map)))
+    (rw (div-one (map / 2)) (two (bitAt 0 map) (bitAt 1 map)))
+    (rw (div-one (map / 2)) (two (bitAt 0 map) (bitAt 1 map)))
+    kind
 
 -- where no bit is missing, bit 6 tells the curve
 matched-six : (six seven eight nine : Bool) → matched six seven eight nine ≡ true → (six || (seven || (eight || (nine || false)))) ≡ six
@@ -99,10 +83,9 @@ matched-six false false false false e = refl
 
 pub curved-by-six : (kind map : ℕ) → kind ≤ lastKind → misses (rulesRead kind map) map ≡ false → curved (entriesOf kind) map ≡ roadCurves kind map
 unfolding anyField entriesOf
-curved-by-six zero map h e =
+curved-by-six kind map =
+    by-kind (λ kind. misses (rulesRead kind map) map ≡ false → curved (entriesOf kind) map ≡ roadCurves kind map)
+    (λ e.
     let m = not-false (mapMatched 0 map) (sym (segment-misses map) ∙ e) in
-    curve-bits map ∙ matched-six (bitAt 6 map) (bitAt 7 map) (bitAt 8 map) (bitAt 9 map) (and-right (bitAt 1 map) _ (and-right (bitAt 0 map) _ m))
-curved-by-six (suc zero) map h e = refl
-curved-by-six (suc (suc zero)) map h e = refl
-curved-by-six (suc (suc (suc zero))) map h e = refl
-curved-by-six (suc (suc (suc (suc kind)))) map h e = let z : ⊥ = omega arith in absurd z
+    curve-bits map ∙ matched-six (bitAt 6 map) (bitAt 7 map) (bitAt 8 map) (bitAt 9 map) (and-right (bitAt 1 map) _ (and-right (bitAt 0 map) _ m)))
+    (λ e. refl) (λ e. refl) (λ e. refl) kind

@@ -1,15 +1,15 @@
 -- The rows of document 01 are the table of rules, bit by bit; so a record that is read has the values that they say.
 use mathlib.Core.Path.{_≡_, refl, ap, sym, _∙_}
-use mathlib.Core.Bool.{Bool, true, false, cond, _&&_, true≢false}
+use mathlib.Core.Bool.{Bool, true, false, cond, _&&_}
 use mathlib.Core.List.{List, [], _∷_}
 use mathlib.Core.Logic.{_↔_, inl, inr}
 use Prim.Native.Nat.{ℕ, zero, suc, _+_, _*_, _%_, _<_, _≤_}
-use native.Mathlib.Nat.{mod-one}
+use native.Mathlib.Nat.{mod-one, lt-of-not-le}
 use native.Mathlib.Omega.{arith}
 use lib.ListN.{getD, drop}
 use lib.Seq.{drop-drop}
 use lib.Dec.{ltb, leb, eqb}
-use borrow.Author.Tests.{ltb-true, ltb-false, leb-true, eqb-true, ne-eqb}
+use borrow.Author.Tests.{ltb-true, leb-true, eqb-true, ne-eqb}
 use Rattle.site.specs.declared.rules.Rule.{Rule}
 use Rattle.site.specs.declared.rules.Rule.the-variants.{Foreign, Lacking, Needed, Optional, Default}
 use Rattle.site.specs.declared.rules.Entry.{Entry}
@@ -19,14 +19,18 @@ use Rattle.site.specs.declared.values.Slot.the-variants.{Absent, Number}
 use Rattle.site.specs.declared.values.Site.{Site}
 use Rattle.site.specs.declared.values.SiteAnswer.the-variants.{Read}
 use Rattle.site.specs.Rules.{entriesOf, lastKind, inside, allows, absentOf, needed, lacking, bits, settled, settle, holds}
-use Rattle.site.specs.Record.{anyField, lackedBitStands, lacks, misses, curved, rulesRead, word, words, valueNumber, fieldsNumber, fieldsValues, kindIn, mapIn, rulesIn, lengthIn, siteIn, readSite}
-use Rattle.site.specs.Fields.{Absence, never, no-number, usual, on-curve, Field, lacked, field, Row, bit, rowsOf, fieldAt, mapBits, lackedFrom, lackedBits, fieldIn, othersOf, bitAt, standing, numberAt, inRange, isUsual, spellsDefault, AbsentAs, FieldRead, BitRead, AllAbsent, FieldsRead}
+use Rattle.site.specs.Record.{anyField, lackedBitStands, lacks, misses, curved, rulesRead, word, words, valueNumber}
+use Rattle.site.specs.Record.{fieldsNumber, fieldsValues, kindIn, mapIn, rulesIn, lengthIn, siteIn, readSite}
+use Rattle.site.specs.Fields.{Absence, never, no-number, usual, on-curve, Field, lacked, field, Row, bit, rowsOf, fieldAt}
+use Rattle.site.specs.Fields.{mapBits, lackedFrom, lackedBits, fieldIn, othersOf, bitAt, standing, numberAt, inRange}
+use Rattle.site.specs.Fields.{isUsual, spellsDefault, AbsentAs, FieldRead, BitRead, AllAbsent, FieldsRead}
 use Rattle.site.specs.Writing.{slotsOf}
 use Rattle.laws.specs.Truth.{and-left, and-right, or-left, or-right, not-both}
-use Rattle.site.specs.Tested.{tested-rules}
+use Rattle.site.specs.Tested.{by-kind, never-so, tested-rules}
 use Rattle.site.specs.Accepted.{Accepted, reading}
-use Rattle.site.specs.ReadWrite.{slots-again}
-use Rattle.site.specs.BitLaws.{bitRules, bitSlots, with-bits, listed, EachHasBit, wordAt, words-listed, value-at, needed-stands, all-right, StandingBit, Past, lacked-found, lacked-told, standing-past, same-straight}
+use Rattle.site.specs.ReadWrite.{value-taken, slots-again}
+use Rattle.site.specs.BitLaws.{bitRules, bitSlots, with-bits, listed, EachHasBit, wordAt, words-listed, value-at, needed-stands}
+use Rattle.site.specs.BitLaws.{BitsTell, bits-tell, all-right, StandingBit, Past, lacked-found, lacked-told, standing-past, same-road}
 use Rattle.site.specs.Curve.{curved-by-six}
 
 -- the rule that a field has in the table of rules, on a curve or not
@@ -70,15 +74,8 @@ each-has-bit kind curve b = rule-at-bit curve (fieldAt (rowsOf kind) b)
 pub rules-by-bit : (kind : ℕ) → kind ≤ lastKind → (curve : Bool)
     → bitRules (settle curve (entriesOf kind)) ≡ listed (rulesAt kind curve) (bitsHeld kind)
 unfolding entriesOf bitRules listed fieldAt
-rules-by-bit zero h true = refl
-rules-by-bit zero h false = refl
-rules-by-bit (suc zero) h true = refl
-rules-by-bit (suc zero) h false = refl
-rules-by-bit (suc (suc zero)) h true = refl
-rules-by-bit (suc (suc zero)) h false = refl
-rules-by-bit (suc (suc (suc zero))) h true = refl
-rules-by-bit (suc (suc (suc zero))) h false = refl
-rules-by-bit (suc (suc (suc (suc kind)))) h curve = let z : ⊥ = omega arith in absurd z
+rules-by-bit kind h true = by-kind (λ kind. bitRules (settle true (entriesOf kind)) ≡ listed (rulesAt kind true) (bitsHeld kind)) refl refl refl refl kind h
+rules-by-bit kind h false = by-kind (λ kind. bitRules (settle false (entriesOf kind)) ≡ listed (rulesAt kind false) (bitsHeld kind)) refl refl refl refl kind h
 
 -- each row names the slot of its bit: the slots by name, and by number
 unfoldable byName : List Row → Site → List Slot
@@ -94,12 +91,13 @@ byNumber (bit n (field value low high absence) ∷ rows) slots = getD slots n Ab
 named : (kind : ℕ) → kind ≤ lastKind → (curve : Bool) (site : Site)
     → byName (rowsOf kind) site ≡ byNumber (rowsOf kind) (bitSlots (settle curve (entriesOf kind)) (slotsOf site))
 unfolding entriesOf bitSlots byName byNumber
-named zero h true site = refl
-named zero h false site = refl
-named (suc zero) h curve site = refl
-named (suc (suc zero)) h curve site = refl
-named (suc (suc (suc zero))) h curve site = refl
-named (suc (suc (suc (suc kind)))) h curve site = let z : ⊥ = omega arith in absurd z
+named kind h curve site =
+    by-kind (λ kind. byName (rowsOf kind) site ≡ byNumber (rowsOf kind) (bitSlots (settle curve (entriesOf kind)) (slotsOf site)))
+    (by curve) refl refl refl kind h
+  where
+    by : (curve : Bool) → byName (rowsOf 0) site ≡ byNumber (rowsOf 0) (bitSlots (settle curve (entriesOf 0)) (slotsOf site))
+    by true = refl
+    by false = refl
 
 abbrev NamedAt : List Slot → Site → ℕ → Field → Type 0
 NamedAt slots site b lacked = Unit
@@ -138,6 +136,10 @@ lacked-past (suc zero) b h = past-all (rowsOf 1) 7 b refl h
 lacked-past (suc (suc zero)) b h = past-all (rowsOf 2) 7 b refl h
 lacked-past (suc (suc (suc kind))) b h = past-all (rowsOf 3) 7 b refl h
 
+-- so a bit that it does not lack is one of its own
+pub among : (kind b : ℕ) → (fieldAt (rowsOf kind) b ≡ lacked → ⊥) → b < bitsHeld kind
+among kind b has = lt-of-not-le (λ h. has (lacked-past kind b h))
+
 -- the rules of a kind and a map, told by bit number
 pub record ByBits (kind map : ℕ) (s : List ℕ) : Type 0 where
   pub lack : lacks (rulesRead kind map) map ≡ lacks (listed (rulesAt kind true) (bitsHeld kind)) map
@@ -145,41 +147,37 @@ pub record ByBits (kind map : ℕ) (s : List ℕ) : Type 0 where
   pub number : fieldsNumber (rulesRead kind map) map s ≡ fieldsNumber (listed (rulesAt kind true) (bitsHeld kind)) map s
 
 pub by-bits : (kind map : ℕ) (s : List ℕ) → kind ≤ lastKind → ByBits kind map s
-by-bits kind map s h = by (curved (entriesOf kind) map) refl
-  where
-    by : (c : Bool) → curved (entriesOf kind) map ≡ c → ByBits kind map s
-    by true e =
-        let w = with-bits (settle true (entriesOf kind)) map s in
-        let r = rules-by-bit kind h true in
-        record { lack = rw e (rw r at (w .lack)); count = rw e (rw r at (w .count)); number = rw e (rw r at (w .number)) }
-    by false e =
-        let w = with-bits (settle true (entriesOf kind)) map s in
-        let r = rules-by-bit kind h true in
-        let q = same-straight (entriesOf kind) map s (tested-rules kind true h .entries-right) e in
-        record {
-          lack = rw e (q .lack ∙ (rw r at (w .lack)));
-          count = rw e (q .count ∙ (rw r at (w .count)));
-          number = rw e (q .number ∙ (rw r at (w .number)));
-        }
+by-bits kind map s h =
+    let w = with-bits (settle true (entriesOf kind)) map s in
+    let r = rules-by-bit kind h true in
+    let q = same-road _ (entriesOf kind) map s (tested-rules kind true h .entries-right) refl in
+    record { lack = q .lack ∙ (rw r at (w .lack)); count = q .count ∙ (rw r at (w .count)); number = q .number ∙ (rw r at (w .number)) }
+
+pub fields-by-bits : (kind map : ℕ) (s : List ℕ) → kind ≤ lastKind
+    → BitsTell (bitsHeld kind) (rulesAt kind true) map s (fieldsNumber (rulesRead kind map) map s)
+fields-by-bits kind map s h = rw (by-bits kind map s h .number) (bits-tell (bitsHeld kind) (rulesAt kind true) map s (each-has-bit kind true))
 
 pub lacked-bits : (kind : ℕ) → kind ≤ lastKind → lackedFrom (rowsOf kind) 0 mapBits ≡ lackedBits kind
 unfolding fieldAt lackedFrom
-lacked-bits zero h = refl
-lacked-bits (suc zero) h = refl
-lacked-bits (suc (suc zero)) h = refl
-lacked-bits (suc (suc (suc zero))) h = refl
-lacked-bits (suc (suc (suc (suc kind)))) h = let z : ⊥ = omega arith in absurd z
+lacked-bits = by-kind (λ kind. lackedFrom (rowsOf kind) 0 mapBits ≡ lackedBits kind) refl refl refl refl
+
+-- a field's rule on a curve: the kind does not lack it, it takes the numbers in its range, and its default is what its absence says
+record RuleTells (low high : ℕ) (absence : Absence) : Type 0 where
+  pub has : lacking (ruleFor low high absence true) ≡ false
+  pub allowed : (number : ℕ) → allows (ruleFor low high absence true) number ≡ inside low high number
+  pub held : (number : ℕ) → holds (absentOf (ruleFor low high absence true)) number ≡ isUsual absence number
+
+rule-tells : (low high : ℕ) (absence : Absence) → RuleTells low high absence
+rule-tells low high never = record { has = refl; allowed = λ number. refl; held = λ number. refl }
+rule-tells low high no-number = record { has = refl; allowed = λ number. refl; held = λ number. refl }
+rule-tells low high (usual d) = record { has = refl; allowed = λ number. refl; held = λ number. refl }
+rule-tells low high (on-curve absence) =
+    let r = rule-tells low high absence in record { has = r .has; allowed = r .allowed; held = r .held }
 
 -- 6 BY BIT NUMBER: the rules lack a bit that stands exactly where a bit stands that no row is for
-lacking-for : (low high : ℕ) (absence : Absence) → lacking (ruleFor low high absence true) ≡ true → ⊥
-lacking-for low high never e = true≢false (sym e)
-lacking-for low high no-number e = true≢false (sym e)
-lacking-for low high (usual d) e = true≢false (sym e)
-lacking-for low high (on-curve absence) e = lacking-for low high absence e
-
 lacking-at : (x : Field) → lacking (ruleAt true x) ≡ true → x ≡ lacked
 lacking-at lacked e = refl
-lacking-at (field value low high absence) e = absurd (lacking-for low high absence e)
+lacking-at (field value low high absence) e = not-both _ e (rule-tells low high absence .has)
 
 module _ (kind map : ℕ) (known : kind ≤ lastKind) where
   past-lacked : (b : ℕ) → Past (bitsHeld kind) (rulesAt kind true) b → fieldAt (rowsOf kind) b ≡ lacked
@@ -199,11 +197,7 @@ module _ (kind map : ℕ) (known : kind ≤ lastKind) where
 -- where no such bit stands, the record has a two-byte number for each bit of the map that stands
 module _ (kind map : ℕ) (known : kind ≤ lastKind) (none : (b : ℕ) → bitAt b map ≡ true → fieldAt (rowsOf kind) b ≡ lacked → ⊥) where
   unset-past : (b : ℕ) → bitsHeld kind ≤ b → bitAt b map ≡ false
-  unset-past b h = by (bitAt b map) refl
-    where
-      by : (t : Bool) → bitAt b map ≡ t → t ≡ false
-      by true t = absurd (none b t (lacked-past kind b h))
-      by false t = refl
+  unset-past b h = never-so (bitAt b map) (λ t. none b t (lacked-past kind b h))
 
   pub words-standing : words (rulesRead kind map) map ≡ standing mapBits map
   words-standing =
@@ -238,24 +232,7 @@ others-absent curve (OnCurve rule ∷ entries) map s e = others-absent curve ent
 
 others-are : (kind : ℕ) → kind ≤ lastKind → (site : Site) → othersOf kind site ≡ otherSlots (entriesOf kind) (slotsOf site)
 unfolding entriesOf otherSlots
-others-are zero h site = refl
-others-are (suc zero) h site = refl
-others-are (suc (suc zero)) h site = refl
-others-are (suc (suc (suc zero))) h site = refl
-others-are (suc (suc (suc (suc kind)))) h site = let z : ⊥ = omega arith in absurd z
-
--- a number that a field's rule takes is in its range, and one that its absence says is the default
-allowed-for : (low high : ℕ) (absence : Absence) (number : ℕ) → allows (ruleFor low high absence true) number ≡ inside low high number
-allowed-for low high never number = refl
-allowed-for low high no-number number = refl
-allowed-for low high (usual d) number = refl
-allowed-for low high (on-curve absence) number = allowed-for low high absence number
-
-held-for : (low high : ℕ) (absence : Absence) (number : ℕ) → holds (absentOf (ruleFor low high absence true)) number ≡ isUsual absence number
-held-for low high never number = refl
-held-for low high no-number number = refl
-held-for low high (usual d) number = refl
-held-for low high (on-curve absence) number = held-for low high absence number
+others-are kind h site = by-kind (λ kind. othersOf kind site ≡ otherSlots (entriesOf kind) (slotsOf site)) refl refl refl refl kind h
 
 -- the refusal of a number at a field: 8, then 9, or 0
 abbrev pub wrongNumber : Field → ℕ → ℕ
@@ -263,7 +240,7 @@ wrongNumber x number = cond (inRange x number) (cond (spellsDefault x number) 9 
 
 pub wrong-number : (x : Field) (number : ℕ) → valueNumber (ruleAt true x) number ≡ wrongNumber x number
 wrong-number lacked number = refl
-wrong-number (field value low high absence) number = rw (allowed-for low high absence number, held-for low high absence number)
+wrong-number (field value low high absence) number = let r = rule-tells low high absence in rw (r .allowed number, r .held number)
 
 -- what an absent field is read as
 absent-for : (low high : ℕ) (absence : Absence) (curve : Bool) → (needed (ruleFor low high absence curve) ≡ true → ⊥)
@@ -273,12 +250,6 @@ absent-for low high no-number curve ne = refl
 absent-for low high (usual d) curve ne = refl
 absent-for low high (on-curve absence) true ne = absent-for low high absence true ne
 absent-for low high (on-curve absence) false ne = refl
-
--- no refusal, so in its range and no default
-pub right-number : (a d : Bool) → _≡_ {A = ℕ} (cond a (cond d 9 0) 8) 0 → (a ≡ true) × (d ≡ false)
-right-number true true e = let z : ⊥ = omega arith in absurd z
-right-number true false e = (refl, refl)
-right-number false d e = let z : ⊥ = omega arith in absurd z
 
 pub number-of : (b : ℕ) (s : List ℕ) → wordAt b (mapIn s) (drop 3 s) ≡ numberAt b s
 number-of b s = ap word (drop-drop (2 * standing b (mapIn s)) 3 s)
@@ -297,8 +268,7 @@ module _ (s : List ℕ) (a : Accepted s) where
 
   number-at : (b : ℕ) → b < bitsHeld (kindIn s) → bitAt b (mapIn s) ≡ true → wrongNumber (fieldIn s b) (numberAt b s) ≡ 0
   number-at b h e =
-      let n = all-right (bitsHeld (kindIn s)) (rulesAt (kindIn s) true) (mapIn s) (drop 3 s) (each-has-bit (kindIn s) true)
-      (sym (by-bits (kindIn s) (mapIn s) (drop 3 s) (a .known) .number) ∙ a .no-field-refused) b h in
+      let n = all-right (fields-by-bits (kindIn s) (mapIn s) (drop 3 s) (a .known)) (a .no-field-refused) b h in
       sym (wrong-number (fieldIn s b) (numberAt b s)) ∙ (rw (e, number-of b s) at n)
 
   never-absent : (b : ℕ) → b < bitsHeld (kindIn s) → bitAt b (mapIn s) ≡ false
@@ -308,25 +278,18 @@ module _ (s : List ℕ) (a : Accepted s) where
       let m = with-bits (rulesIn s) (mapIn s) (drop 3 s) .miss ∙ ap (λ (l : List Rule). misses l (mapIn s)) (rules-by-bit (kindIn s) (a .known) c) in
       not-both (bitAt b (mapIn s)) (needed-stands (bitsHeld (kindIn s)) (rulesAt (kindIn s) c) (mapIn s) (each-has-bit (kindIn s) c) (sym m ∙ a .miss) b h k) e
 
-  lacked-unset : (b : ℕ) → fieldIn s b ≡ lacked → (stood : Bool) → bitAt b (mapIn s) ≡ stood → stood ≡ false
-  lacked-unset b e true t =
-      not-both (lacks (rulesIn s) (mapIn s)) (lacks-exactly (kindIn s) (mapIn s) (a .known) .1 (record { at = b; stands = t; holds = e })) (a .lack)
-  lacked-unset b e false t = refl
-
-  among : (b : ℕ) (value : Site → Slot) (low high : ℕ) (absence : Absence) → fieldIn s b ≡ field value low high absence
-      → (past : Bool) → ltb b (bitsHeld (kindIn s)) ≡ past → b < bitsHeld (kindIn s)
-  among b value low high absence e true t = ltb-true b (bitsHeld (kindIn s)) t
-  among b value low high absence e false t =
-      let l = lacked-past (kindIn s) b (ltb-false b (bitsHeld (kindIn s)) t) in let z : _≡_ {A = ℕ} 0 1 = cc in absurd (omega arith)
+  lacked-unset : (b : ℕ) → fieldIn s b ≡ lacked → bitAt b (mapIn s) ≡ false
+  lacked-unset b e =
+      never-so (bitAt b (mapIn s)) (λ t. not-both _ (lacks-exactly (kindIn s) (mapIn s) (a .known) .1 (record { at = b; stands = t; holds = e })) (a .lack))
 
   bit-read : (b : ℕ) (x : Field) → fieldIn s b ≡ x → NamedAt (bitSlots (rulesIn s) (slotsOf (siteIn s))) (siteIn s) b x → BitRead s (siteIn s) b x
-  bit-read b lacked e n = lacked-unset b e (bitAt b (mapIn s)) refl
+  bit-read b lacked e n = lacked-unset b e
   bit-read b (field value low high absence) e n =
       let c = curved (entriesOf (kindIn s)) (mapIn s) in
-      let h = among b value low high absence e (ltb b (bitsHeld (kindIn s))) refl in
+      let h = among (kindIn s) b (λ l. let z : _≡_ {A = ℕ} 0 1 = cc in omega arith) in
       let is = n ∙ slot-at b h in
       let right : bitAt b (mapIn s) ≡ true → (inside low high (numberAt b s) ≡ true) × (isUsual absence (numberAt b s) ≡ false) =
-      λ t. right-number _ _ (rw e at (number-at b h t)) in
+      λ t. value-taken _ _ (rw e at (number-at b h t)) in
       record {
         standing-is = λ t. rw t at is;
         at-least = λ t. leb-true low (numberAt b s) (and-left (leb low (numberAt b s)) _ (right t .0));
@@ -342,7 +305,7 @@ module _ (s : List ℕ) (a : Accepted s) where
   fields-in : FieldsRead s (siteIn s) (lengthIn s)
   fields-in =
       let c = curved (entriesOf (kindIn s)) (mapIn s) in
-      let none : (b : ℕ) → bitAt b (mapIn s) ≡ true → fieldIn s b ≡ lacked → ⊥ = λ b t e. not-both _ t (lacked-unset b e _ refl) in
+      let none : (b : ℕ) → bitAt b (mapIn s) ≡ true → fieldIn s b ≡ lacked → ⊥ = λ b t e. not-both _ t (lacked-unset b e) in
       record {
         kind-is = refl;
         bits = λ b. bit-read b (fieldIn s b) refl (named-at (rowsOf (kindIn s)) _ (siteIn s) (named (kindIn s) (a .known) c (siteIn s)) b);

@@ -1,5 +1,6 @@
--- What a reader of the site crate must believe (Rules, Answers, Record, Writing), document 01's bits by number beside it
--- (Fields), what is proved of them, and last what the public calls promise.
+-- To be believed, since contracts cite it: Rules, Answers, Record and Writing, document 01's bits by number (Fields), and what the
+-- public calls promise (Promises, with `RecordCause` of RecordCauses, which cites `HeadPresent` of Accepted and `mapMatched` of Curve,
+-- and `RecordLength` of Theorems). Everything else is a law about these.
 pub mod Rules
 pub mod Answers
 pub mod Record
@@ -9,6 +10,7 @@ pub mod Digits
 pub mod Tested
 pub mod Accepted
 pub mod Ranges
+pub mod Numbers
 pub mod WriteRead
 pub mod ReadWrite
 pub mod Bytes

@@ -1,21 +1,18 @@
 -- What the public calls promise, in one record each, with equations for the answer and for every lent number afterwards.
 use mathlib.Core.Path.{_≡_, refl, ap, sym, _∙_}
-use mathlib.Core.Bool.{Bool, true, false, cond}
 use mathlib.Core.List.{List}
 use Prim.Native.Nat.{ℕ}
 use lib.ListN.{length}
-use lib.Dec.{eqb}
-use borrow.Author.Tests.{eqb-true}
 use Rattle.site.specs.declared.values.Site.{Site}
 use Rattle.site.specs.declared.values.SiteAnswer.{SiteAnswer}
 use Rattle.site.specs.declared.values.SiteAnswer.the-variants.{Read, Refused}
 use Rattle.site.specs.declared.values.WriteAnswer.{WriteAnswer}
 use Rattle.site.specs.declared.values.WriteAnswer.the-variants.{Written, Unwritten}
-use Rattle.site.specs.Answers.{readNumber, readPlace, writeNumber, writePlace, wroteAnswer}
+use Rattle.site.specs.Answers.{readNumber, readPlace, writeNumber, writePlace}
 use Rattle.site.specs.Record.{refusalOf, readSite}
 use Rattle.site.specs.Fields.{FieldsRead}
 use Rattle.site.specs.Writing.{recordOf, Valid, writeRefusal, writeAnswer, writeInto}
-use Rattle.site.specs.Accepted.{number-read}
+use Rattle.site.specs.Accepted.{number-of-answer, number-read}
 use Rattle.site.specs.ReadWrite.{read-valid}
 use Rattle.site.specs.FieldsRead.{fields-read}
 use Rattle.site.specs.RecordCauses.{RecordCause, refused-by-cause}
@@ -50,16 +47,10 @@ pub record WritesSite (site : Site) (before afterwards : List ℕ) (answer : Wri
   pub place-is : writePlace answer ≡ 0
   pub buffer-is : afterwards ≡ writeInto site before
 
-number-wrote : (number n : ℕ) → writeNumber (wroteAnswer number n) ≡ number
-number-wrote number n = by (eqb number 0) refl
-  where
-    by : (b : Bool) → eqb number 0 ≡ b → writeNumber (cond b (Written n) (Unwritten number)) ≡ number
-    by true e = sym (eqb-true number 0 e)
-    by false e = refl
-
 pub number-written : (site : Site) (room : ℕ) → writeNumber (writeAnswer site room) ≡ writeRefusal site room
 unfolding writeAnswer
-number-written site room = number-wrote (writeRefusal site room) (length (recordOf site))
+number-written site room =
+    number-of-answer writeNumber (writeRefusal site room) (Written (length (recordOf site))) (Unwritten (writeRefusal site room)) refl refl
 
 pub writes-site : (site : Site) (before afterwards : List ℕ) (answer : WriteAnswer)
     → answer ≡ writeAnswer site (length before) → afterwards ≡ writeInto site before

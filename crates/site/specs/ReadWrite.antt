@@ -16,15 +16,17 @@ use Rattle.site.specs.declared.values.Slot.the-variants.{Absent, Number}
 use Rattle.site.specs.declared.values.Site.{Site}
 use Rattle.site.specs.declared.values.SiteAnswer.the-variants.{Read}
 use Rattle.site.specs.Rules.{entriesOf, lastKind, slotCount, allows, absentOf, needed, bits, settle, absent, holds}
-use Rattle.site.specs.Record.{word, bitOf, restOf, stands, lackedBitStands, neededBitAbsent, anyField, lacks, misses, curved, rulesRead, words, valueNumber, fieldNumber, fieldValue, after, fieldsNumber, fieldsValues, siteOf, kindIn, mapIn, rulesIn, lengthIn, siteIn, readSite}
+use Rattle.site.specs.Record.{word, bitOf, restOf, stands, lackedBitStands, neededBitAbsent, anyField, lacks, misses}
+use Rattle.site.specs.Record.{curved, rulesRead, words, valueNumber, fieldNumber, fieldValue, after, fieldsNumber}
+use Rattle.site.specs.Record.{fieldsValues, siteOf, kindIn, mapIn, rulesIn, lengthIn, siteIn, readSite}
 use Rattle.site.specs.Writing.{slotsOf, curveHeld, rulesHeld, fits, allFit, slotBit, mapOf, fieldBytes, bytesOf, recordBy, recordOf, sound, Valid}
 use Rattle.laws.specs.Truth.{and-left, and-right, or-left, or-right, both-zero}
 use Rattle.site.specs.Digits.{Bytes, digit-whole, digit-most, bytes-of-word}
-use Rattle.site.specs.Tested.{right, rulesRight, entryRight, entriesRight, bits-most, tested-rules}
+use Rattle.site.specs.Tested.{right, entryRight, bits-most, tested-rules, every}
 use Rattle.site.specs.Accepted.{Accepted, reading}
 
 -- a value that stands without refusal is allowed, and is no default
-value-taken : (a d : Bool) → _≡_ {A = ℕ} (cond a (cond d 9 0) 8) 0 → (a ≡ true) × (d ≡ false)
+pub value-taken : (a d : Bool) → _≡_ {A = ℕ} (cond a (cond d 9 0) 8) 0 → (a ≡ true) × (d ≡ false)
 value-taken true true e = let z : ⊥ = omega arith in absurd z
 value-taken true false e = (refl, refl)
 value-taken false d e = let z : ⊥ = omega arith in absurd z
@@ -75,9 +77,9 @@ record RewrittenFields (rules : List Rule) (map : ℕ) (s : List ℕ) : Type 0 w
   pub bytes : Bytes s → bytesOf rules (fieldsValues rules map s) ≡ take (2 * words rules map) s
   pub count : length (fieldsValues rules map s) ≡ length rules
 
-rewritten-fields : (rules : List Rule) (map : ℕ) (s : List ℕ) → rulesRight rules ≡ true → 2 * words rules map ≤ length s
+rewritten-fields : (rules : List Rule) (map : ℕ) (s : List ℕ) → every right rules ≡ true → 2 * words rules map ≤ length s
     → lacks rules map ≡ false → misses rules map ≡ false → fieldsNumber rules map s ≡ 0 → RewrittenFields rules map s
-unfolding allFit mapOf bytesOf words anyField fieldsNumber fieldsValues rulesRight
+unfolding allFit mapOf bytesOf words anyField fieldsNumber fieldsValues every
 rewritten-fields [] map s ri h la mi nu =
     record { fit = refl; map-is = omega (arith, ltb-false 0 map la); bytes = λ bytes. refl; count = refl }
 rewritten-fields (rule ∷ rules) map s ri h la mi nu =
@@ -113,9 +115,9 @@ curve-read (OnCurve rule ∷ entries) map s e =
     by false q g later = rw (later g) (or-true (not (absent (fieldValue rule map s))))
 
 -- a record with no bit of the curve is read as a straight road
-straight-read : (entries : List Entry) (map : ℕ) (s : List ℕ) → entriesRight entries ≡ true → curved entries map ≡ false
+straight-read : (entries : List Entry) (map : ℕ) (s : List ℕ) → every entryRight entries ≡ true → curved entries map ≡ false
     → curveHeld entries (fieldsValues (settle false entries) map s) ≡ false
-unfolding anyField curveHeld fieldsValues entriesRight
+unfolding anyField curveHeld fieldsValues every
 straight-read [] map s r e = refl
 straight-read (Always rule ∷ entries) map s r e = straight-read entries (restOf rule map) (after rule map s) (and-right (entryRight (Always rule)) _ r) e
 straight-read (OnCurve rule ∷ entries) map s r e =
@@ -157,7 +159,8 @@ header (k ∷ s) bytes h = ap (λ (l : List ℕ). k ∷ l) (bytes-of-word s (λ 
 module _ (s : List ℕ) (a : Accepted s) where
   fields : RewrittenFields (rulesIn s) (mapIn s) (drop 3 s)
   fields =
-      rewritten-fields (rulesIn s) (mapIn s) (drop 3 s) (tested-rules _ _ (a .known) .rights) (a .full) (a .lack) (a .miss) (a .no-field-refused)
+      let full : 2 * words (rulesIn s) (mapIn s) ≤ length (drop 3 s) = omega (arith, a .full, length-drop 3 s) in
+      rewritten-fields (rulesIn s) (mapIn s) (drop 3 s) (tested-rules _ _ (a .known) .rights) full (a .lack) (a .miss) (a .no-field-refused)
 
   pub slots-again : slotsOf (siteIn s) ≡ fieldsValues (rulesIn s) (mapIn s) (drop 3 s)
   slots-again = slots-of-site (kindIn s) _ (fields .count ∙ tested-rules _ _ (a .known) .count)

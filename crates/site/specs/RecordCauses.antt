@@ -1,29 +1,28 @@
 -- Document 01's causes to refuse the bytes that a record starts, 1 and 5 to 9, in its own words and order and by bit number.
 -- The site reader has a number for them exactly where that cause is the first.
 use mathlib.Core.Path.{_≡_, refl, ap, sym, _∙_}
-use mathlib.Core.Bool.{Bool, true, false, cond, not}
+use mathlib.Core.Bool.{Bool, true, false, cond, not, Bool·not-not}
 use mathlib.Core.List.{List}
 use mathlib.Core.Logic.{_↔_}
-use Prim.Native.Nat.{ℕ, _*_, _<_, _≤_}
+use Prim.Native.Nat.{ℕ, _<_, _≤_}
 use native.Mathlib.Omega.{arith}
-use lib.ListN.{length, drop, length-drop}
-use lib.Dec.{ltb, eqb}
-use borrow.Author.Tests.{ltb-true, ltb-false, lt-ltb, le-ltb, eqb-true, eqb-false, ne-eqb}
+use lib.ListN.{length, drop}
+use lib.Dec.{eqb}
+use borrow.Author.Tests.{eqb-true, eqb-false, ne-eqb}
 use Rattle.site.specs.declared.values.SiteAnswer.the-variants.{Refused}
 use Rattle.site.specs.Rules.{lastKind}
 use Rattle.site.specs.Answers.{readNumber}
-use Rattle.site.specs.Record.{lacks, misses, words, fieldsNumber, kindIn, mapIn, rulesIn, recordNumber, refusalOf, readSite}
+use Rattle.site.specs.Record.{lacks, misses, words, fieldsNumber, kindIn, mapIn, rulesIn, refusalOf, readSite}
 use Rattle.site.specs.Fields.{lacked, mapBits, fieldIn, bitAt, standing, numberAt, fieldsEnd, inRange, spellsDefault}
 use Rattle.laws.specs.Truth.{not-both}
-use Rattle.site.specs.Accepted.{accepted, accept, number-read}
-use Rattle.site.specs.BitLaws.{bitNumber, first-refused, refused-first}
+use Rattle.site.specs.Accepted.{HeadPresent, Tried, head-short, kind-unknown, map-lacks, map-misses, fields-short}
+use Rattle.site.specs.Accepted.{fields-tell, tried, tried-number, accepted, accept, number-read}
+use Rattle.site.specs.Tested.{never-so}
+use Rattle.site.specs.ReadWrite.{value-taken}
+use Rattle.site.specs.BitLaws.{bitNumber, BitsTell, none-refused, first-refused, refused-first}
 use Rattle.site.specs.Curve.{mapMatched, misses-by-bits}
-use Rattle.site.specs.FieldsRead.{rulesAt, bitsHeld, each-has-bit, lacked-past, by-bits, lacks-exactly, words-standing, wrongNumber, wrong-number, right-number, number-of}
-
--- "kind and map present (1), 5": a kind that document 01 has
-pub record HeadPresent (s : List ℕ) : Type 0 where
-  pub long : 3 ≤ length s
-  pub known : kindIn s ≤ lastKind
+use Rattle.site.specs.FieldsRead.{rulesAt, bitsHeld, each-has-bit, among, by-bits, fields-by-bits, lacks-exactly}
+use Rattle.site.specs.FieldsRead.{words-standing, wrongNumber, wrong-number, number-of}
 
 -- no bit stands that the kind lacks
 abbrev pub NoneLacked : List ℕ → Type 0
@@ -75,12 +74,14 @@ module _ (s : List ℕ) where
     lacks-none : lacks (rulesIn s) (mapIn s) ≡ false → NoneLacked s
     lacks-none e b t l = not-both _ (lacks-exactly (kindIn s) (mapIn s) (head .known) .1 (record { at = b; stands = t; holds = l })) e
 
-    none-lacks : NoneLacked s → (lack : Bool) → lacks (rulesIn s) (mapIn s) ≡ lack → lack ≡ false
-    none-lacks none true e = let r = lacks-exactly (kindIn s) (mapIn s) (head .known) .0 e in absurd (none (r .at) (r .stands) (r .holds))
-    none-lacks none false e = refl
+    none-lacks : NoneLacked s → lacks (rulesIn s) (mapIn s) ≡ false
+    none-lacks none = never-so _ (λ e. let r = lacks-exactly (kindIn s) (mapIn s) (head .known) .0 e in none (r .at) (r .stands) (r .holds))
 
     missing : misses (rulesIn s) (mapIn s) ≡ not (mapMatched (kindIn s) (mapIn s))
     missing = misses-by-bits (kindIn s) (mapIn s) (head .known)
+
+    matching : mapMatched (kindIn s) (mapIn s) ≡ not (misses (rulesIn s) (mapIn s))
+    matching = rw missing (sym (Bool·not-not _))
 
     counted : NoneLacked s → words (rulesIn s) (mapIn s) ≡ standing mapBits (mapIn s)
     counted none = words-standing (kindIn s) (mapIn s) (head .known) none
@@ -93,15 +94,12 @@ module _ (s : List ℕ) where
       where
         right : (c : ℕ) → c < b → bitAt c (mapIn s) ≡ true
             → (inRange (fieldIn s c) (numberAt c s) ≡ true) × (spellsDefault (fieldIn s c) (numberAt c s) ≡ false)
-        right c h t = right-number _ _ (rw t at (sym (refused-at c) ∙ below c h))
+        right c h t = value-taken _ _ (rw t at (sym (refused-at c) ∙ below c h))
 
-    field-cause : (number : ℕ) → (number ≡ 0 → ⊥) → fieldsNumber (rulesIn s) (mapIn s) (drop 3 s) ≡ number → RecordCause s number
-    field-cause number ne e =
-        let n = bitsHeld (kindIn s) in
-        let g = rulesAt (kindIn s) true in
-        let q = sym (by-bits (kindIn s) (mapIn s) (drop 3 s) (map-right .head .known) .number) ∙ e in
-        let r = first-refused n g (mapIn s) (drop 3 s) number (each-has-bit (kindIn s) true) ne q in
-        by (r .at) (right-below (r .at) (r .below)) _ _ _ refl refl refl (sym (refused-at (r .at)) ∙ r .number-is)
+    field-cause : {number : ℕ} → (number ≡ 0 → ⊥) → BitsTell (bitsHeld (kindIn s)) (rulesAt (kindIn s) true) (mapIn s) (drop 3 s) number
+        → RecordCause s number
+    field-cause ne (none-refused all) = absurd (ne refl)
+    field-cause {number} ne (first-refused some b is below) = by b (right-below b below) _ _ _ refl refl refl (sym (refused-at b) ∙ is)
       where
         by : (b : ℕ) → RightBelow s b → (t i d : Bool) → bitAt b (mapIn s) ≡ t → inRange (fieldIn s b) (numberAt b s) ≡ i
             → spellsDefault (fieldIn s b) (numberAt b s) ≡ d → cond t (cond i (cond d 9 0) 8) 0 ≡ number → RecordCause s number
@@ -110,50 +108,20 @@ module _ (s : List ℕ) where
         by b r true false d p q w z = rw (← z) (field-outside b r p q)
         by b r false i d p q w z = absurd (ne (sym z))
 
-  -- all fields present, then field by field
-  abbrev fieldsRefusal : ℕ
-  fieldsRefusal = cond (ltb (length (drop 3 s)) (2 * words (rulesIn s) (mapIn s))) 1 (fieldsNumber (rulesIn s) (mapIn s) (drop 3 s))
+  map-right : (head : HeadPresent s) → lacks (rulesIn s) (mapIn s) ≡ false → misses (rulesIn s) (mapIn s) ≡ false → MapRight s
+  map-right h l m = record { head = h; none-lacked = lacks-none h l; all-matched = matching h ∙ ap not m }
 
-  map-cause : (head : HeadPresent s) (number : ℕ) → lacks (rulesIn s) (mapIn s) ≡ false → (number ≡ 0 → ⊥)
-      → cond (misses (rulesIn s) (mapIn s)) 7 fieldsRefusal ≡ number → RecordCause s number
-  map-cause head number l ne e = by (mapMatched (kindIn s) (mapIn s)) _ refl refl (rw (missing head) at e)
-    where
-      none : NoneLacked s
-      none = lacks-none head l
-
-      by : (m f : Bool) → mapMatched (kindIn s) (mapIn s) ≡ m → ltb (length (drop 3 s)) (2 * words (rulesIn s) (mapIn s)) ≡ f
-          → cond (not m) 7 (cond f 1 (fieldsNumber (rulesIn s) (mapIn s) (drop 3 s))) ≡ number → RecordCause s number
-      by false f p q z = rw (← z) (bit-missing head none p)
-      by true true p q z =
-          let right : MapRight s = record { head = head; none-lacked = none; all-matched = p } in
-          let cut = ltb-true (length (drop 3 s)) (2 * words (rulesIn s) (mapIn s)) q in
-          rw (← z) (field-past right (omega (arith, head .long, length-drop 3 s, counted head none)))
-      by true false p q z =
-          let right : MapRight s = record { head = head; none-lacked = none; all-matched = p } in
-          let full = ltb-false (length (drop 3 s)) (2 * words (rulesIn s) (mapIn s)) q in
-          field-cause right (omega (arith, head .long, length-drop 3 s, counted head none)) number ne z
-
-  record-cause : (number : ℕ) → refusalOf s ≡ number → (number ≡ 0 → ⊥) → RecordCause s number
-  unfolding refusalOf recordNumber
-  record-cause number e ne = by (ltb (length s) 3) (ltb lastKind (kindIn s)) (lacks (rulesIn s) (mapIn s)) refl refl refl e
-    where
-      by : (a b c : Bool) → ltb (length s) 3 ≡ a → ltb lastKind (kindIn s) ≡ b → lacks (rulesIn s) (mapIn s) ≡ c
-          → cond a 1 (cond b 5 (cond c 6 (cond (misses (rulesIn s) (mapIn s)) 7 fieldsRefusal))) ≡ number
-          → RecordCause s number
-      by true b c p q r z = rw (← z) (map-past (ltb-true _ _ p))
-      by false true c p q r z = rw (← z) (kind-above (ltb-false _ _ p) (ltb-true _ _ q))
-      by false false true p q r z =
-          let head : HeadPresent s = record { long = ltb-false _ _ p; known = ltb-false _ _ q } in
-          let w = lacks-exactly (kindIn s) (mapIn s) (head .known) .0 r in
-          rw (← z) (bit-lacked head (w .at) (w .stands) (w .holds))
-      by false false false p q r z = map-cause (record { long = ltb-false _ _ p; known = ltb-false _ _ q }) number r ne z
+  cause-of : {n : ℕ} → Tried s n → (n ≡ 0 → ⊥) → RecordCause s n
+  cause-of (head-short h) ne = map-past h
+  cause-of (kind-unknown l k) ne = kind-above l k
+  cause-of (map-lacks h l) ne = let w = lacks-exactly (kindIn s) (mapIn s) (h .known) .0 l in bit-lacked h (w .at) (w .stands) (w .holds)
+  cause-of (map-misses h l m) ne = bit-missing h (lacks-none h l) (matching h ∙ ap not m)
+  cause-of (fields-short h l m f) ne = field-past (map-right h l m) (omega (arith, counted h (lacks-none h l)))
+  cause-of (fields-tell h l m f) ne =
+      field-cause (map-right h l m) (omega (arith, counted h (lacks-none h l))) ne (fields-by-bits (kindIn s) (mapIn s) (drop 3 s) (h .known))
 
   -- and a cause tells the number
   module _ (b number : ℕ) (r : RightBelow s b) (stood : bitAt b (mapIn s) ≡ true) where
-    among : (t : Bool) → ltb b (bitsHeld (kindIn s)) ≡ t → b < bitsHeld (kindIn s)
-    among true t = ltb-true b (bitsHeld (kindIn s)) t
-    among false t = absurd (r .map-right .none-lacked b stood (lacked-past (kindIn s) b (ltb-false b (bitsHeld (kindIn s)) t)))
-
     below : (c : ℕ) → c < b → refusedAt c ≡ 0
     below c h = refused-at c ∙ by (bitAt c (mapIn s)) refl
       where
@@ -165,38 +133,30 @@ module _ (s : List ℕ) where
     field-number e ne =
         by-bits (kindIn s) (mapIn s) (drop 3 s) (r .map-right .head .known) .number
         ∙ refused-first (bitsHeld (kindIn s)) (rulesAt (kindIn s) true) (mapIn s) (drop 3 s) number b (each-has-bit (kindIn s) true) ne
-        (among _ refl) (refused-at b ∙ rw stood e) below
+        (among (kindIn s) b (r .map-right .none-lacked b stood)) (refused-at b ∙ rw stood e) below
 
-  head-passed : HeadPresent s → refusalOf s ≡ recordNumber (rulesIn s) (mapIn s) (drop 3 s)
-  unfolding refusalOf
-  head-passed h = rw (le-ltb (length s) 3 (h .long), le-ltb lastKind (kindIn s) (h .known))
-
-  map-passed : (m : MapRight s) → refusalOf s ≡ fieldsRefusal
-  unfolding recordNumber
-  map-passed m =
-      let missed : misses (rulesIn s) (mapIn s) ≡ false = rw (missing (m .head), m .all-matched) in
-      head-passed (m .head) ∙ rw (none-lacks (m .head) (m .none-lacked) _ refl, missed)
-
-  fields-passed : (b : ℕ) → RightBelow s b → refusalOf s ≡ fieldsNumber (rulesIn s) (mapIn s) (drop 3 s)
-  fields-passed b r =
+  fields-told : {n b : ℕ} → RightBelow s b → fieldsNumber (rulesIn s) (mapIn s) (drop 3 s) ≡ n → Tried s n
+  fields-told r e =
       let m = r .map-right in
-      let full : 2 * words (rulesIn s) (mapIn s) ≤ length (drop 3 s) = omega (arith, r .present, length-drop 3 s, counted (m .head) (m .none-lacked)) in
-      map-passed m ∙ rw (le-ltb (length (drop 3 s)) _ full)
+      rw (← e) (fields-tell (m .head) (none-lacks (m .head) (m .none-lacked)) (missing (m .head) ∙ ap not (m .all-matched))
+      (omega (arith, r .present, counted (m .head) (m .none-lacked))))
+
+  tried-of : {n : ℕ} → RecordCause s n → Tried s n
+  tried-of (map-past h) = head-short h
+  tried-of (kind-above h k) = kind-unknown h k
+  tried-of (bit-lacked h b t l) = map-lacks h (lacks-exactly (kindIn s) (mapIn s) (h .known) .1 (record { at = b; stands = t; holds = l }))
+  tried-of (bit-missing h l m) = map-misses h (none-lacks h l) (missing h ∙ ap not m)
+  tried-of (field-past m h) =
+      fields-short (m .head) (none-lacks (m .head) (m .none-lacked)) (missing (m .head) ∙ ap not (m .all-matched))
+      (omega (arith, counted (m .head) (m .none-lacked)))
+  tried-of (field-outside b r t o) = fields-told r (field-number b 8 r t (rw o) (λ z. omega arith))
+  tried-of (field-spelled b r t i d) = fields-told r (field-number b 9 r t (rw (i, d)) (λ z. omega arith))
 
   pub cause-number : {n : ℕ} → RecordCause s n → refusalOf s ≡ n
-  unfolding refusalOf recordNumber
-  cause-number (map-past h) = rw (lt-ltb _ _ h)
-  cause-number (kind-above h k) = rw (le-ltb _ _ h, lt-ltb _ _ k)
-  cause-number (bit-lacked h b t l) =
-      head-passed h ∙ rw (lacks-exactly (kindIn s) (mapIn s) (h .known) .1 (record { at = b; stands = t; holds = l }))
-  cause-number (bit-missing h l m) =
-      let missed : misses (rulesIn s) (mapIn s) ≡ true = rw (missing h, m) in
-      head-passed h ∙ rw (none-lacks h l _ refl, missed)
-  cause-number (field-past m h) =
-      let cut : length (drop 3 s) < 2 * words (rulesIn s) (mapIn s) = omega (arith, m .head .long, length-drop 3 s, counted (m .head) (m .none-lacked)) in
-      map-passed m ∙ rw (lt-ltb _ _ cut)
-  cause-number (field-outside b r t o) = fields-passed b r ∙ field-number b 8 r t (rw o) (λ z. omega arith)
-  cause-number (field-spelled b r t i d) = fields-passed b r ∙ field-number b 9 r t (rw (i, d)) (λ z. omega arith)
+  cause-number c = tried-number s (tried-of c)
+
+  record-cause : (number : ℕ) → refusalOf s ≡ number → (number ≡ 0 → ⊥) → RecordCause s number
+  record-cause number e = cause-of (rw e at (tried s))
 
   -- THE NUMBER IS THE FIRST CAUSE'S
   pub record-cause-exactly : (n : ℕ) → ((refusalOf s ≡ n) × (n ≡ 0 → ⊥)) ↔ RecordCause s n

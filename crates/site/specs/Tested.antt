@@ -16,6 +16,19 @@ use Rattle.site.specs.Rules.{entriesOf, lastKind, slotCount, allows, abs
 use Rattle.site.specs.Writing.{fits}
 use Rattle.laws.specs.Truth.{and-left, and-right}
 
+-- a kind is one of four
+pub by-kind : (P : ℕ → Type 0) → P 0 → P 1 → P 2 → P 3 → (kind : ℕ) → kind ≤ lastKind → P kind
+by-kind P segment threeLegStop fourLegStop signal zero h = segment
+by-kind P segment threeLegStop fourLegStop signal (suc zero) h = threeLegStop
+by-kind P segment threeLegStop fourLegStop signal (suc (suc zero)) h = fourLegStop
+by-kind P segment threeLegStop fourLegStop signal (suc (suc (suc zero))) h = signal
+by-kind P segment threeLegStop fourLegStop signal (suc (suc (suc (suc kind)))) h = absurd (omega arith)
+
+-- a test that never holds
+pub never-so : (a : Bool) → (a ≡ true → ⊥) → a ≡ false
+never-so true never = absurd (never refl)
+never-so false never = refl
+
 -- what an absent field is read as is within its rule, unless the field is needed: a default lies in its range
 abbrev pub right : Rule → Bool
 right rule = needed rule || fits rule (absentOf rule)
@@ -24,13 +37,9 @@ right rule = needed rule || fits rule (absentOf rule)
 abbrev pub entryRight : Entry → Bool
 entryRight entry = right (ruleOf entry) && (not (onCurve entry) || eqb (bits (ruleOf entry)) 1)
 
-unfoldable pub entriesRight : List Entry → Bool
-entriesRight [] = true
-entriesRight (entry ∷ entries) = entryRight entry && entriesRight entries
-
-unfoldable pub rulesRight : List Rule → Bool
-rulesRight [] = true
-rulesRight (rule ∷ rules) = right rule && rulesRight rules
+unfoldable pub every : {A : Type 0} → (A → Bool) → List A → Bool
+every test [] = true
+every test (x ∷ xs) = test x && every test xs
 
 -- the bits of a kind
 unfoldable pub bitCount : List Rule → ℕ
@@ -54,24 +63,19 @@ top (Optional low high) = high
 top (Default low high usual) = high
 
 -- two bytes hold every number that a rule takes, and no rule takes 65,535
-unfoldable pub topsLow : List Rule → Bool
-topsLow [] = true
-topsLow (rule ∷ rules) = ltb (top rule) 65535 && topsLow rules
+abbrev pub topLow : Rule → Bool
+topLow rule = ltb (top rule) 65535
 
 -- a rule for each slot, at most 15 bits, and where a kind has a curve, a field that every curve needs
 abbrev pub tested : List Entry → Bool
 tested entries =
     eqb (length entries) slotCount
     && (leb (bitCount (settle true entries)) 15
-    && (entriesRight entries && ((not (hasCurve entries) || needsCurve entries) && topsLow (settle true entries))))
+    && (every entryRight entries && ((not (hasCurve entries) || needsCurve entries) && every (λ entry. topLow (ruleOf entry)) entries)))
 
 pub table-tested : (kind : ℕ) → kind ≤ lastKind → tested (entriesOf kind) ≡ true
-unfolding entriesOf entriesRight bitCount hasCurve needsCurve topsLow
-table-tested zero h = refl
-table-tested (suc zero) h = refl
-table-tested (suc (suc zero)) h = refl
-table-tested (suc (suc (suc zero))) h = refl
-table-tested (suc (suc (suc (suc kind)))) h = let z : ⊥ = omega arith in absurd z
+unfolding entriesOf every bitCount hasCurve needsCurve
+table-tested = by-kind (λ kind. tested (entriesOf kind) ≡ true) refl refl refl refl
 
 not-or : (a b : Bool) → (not a || b) ≡ true → a ≡ true → b ≡ true
 not-or true b e p = e
@@ -89,48 +93,38 @@ settled-right curved (Always rule) e = and-left (right rule) _ e
 settled-right true (OnCurve rule) e = and-left (right rule) _ e
 settled-right false (OnCurve rule) e = refl
 
-settle-right : (curved : Bool) (entries : List Entry) → entriesRight entries ≡ true
-    → rulesRight (settle curved entries) ≡ true
-unfolding entriesRight rulesRight
-settle-right curved [] e = refl
-settle-right curved (entry ∷ entries) e =
-    rw (
-      settled-right curved entry (and-left (entryRight entry) (entriesRight entries) e),
-      settle-right curved entries (and-right (entryRight entry) (entriesRight entries) e),
-    )
+settled-low : (curved : Bool) (entry : Entry) → topLow (ruleOf entry) ≡ true → topLow (settled curved entry) ≡ true
+settled-low curved (Always rule) e = e
+settled-low true (OnCurve rule) e = e
+settled-low false (OnCurve rule) e = refl
 
-settle-bits : (curved : Bool) (entries : List Entry) → entriesRight entries ≡ true
+settle-every : (test : Entry → Bool) (passed : Rule → Bool) (curved : Bool)
+    → ((entry : Entry) → test entry ≡ true → passed (settled curved entry) ≡ true)
+    → (entries : List Entry) → every test entries ≡ true → every passed (settle curved entries) ≡ true
+unfolding every
+settle-every test passed curved law [] e = refl
+settle-every test passed curved law (entry ∷ entries) e =
+    rw (law entry (and-left (test entry) _ e), settle-every test passed curved law entries (and-right (test entry) _ e))
+
+settle-bits : (curved : Bool) (entries : List Entry) → every entryRight entries ≡ true
     → bitCount (settle curved entries) ≡ bitCount (settle true entries)
-unfolding entriesRight bitCount
+unfolding every bitCount
 settle-bits curved [] e = refl
 settle-bits curved (entry ∷ entries) e =
-    let r : entryRight entry ≡ true = and-left (entryRight entry) (entriesRight entries) e in
+    let r : entryRight entry ≡ true = and-left (entryRight entry) (every entryRight entries) e in
     let p = settled-bits curved entry r in
     let q = settled-bits true entry r in
-    let t = settle-bits curved entries (and-right (entryRight entry) (entriesRight entries) e) in
+    let t = settle-bits curved entries (and-right (entryRight entry) (every entryRight entries) e) in
     omega arith
-
-settle-tops : (curved : Bool) (entries : List Entry) → topsLow (settle true entries) ≡ true
-    → topsLow (settle curved entries) ≡ true
-unfolding topsLow
-settle-tops curved [] e = refl
-settle-tops curved (Always rule ∷ entries) e =
-    rw (
-      and-left (ltb (top rule) 65535) (topsLow (settle true entries)) e,
-      settle-tops curved entries (and-right (ltb (top rule) 65535) (topsLow (settle true entries)) e),
-    )
-settle-tops true (OnCurve rule ∷ entries) e = e
-settle-tops false (OnCurve rule ∷ entries) e =
-    settle-tops false entries (and-right (ltb (top rule) 65535) (topsLow (settle true entries)) e)
 
 -- what the test says of a kind, on a curve or not
 pub record TestedRules (entries : List Entry) (curved : Bool) : Type 0 where
   pub count : length (settle curved entries) ≡ slotCount
   pub few : bitCount (settle curved entries) ≤ 15
-  pub rights : rulesRight (settle curved entries) ≡ true
-  pub entries-right : entriesRight entries ≡ true
+  pub rights : every right (settle curved entries) ≡ true
+  pub entries-right : every entryRight entries ≡ true
   pub needs-curve : hasCurve entries ≡ true → needsCurve entries ≡ true
-  pub tops-low : topsLow (settle curved entries) ≡ true
+  pub tops-low : every topLow (settle curved entries) ≡ true
 
 pub tested-rules : (kind : ℕ) (curved : Bool) → kind ≤ lastKind → TestedRules (entriesOf kind) curved
 tested-rules kind curved h =
@@ -140,18 +134,18 @@ tested-rules kind curved h =
     let t1 = and-right (eqb (length entries) slotCount) _ t in
     let b = and-left (leb (bitCount (settle true entries)) 15) _ t1 in
     let t2 = and-right (leb (bitCount (settle true entries)) 15) _ t1 in
-    let r = and-left (entriesRight entries) _ t2 in
-    let t3 = and-right (entriesRight entries) _ t2 in
+    let r = and-left (every entryRight entries) _ t2 in
+    let t3 = and-right (every entryRight entries) _ t2 in
     let n = and-left (not (hasCurve entries) || needsCurve entries) _ t3 in
     let top = and-right (not (hasCurve entries) || needsCurve entries) _ t3 in
     let few : bitCount (settle true entries) ≤ 15 = leb-true (bitCount (settle true entries)) 15 b in
     record {
       count = length-map entries (settled curved) ∙ eqb-true (length entries) slotCount c;
       few = rw (settle-bits curved entries r) few;
-      rights = settle-right curved entries r;
+      rights = settle-every entryRight right curved (settled-right curved) entries r;
       entries-right = r;
       needs-curve = not-or (hasCurve entries) (needsCurve entries) n;
-      tops-low = settle-tops curved entries top;
+      tops-low = settle-every (λ entry. topLow (ruleOf entry)) topLow curved (settled-low curved) entries top;
     }
 
 pub entries-count : (kind : ℕ) → kind ≤ lastKind → length (entriesOf kind) ≡ slotCount

@@ -5,9 +5,9 @@ use mathlib.Core.Path.{_≡_, refl, ap, _∙_}
 use mathlib.Core.Bool.{Bool, true, false, cond, _||_, not, true≢false}
 use mathlib.Core.List.{List, [], _∷_, _++_}
 use mathlib.Core.Logic.{_↔_}
-use Prim.Native.Nat.{ℕ, zero, suc, _+_, _/_, _%_, _<_, _≤_}
+use Prim.Native.Nat.{ℕ, _+_, _/_, _%_, _<_, _≤_}
 use native.Mathlib.Omega.{arith}
-use lib.ListN.{length, take, drop, length-drop}
+use lib.ListN.{length, take, drop}
 use lib.Seq.{length-take-le}
 use lib.Dec.{leb, eqb}
 use borrow.Author.Tests.{leb-true, leb-false, le-leb, lt-leb, eqb-true}
@@ -19,7 +19,7 @@ use Rattle.site.specs.Rules.{entriesOf, lastKind, bits}
 use Rattle.site.specs.Record.{anyField, misses, curved, rulesRead, restOf, words, kindIn, mapIn, rulesIn, readSite}
 use Rattle.site.specs.Writing.{recordOf, sound, Valid, writeRefusal, writeAnswer, writeInto}
 use Rattle.site.specs.Digits.{Bytes, digit-most}
-use Rattle.site.specs.Tested.{bitCount, tested-rules}
+use Rattle.site.specs.Tested.{bitCount, by-kind, never-so, tested-rules}
 use Rattle.site.specs.Accepted.{reading}
 use Rattle.site.specs.WriteRead.{write-read}
 use Rattle.site.specs.ReadWrite.{read-valid, read-write}
@@ -42,11 +42,13 @@ both-stand x y later m = by (eqb x 1) (eqb y 1) refl refl m
 
 words-least : (kind map : ℕ) → kind ≤ lastKind → misses (rulesRead kind map) map ≡ false → 2 ≤ words (rulesRead kind map) map
 unfolding entriesOf anyField words
-words-least zero map h m = omega (arith, both-stand (map % 2) (map / 2 % 2) _ m)
-words-least (suc zero) map h m = omega (arith, both-stand (map % 2) (map / 2 / 1 % 2) _ m)
-words-least (suc (suc zero)) map h m = omega (arith, both-stand (map % 2) (map / 2 / 1 % 2) _ m)
-words-least (suc (suc (suc zero))) map h m = omega (arith, both-stand (map % 2) (map / 2 / 1 % 2) _ m)
-words-least (suc (suc (suc (suc kind)))) map h m = let z : ⊥ = omega arith in absurd z
+words-least kind map =
+    by-kind (λ kind. misses (rulesRead kind map) map ≡ false → 2 ≤ words (rulesRead kind map) map)
+    (λ m. omega (arith, both-stand (map % 2) (map / 2 % 2) _ m))
+    (λ m. omega (arith, both-stand (map % 2) (map / 2 / 1 % 2) _ m))
+    (λ m. omega (arith, both-stand (map % 2) (map / 2 / 1 % 2) _ m))
+    (λ m. omega (arith, both-stand (map % 2) (map / 2 / 1 % 2) _ m))
+    kind
 
 -- kind, map and 15 fields
 abbrev pub longest : ℕ
@@ -67,19 +69,16 @@ read-length s site n e =
     record {
       at-least = omega (arith, r .length-is, words-least (kindIn s) (mapIn s) (a .known) (a .miss));
       at-most = omega (arith, r .length-is);
-      within = omega (arith, r .length-is, a .full, a .long, length-drop 3 s);
+      within = omega (arith, r .length-is, a .full);
     }
 
 -- the writer refuses with 8 the sites that are not valid, and these are the sites that no record reads as
 module _ (site : Site) where
   no-record : ((s : List ℕ) (n : ℕ) → Bytes s → readSite s ≡ Read site n → ⊥) → sound site ≡ false
-  no-record never = by (sound site) refl
-    where
-      by : (b : Bool) → sound site ≡ b → b ≡ false
-      by true e =
-          let v : Valid site = record { is-sound = e } in
-          absurd (never (recordOf site ++ []) (length (recordOf site)) (bytes-append (recordOf site) [] (record-bytes site v) bytes-nil) (write-read site [] v))
-      by false e = refl
+  no-record never =
+      never-so (sound site) (λ e.
+      let v : Valid site = record { is-sound = e } in
+      never (recordOf site ++ []) (length (recordOf site)) (bytes-append (recordOf site) [] (record-bytes site v) bytes-nil) (write-read site [] v))
 
   pub eight-exactly : (room : ℕ) → (writeRefusal site room ≡ 8) ↔ ((s : List ℕ) (n : ℕ) → Bytes s → readSite s ≡ Read site n → ⊥)
   unfolding writeRefusal

@@ -16,12 +16,14 @@ use Rattle.site.specs.declared.values.Slot.the-variants.{Absent, Number}
 use Rattle.site.specs.declared.values.Site.{Site}
 use Rattle.site.specs.declared.values.SiteAnswer.the-variants.{Read}
 use Rattle.site.specs.Rules.{entriesOf, lastKind, slotCount, allows, absentOf, needed, lacking, bits, settle, absent, holds}
-use Rattle.site.specs.Record.{bitOf, stands, lackedBitStands, neededBitAbsent, anyField, lacks, misses, curved, rulesRead, words, fieldNumber, fieldValue, after, fieldsNumber, fieldsValues, siteOf, readSite}
+use Rattle.site.specs.Record.{bitOf, stands, lackedBitStands, neededBitAbsent, anyField, lacks, misses, curved, rulesRead}
+use Rattle.site.specs.Record.{words, fieldNumber, fieldValue, after, fieldsNumber, fieldsValues, siteOf, readSite}
 use Rattle.site.specs.Writing.{slotsOf, curveHeld, rulesHeld, fits, allFit, slotBit, mapOf, slotBytes, fieldBytes, bytesOf, recordBy, recordOf, Valid}
 use Rattle.laws.specs.Truth.{and-left, and-right, not-both}
 use Rattle.site.specs.Digits.{digit-low, digit-rest, two-bytes}
 use Rattle.site.specs.Ranges.{valid-fits, valid-kind}
-use Rattle.site.specs.Tested.{right, entryRight, entriesRight, hasCurve, needsCurve, bits-most, allows-bit, needed-bit, tested-rules, entries-count}
+use Rattle.site.specs.Tested.{right, entryRight, hasCurve, needsCurve, bits-most, every}
+use Rattle.site.specs.Tested.{allows-bit, needed-bit, tested-rules, entries-count, never-so}
 use Rattle.site.specs.Accepted.{Accepted, accept}
 
 absent-is : (slot : Slot) → absent slot ≡ true → slot ≡ Absent
@@ -34,13 +36,8 @@ holds-is (Number held) value e = ap Number (sym (eqb-true value held e))
 
 -- a field with a default is not needed
 holds-needed : (rule : Rule) (value : ℕ) → holds (absentOf rule) value ≡ true → needed rule ≡ false
-holds-needed rule value h = by (needed rule) refl
-  where
-    by : (b : Bool) → needed rule ≡ b → b ≡ false
-    by true n =
-        let e : holds (absentOf rule) value ≡ false = ap (λ (slot : Slot). holds slot value) (needed-bit rule n .1) in
-        absurd (true≢false (sym h ∙ e))
-    by false n = refl
+holds-needed rule value h =
+    never-so (needed rule) (λ n. true≢false (sym h ∙ ap (λ (slot : Slot). holds slot value) (needed-bit rule n .1)))
 
 pub slot-bit-most : (rule : Rule) (slot : Slot) → slotBit rule slot ≤ bits rule
 slot-bit-most rule Absent = omega arith
@@ -146,15 +143,15 @@ unfolding recordBy
 length-record rules kind slots l = omega (arith, length-bytes rules slots l)
 
 -- a site without a curve is written with no bit of it
-straight-written : (entries : List Entry) (slots : List Slot) → entriesRight entries ≡ true
+straight-written : (entries : List Entry) (slots : List Slot) → every entryRight entries ≡ true
     → length slots ≡ length entries → curveHeld entries slots ≡ false
     → curved entries (mapOf (settle false entries) slots) ≡ false
-unfolding entriesRight curveHeld anyField mapOf
+unfolding every curveHeld anyField mapOf
 straight-written [] slots r l h = refl
 straight-written (entry ∷ entries) [] r l h = let z : ⊥ = omega arith in absurd z
 straight-written (Always rule ∷ entries) (slot ∷ slots) r l h =
     rw (digit-rest (slotBit rule slot) (bits rule) (mapOf (settle false entries) slots) (slot-bit-most rule slot))
-    (straight-written entries slots (and-right (entryRight (Always rule)) (entriesRight entries) r) (omega arith) h)
+    (straight-written entries slots (and-right (entryRight (Always rule)) (every entryRight entries) r) (omega arith) h)
 straight-written (OnCurve rule ∷ entries) (Absent ∷ slots) r l h =
     let one : bits rule ≡ 1 = eqb-true (bits rule) 1 (and-right (right rule) _ (and-left _ _ r)) in
     rw (
@@ -162,7 +159,7 @@ straight-written (OnCurve rule ∷ entries) (Absent ∷ slots) r l h =
       digit-low 0 1 (mapOf (settle false entries) slots) (omega arith),
       digit-rest 0 1 (mapOf (settle false entries) slots) (omega arith),
     )
-    (straight-written entries slots (and-right (entryRight (OnCurve rule)) (entriesRight entries) r) (omega arith) h)
+    (straight-written entries slots (and-right (entryRight (OnCurve rule)) (every entryRight entries) r) (omega arith) h)
 straight-written (OnCurve rule ∷ entries) (Number value ∷ slots) r l h = absurd (true≢false h)
 
 -- a needed field that is within its rule is written
@@ -219,7 +216,8 @@ curve-kept kind slots hk l f = by (curveHeld (entriesOf kind) slots) refl f
     by true q g = curve-written (entriesOf kind) slots same g (tested-rules kind true hk .needs-curve (held-has (entriesOf kind) slots q))
     by false q g = straight-written (entriesOf kind) slots (tested-rules kind false hk .entries-right) same q
 
-module _ (kind : ℕ) (slots : List Slot) (t : List ℕ) (hk : kind ≤ lastKind) (l : length slots ≡ slotCount) (f : allFit (rulesHeld kind slots) slots ≡ true) where
+module _ (kind : ℕ) (slots : List Slot) (t : List ℕ) (hk : kind ≤ lastKind) (l : length slots ≡ slotCount)
+    (f : allFit (rulesHeld kind slots) slots ≡ true) where
   same-rules : rulesRead kind (mapOf (rulesHeld kind slots) slots) ≡ rulesHeld kind slots
   same-rules = ap (λ (c : Bool). settle c (entriesOf kind)) (curve-kept kind slots hk l f)
 

@@ -3,7 +3,8 @@
 ghost use mathlib.Core.Path.{_≡_};
 ghost use Prim.Native.Nat.{_≤_};
 ghost use lib.ListN.{length};
-ghost use Rattle.site.specs.Rules.{segment, crossing, entriesOf, lastKind, slotCount, inside, allows, absentOf, needed, lacking, bits, ruleOf, onCurve, settled, settle, absent, holds};
+ghost use Rattle.site.specs.Rules.{segment, crossing, entriesOf, lastKind, slotCount, inside, allows, absentOf};
+ghost use Rattle.site.specs.Rules.{needed, lacking, bits, ruleOf, onCurve, settled, settle, absent, holds};
 use crate::values::Slot;
 
 // What a kind says of a field. Ranges are from the first number to the second; the third is the

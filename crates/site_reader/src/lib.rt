@@ -5,14 +5,15 @@ ghost use mathlib.Core.Bool.{cond};
 ghost use lib.ListN.{length, drop};
 ghost use Rattle.site.specs.Rules.{lastKind, slotCount};
 ghost use Rattle.site.specs.Answers.{readAnswer};
-ghost use Rattle.site.specs.Record.{word, bitOf, restOf, stands, lackedBitStands, lacks, neededBitAbsent, misses, curveBitStands, curved, rulesRead, fieldWords, words, valueNumber, fieldNumber, fieldValue, fieldsNumber, fieldsValues, siteOf, recordNumber};
+ghost use Rattle.site.specs.Record.{word, bitOf, restOf, stands, lackedBitStands, lacks, neededBitAbsent, misses, curveBitStands, curved, rulesRead};
+ghost use Rattle.site.specs.Record.{fieldWords, words, valueNumber, fieldNumber, fieldValue, fieldsNumber, fieldsValues, siteOf, recordNumber};
 ghost use Rattle.site.specs.Promises.{ReadsSite};
 use site::rules;
 use site::rules::Entry;
 use site::rules::LAST_KIND;
 use site::rules::Rule;
 use site::rules::SLOTS;
-use site::values::Site;
+use site::values;
 use site::values::SiteAnswer;
 use site::values::Slot;
 
@@ -181,31 +182,12 @@ fn field_value(rule: Rule, map: u16, s: &[u8], at: usize) -> Slot
     }
 }
 
-// The first refusal among the fields, or 0.
-fn fields_number(rules: [Rule; SLOTS], map: u16, s: &[u8]) -> u8
+// The fields one by one: the first refusal, or the site of those that stand and of those that do not, with its record's length.
+fn read_values(kind: u8, rules: [Rule; SLOTS], map: u16, s: &[u8]) -> SiteAnswer
     requires { ⌜ (length rules ≡ slotCount) × (2 * words rules map ≤ length (now s)) ⌝ }
-    ensures { λ r. ⌜ r ≡ fieldsNumber rules map (now (s .entry)) ⌝ }
-{
-    let mut rest = map;
-    let mut at = 0;
-    let mut i = 0;
-    while i < SLOTS {
-        let rule = rules[i];
-        let number = field_number(rule, rest, s, at);
-        if number != 0 {
-            return number;
-        }
-        at += 2 * field_words(rule, rest);
-        rest = rest_of(rule, rest);
-        i += 1;
-    }
-    0
-}
-
-// The slots of the fields that stand, and of those that do not.
-fn fields_values(rules: [Rule; SLOTS], map: u16, s: &[u8]) -> [Slot; SLOTS]
-    requires { ⌜ (length rules ≡ slotCount) × (2 * words rules map ≤ length (now s)) ⌝ }
-    ensures { λ r. ⌜ r ≡ fieldsValues rules map (now (s .entry)) ⌝ }
+    ensures { λ r. ⌜
+        r ≡ readAnswer (fieldsNumber rules map (now (s .entry))) (siteOf kind (fieldsValues rules map (now (s .entry)))) (3 + 2 * words rules map)
+        ⌝ }
 {
     let none = Slot::Absent;
     let mut slots = [none; SLOTS];
@@ -214,62 +196,33 @@ fn fields_values(rules: [Rule; SLOTS], map: u16, s: &[u8]) -> [Slot; SLOTS]
     let mut i = 0;
     while i < SLOTS {
         let rule = rules[i];
+        let number = field_number(rule, rest, s, at);
+        if number != 0 {
+            return SiteAnswer::Refused(number);
+        }
         slots[i] = field_value(rule, rest, s, at);
         at += 2 * field_words(rule, rest);
         rest = rest_of(rule, rest);
         i += 1;
     }
-    slots
-}
-
-// A site of its kind and its slots.
-pub fn site_of(kind: u8, slots: [Slot; SLOTS]) -> Site
-    ensures { λ r. ⌜ r ≡ siteOf kind slots ⌝ }
-{
-    Site {
-        kind,
-        traffic: slots[0],
-        length: slots[1],
-        minor_traffic: slots[2],
-        observed: slots[3],
-        lane_width: slots[4],
-        shoulder_width: slots[5],
-        shoulder_type: slots[6],
-        curve_length: slots[7],
-        radius: slots[8],
-        spiral_ends: slots[9],
-        deficiency: slots[10],
-        grade: slots[11],
-        driveways: slots[12],
-        two_way_lane: slots[13],
-        passing: slots[14],
-        hazard_rating: slots[15],
-        skew: slots[16],
-        left_lanes: slots[17],
-        right_lanes: slots[18],
-        limited_sight: slots[19],
-    }
+    SiteAnswer::Read(values::site_of(kind, slots), 3 + at)
 }
 
 // A record whose kind and map are there, by the rules that they choose: s is what follows the map.
 fn read_fields(kind: u8, rules: [Rule; SLOTS], map: u16, s: &[u8]) -> SiteAnswer
     requires { ⌜ length rules ≡ slotCount ⌝ }
-    ensures { λ r. ⌜ r ≡ readAnswer (recordNumber rules map (now (s .entry))) (siteOf kind (fieldsValues rules map (now (s .entry)))) (3 + 2 * words rules map) ⌝ }
+    ensures { λ r. ⌜
+        r ≡ readAnswer (recordNumber rules map (now (s .entry))) (siteOf kind (fieldsValues rules map (now (s .entry)))) (3 + 2 * words rules map)
+        ⌝ }
 {
     let fault = map_number(rules, map);
     if fault != 0 {
         return SiteAnswer::Refused(fault);
     }
-    let n = 2 * count_words(rules, map);
-    if s.len() < n {
+    if s.len() < 2 * count_words(rules, map) {
         return SiteAnswer::Refused(1);
     }
-    let number = fields_number(rules, map, s);
-    if number != 0 {
-        return SiteAnswer::Refused(number);
-    }
-    let slots = fields_values(rules, map, s);
-    SiteAnswer::Read(site_of(kind, slots), 3 + n)
+    read_values(kind, rules, map, s)
 }
 
 // The rules by which a kind and a map are read.

@@ -19,7 +19,8 @@ use Rattle.laws.specs.Walk.{next, at-end}
 use Rattle.laws.specs.Stores.{sets-more}
 
 -- what a walk of two lists, one element of each at a turn, says of them from place i on
-module _ {A B C : Type 0} (walk : List A → List B → C) (xs : List A) (ys : List B) (i : ℕ) (count : length xs ≡ slotCount) (count′ : length ys ≡ slotCount) where
+module _ {A B C : Type 0} (walk : List A → List B → C) (xs : List A) (ys : List B) (i : ℕ) (count : length xs ≡ slotCount)
+    (count′ : length ys ≡ slotCount) where
   pub walk-next : (d : A) (e : B) → i < slotCount
       → walk (drop i xs) (drop i ys) ≡ walk (getD xs i d ∷ drop (i + 1) xs) (getD ys i e ∷ drop (i + 1) ys)
   walk-next d e h =
@@ -44,7 +45,8 @@ module _ (rules : List Rule) (slots : List Slot) (i : ℕ) (count : length rules
   bytes-next d e h = walk-next bytesOf rules slots i count count′ d e h
 
   pub bytes-length : (d : Rule) (e : Slot) → i < slotCount
-      → length (bytesOf (drop i rules) (drop i slots)) ≡ length (fieldBytes (getD rules i d) (getD slots i e)) + length (bytesOf (drop (i + 1) rules) (drop (i + 1) slots))
+      → length (bytesOf (drop i rules) (drop i slots))
+      ≡ length (fieldBytes (getD rules i d) (getD slots i e)) + length (bytesOf (drop (i + 1) rules) (drop (i + 1) slots))
   bytes-length d e h =
       ap length (bytes-next d e h) ∙ length-append (fieldBytes (getD rules i d) (getD slots i e)) (bytesOf (drop (i + 1) rules) (drop (i + 1) slots))
 

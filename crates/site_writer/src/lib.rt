@@ -5,7 +5,7 @@ ghost use lib.ListN.{length};
 ghost use lib.Seq.{sets};
 ghost use mathlib.Core.Bool.{_&&_, not};
 ghost use Rattle.site.specs.Rules.{lastKind, slotCount, bits, onCurve, absent};
-ghost use Rattle.site.specs.Writing.{slotsOf, curveHeld, rulesHeld, fits, allFit, slotBit, mapOf, fieldBytes, bytesOf, sound};
+ghost use Rattle.site.specs.Writing.{curveHeld, rulesHeld, fits, allFit, slotBit, mapOf, fieldBytes, bytesOf, sound};
 ghost use Rattle.site.specs.Tested.{bitCount};
 ghost use Rattle.site.specs.Promises.{WritesSite};
 use site::rules;
@@ -13,57 +13,10 @@ use site::rules::Entry;
 use site::rules::LAST_KIND;
 use site::rules::Rule;
 use site::rules::SLOTS;
+use site::values;
 use site::values::Site;
 use site::values::Slot;
 use site::values::WriteAnswer;
-
-// The slots of a site, in the order of the rules.
-pub fn slots_of(site: Site) -> [Slot; SLOTS]
-    ensures { λ r. ⌜ r ≡ slotsOf site ⌝ }
-{
-    let traffic = site.traffic;
-    let length = site.length;
-    let minor_traffic = site.minor_traffic;
-    let observed = site.observed;
-    let lane_width = site.lane_width;
-    let shoulder_width = site.shoulder_width;
-    let shoulder_type = site.shoulder_type;
-    let curve_length = site.curve_length;
-    let radius = site.radius;
-    let spiral_ends = site.spiral_ends;
-    let deficiency = site.deficiency;
-    let grade = site.grade;
-    let driveways = site.driveways;
-    let two_way_lane = site.two_way_lane;
-    let passing = site.passing;
-    let hazard_rating = site.hazard_rating;
-    let skew = site.skew;
-    let left_lanes = site.left_lanes;
-    let right_lanes = site.right_lanes;
-    let limited_sight = site.limited_sight;
-    [
-        traffic,
-        length,
-        minor_traffic,
-        observed,
-        lane_width,
-        shoulder_width,
-        shoulder_type,
-        curve_length,
-        radius,
-        spiral_ends,
-        deficiency,
-        grade,
-        driveways,
-        two_way_lane,
-        passing,
-        hazard_rating,
-        skew,
-        left_lanes,
-        right_lanes,
-        limited_sight,
-    ]
-}
 
 fn is_held(entry: Entry, slot: Slot) -> bool
     ensures { λ r. ⌜ r ≡ (onCurve entry && not (absent slot)) ⌝ }
@@ -137,7 +90,7 @@ pub fn is_sound(site: Site) -> bool
     if LAST_KIND < kind {
         return false;
     }
-    let slots = slots_of(site);
+    let slots = values::slots_of(site);
     do_all_fit(rules_held(kind, slots), slots)
 }
 
@@ -218,7 +171,7 @@ pub fn write_site(site: Site, buffer: &mut [u8]) -> WriteAnswer
     if LAST_KIND < kind {
         return WriteAnswer::Unwritten(8);
     }
-    let slots = slots_of(site);
+    let slots = values::slots_of(site);
     let rules = rules_held(kind, slots);
     if !do_all_fit(rules, slots) {
         return WriteAnswer::Unwritten(8);

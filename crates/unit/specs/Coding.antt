@@ -4,11 +4,11 @@ use mathlib.Core.Path.{_≡_, refl, ap, sym, _∙_}
 use mathlib.Core.Bool.{true, true≢false}
 use mathlib.Core.List.{List, [], _∷_, _++_, map}
 use Prim.Native.Nat.{ℕ, _<_, _≤_}
-use native.Mathlib.Decide.{decLe, decLt}
-use native.Mathlib.Omega.{arith}
-use lib.ListN.{length, getD, take, drop, length-append, length-drop, length-map, List·getD-map}
-use lib.Seq.{length-take-le, take-append-le}
-use lib.Dec.{ltb}
+use native.Mathlib.Decide.{decLt}
+use native.Mathlib.Nat.{lt-of-not-le}
+use native.Mathlib.Omega.{arith, by-contra}
+use lib.ListN.{length, getD, take, drop, length-drop, length-map, List·getD-map}
+use lib.Seq.{length-take-le}
 use borrow.Author.Tests.{lt-ltb, le-ltb, ltb-true, ne-eqb, lt-leb, le-leb}
 use Rattle.site.specs.declared.rules.Rule.{Rule}
 use Rattle.site.specs.declared.values.Slot.{Slot}
@@ -19,7 +19,7 @@ use Rattle.site.specs.Rules.{entriesOf, slotCount}
 use Rattle.site.specs.Record.{siteOf}
 use Rattle.site.specs.Writing.{slotsOf, curveHeld, rulesHeld, fits, allFit, sound, Valid}
 use Rattle.laws.specs.Truth.{and-left, and-right}
-use Rattle.site.specs.Tested.{top, topsLow, allows-top, tested-rules}
+use Rattle.site.specs.Tested.{top, topLow, every, allows-top, tested-rules}
 use Rattle.site.specs.Ranges.{valid-fits, valid-kind}
 use Rattle.site.specs.ReadWrite.{slots-of-site}
 use Rattle.unit.specs.SiteNumbers.{code, readValues, slotFrom, kindFrom, slotNumbers, siteFrom, siteNumbers}
@@ -42,9 +42,9 @@ pub too-large : (number : ℕ) → 65536 < number → slotFrom number ≡ Number
 too-large number h = rw (le-ltb number 65536 (omega arith), ne-eqb number 65536 (λ e. omega arith))
 
 -- slots within rules that take no number above 65,534
-slots-read : (rules : List Rule) (slots : List Slot) → allFit rules slots ≡ true → topsLow rules ≡ true → length slots ≤ length rules
+slots-read : (rules : List Rule) (slots : List Slot) → allFit rules slots ≡ true → every topLow rules ≡ true → length slots ≤ length rules
     → map slotFrom (map code slots) ≡ slots
-unfolding allFit topsLow
+unfolding allFit every
 slots-read [] [] f t l = refl
 slots-read [] (slot ∷ slots) f t l = absurd (omega arith)
 slots-read (rule ∷ rules) [] f t l = refl
@@ -52,25 +52,19 @@ slots-read (rule ∷ rules) (slot ∷ slots) f t l =
     let low = ltb-true (top rule) 65535 (and-left _ _ t) in
     let fit : fits rule slot ≡ true = and-left _ _ f in
     let small : (value : ℕ) → slot ≡ Number value → value < 65536 = λ value e. omega (arith, low, allows-top rule value (rw e at fit)) in
-    rw (code-read slot small, slots-read rules slots (and-right (fits rule slot) _ f) (and-right (ltb (top rule) 65535) _ t) (omega arith))
+    rw (code-read slot small, slots-read rules slots (and-right (fits rule slot) _ f) (and-right (topLow rule) _ t) (omega arith))
 
-numbers-again : (rules : List Rule) (numbers : List ℕ) → allFit rules (map slotFrom numbers) ≡ true → topsLow rules ≡ true → length numbers ≤ length rules
+numbers-again : (rules : List Rule) (numbers : List ℕ) → allFit rules (map slotFrom numbers) ≡ true → every topLow rules ≡ true → length numbers ≤ length rules
     → map code (map slotFrom numbers) ≡ numbers
-unfolding allFit topsLow
+unfolding allFit every
 numbers-again [] [] f t l = refl
 numbers-again [] (number ∷ numbers) f t l = absurd (omega arith)
 numbers-again (rule ∷ rules) [] f t l = refl
 numbers-again (rule ∷ rules) (number ∷ numbers) f t l =
     let low = ltb-true (top rule) 65535 (and-left _ _ t) in
     let fit : fits rule (slotFrom number) ≡ true = and-left _ _ f in
-    rw (
-      code-again number (by low fit (decLe number 65536)),
-      numbers-again rules numbers (and-right (fits rule (slotFrom number)) _ f) (and-right (ltb (top rule) 65535) _ t) (omega arith),
-    )
-  where
-    by : top rule < 65535 → fits rule (slotFrom number) ≡ true → Dec (number ≤ 65536) → number ≤ 65536
-    by low fit (yes h) = h
-    by low fit (no h) = absurd (omega (arith, low, allows-top rule 65535 (rw (too-large number (omega arith)) at fit)))
+    let small = by-contra number 65536 (λ h. omega (arith, low, allows-top rule 65535 (rw (too-large number h) at fit))) in
+    rw (code-again number small, numbers-again rules numbers (and-right (fits rule (slotFrom number)) _ f) (and-right (topLow rule) _ t) (omega arith))
 
 -- THE SITE THAT A RUN STARTS WITH: kind and codes of a valid site, whatever follows them, are read as that site
 pub site-read : (site : Site) (rest : List ℕ) → Valid site → siteFrom (site .kind ∷ (map code (slotsOf site) ++ rest)) ≡ site
@@ -85,16 +79,9 @@ site-read site rest valid =
 
 -- the numbers of a site that is outside no range are those that it was read from
 module _ (numbers : List ℕ) (within : sound (siteFrom numbers) ≡ true) where
-  few-unsound : length numbers < siteNumbers → ⊥
-  unfolding siteFrom sound
-  few-unsound h = true≢false (sym (rw (lt-leb siteNumbers (length numbers) h) at within))
-
   pub enough : siteNumbers ≤ length numbers
-  enough = by (decLt (length numbers) siteNumbers)
-    where
-      by : Dec (length numbers < siteNumbers) → siteNumbers ≤ length numbers
-      by (yes h) = absurd (few-unsound h)
-      by (no h) = omega arith
+  unfolding siteFrom sound
+  enough = by-contra siteNumbers (length numbers) (λ h. true≢false (sym (rw (lt-leb siteNumbers (length numbers) h) at within)))
 
   slots-count : length (map slotFrom (slotNumbers numbers)) ≡ slotCount
   slots-count = length-map (slotNumbers numbers) slotFrom ∙ length-take-le slotCount (drop 1 numbers) (omega (arith, length-drop 1 numbers, enough))
@@ -107,13 +94,10 @@ module _ (numbers : List ℕ) (within : sound (siteFrom numbers) ≡ true) where
   valid = record { is-sound = rw (← from-parts) within }
 
   pub kind-small : getD numbers 0 0 < 256
-  kind-small = by (decLt (getD numbers 0 0) 256)
-    where
-      by : Dec (getD numbers 0 0 < 256) → getD numbers 0 0 < 256
-      by (yes h) = h
-      by (no h) =
-          let e : kindFrom (getD numbers 0 0) ≡ 255 = rw (le-ltb (getD numbers 0 0) 256 (omega arith)) in
-          absurd (omega (arith, e, valid-kind _ valid))
+  kind-small =
+      lt-of-not-le (λ h.
+      let e : kindFrom (getD numbers 0 0) ≡ 255 = rw (le-ltb (getD numbers 0 0) 256 h) in
+      omega (arith, e, valid-kind _ valid))
 
   kind-again : kindFrom (getD numbers 0 0) ≡ getD numbers 0 0
   kind-again = rw (lt-ltb (getD numbers 0 0) 256 kind-small)
@@ -131,19 +115,15 @@ module _ (numbers : List ℕ) (within : sound (siteFrom numbers) ≡ true) where
       numbers-again (rulesHeld kind slots) (slotNumbers numbers) fit (s .tops-low) (omega (arith, s .count, slots-count, count))
 
   pub slots-small : (i : ℕ) → getD (slotNumbers numbers) i 0 ≤ 65536
-  slots-small i = by (decLe (getD (slotNumbers numbers) i 0) 65536)
+  slots-small i =
+      by-contra (getD (slotNumbers numbers) i 0) 65536 (λ h.
+      let e : 65535 ≡ getD (slotNumbers numbers) i 0 = sym (ap code (too-large (getD (slotNumbers numbers) i 0) h)) ∙ kept in omega arith)
     where
       kept : code (slotFrom (getD (slotNumbers numbers) i 0)) ≡ getD (slotNumbers numbers) i 0
       kept =
           ap code (sym (List·getD-map slotFrom (slotNumbers numbers) i 0))
           ∙ sym (List·getD-map code (map slotFrom (slotNumbers numbers)) i (slotFrom 0))
           ∙ ap (λ (run : List ℕ). getD run i 0) numbers-kept
-
-      by : Dec (getD (slotNumbers numbers) i 0 ≤ 65536) → getD (slotNumbers numbers) i 0 ≤ 65536
-      by (yes h) = h
-      by (no h) =
-          let e : 65535 ≡ getD (slotNumbers numbers) i 0 = sym (ap code (too-large (getD (slotNumbers numbers) i 0) (omega arith))) ∙ kept in
-          absurd (omega arith)
 
   pub values-again : (n : ℕ) → readValues (Read (siteFrom numbers) n) ≡ take siteNumbers numbers ++ (n ∷ [])
   values-again n =
@@ -155,15 +135,3 @@ module _ (numbers : List ℕ) (within : sound (siteFrom numbers) ≡ true) where
       by : (run : List ℕ) → siteNumbers ≤ length run → getD run 0 0 ∷ (slotNumbers run ++ (n ∷ [])) ≡ take siteNumbers run ++ (n ∷ [])
       by [] h = absurd (omega arith)
       by (number ∷ run) h = refl
-
--- A LONGER RUN: what follows kind and slots bears on nothing
-pub longer-same : (numbers more : List ℕ) → siteNumbers ≤ length numbers → siteFrom (numbers ++ more) ≡ siteFrom numbers
-unfolding siteFrom
-longer-same [] more h = absurd (omega arith)
-longer-same (number ∷ numbers) more h =
-    let long : siteNumbers ≤ length ((number ∷ numbers) ++ more) = omega (arith, length-append numbers more) in
-    rw (
-      le-leb siteNumbers (length ((number ∷ numbers) ++ more)) long,
-      le-leb siteNumbers (length (number ∷ numbers)) h,
-      take-append-le slotCount numbers more (omega arith),
-    )

@@ -2,41 +2,32 @@
 use Prim.Native.Nat.{ℕ}
 use mathlib.Core.Path.{_≡_}
 use mathlib.Core.Bool.{cond}
-use mathlib.Core.List.{List, [], _∷_}
-use lib.ListN.{length, getD}
+use mathlib.Core.List.{List, []}
+use lib.ListN.{length}
 use lib.Dec.{leb}
 use Rattle.site.specs.declared.values.Site.{Site}
-use Rattle.laws.specs.Lent.{laid}
 use Rattle.site.specs.Writing.{sound}
+use Rattle.header.specs.declared.Header.{Header}
+use Rattle.header.specs.Header.{inLimits}
 use Rattle.model.specs.Coefficients.{editionOne}
-use Rattle.model.specs.Predicted.{Header, inLimits}
-use Rattle.line.specs.declared.Line.{Line}
 use Rattle.line.specs.declared.LineAnswer.{LineAnswer}
 use Rattle.line.specs.declared.LineAnswer.the-variants.{Made, OutsideLimits, OutsideRange}
 use Rattle.line.specs.Line.{lineAnswer, lineNumber}
 use Rattle.line.specs.Stands.{LineStands}
-use Rattle.unit.specs.Lent.{numberWithin}
+use Rattle.report.specs.Report.{numbersOf}
+use Rattle.report.specs.Demand.{lineAt}
+use Rattle.unit.specs.Lent.{LendsValues}
 use Rattle.unit.specs.SiteNumbers.{siteFrom}
 
 -- the values of an answer: "predicted low, predicted high, expected low, expected high"; a refusal has none
 abbrev pub lineValues : LineAnswer → List ℕ
-lineValues (Made line) = line .«predicted_low» ∷ line .«predicted_high» ∷ line .«expected_low» ∷ line .«expected_high» ∷ []
+lineValues (Made line) = numbersOf line
 lineValues OutsideLimits = []
 lineValues OutsideRange = []
 
--- the line that a run starts with
-abbrev pub lineAt : List ℕ → Line
-lineAt run = record {
-  «predicted_low» = getD run 0 0;
-  «predicted_high» = getD run 1 0;
-  «expected_low» = getD run 2 0;
-  «expected_high» = getD run 3 0;
-}
-
--- an answer lent: the number, and the run afterwards
-pub record LendsLine (answer : LineAnswer) (before afterwards : List ℕ) (number : ℕ) : Type 0 where
-  pub number-is : number ≡ numberWithin (lineNumber answer) (lineValues answer) (length before)
-  pub run-is : afterwards ≡ laid (lineValues answer) before
+-- the answer of a line lent
+abbrev pub LendsLine : (answer : LineAnswer) (before afterwards : List ℕ) (number : ℕ) → Type 0
+LendsLine answer before afterwards number = LendsValues (lineNumber answer) (lineValues answer) before afterwards number
 
 -- THE ORDER of the call's numbers: a header value outside its limits, 4; the site outside its range, 8; too little space, 10
 unfoldable pub lineOrder : Header → Site → ℕ → ℕ
@@ -47,4 +38,4 @@ lineOrder header site room = cond (inLimits header) (cond (sound site) (cond (le
 pub record LinesNumbers (header : Header) (numbers before afterwards : List ℕ) (number : ℕ) : Type 0 where
   pub lends : LendsLine (lineAnswer editionOne header (siteFrom numbers)) before afterwards number
   pub in-order : number ≡ lineOrder header (siteFrom numbers) (length before)
-  pub stands : number ≡ 0 → LineStands editionOne header (siteFrom numbers) (lineAt afterwards)
+  pub stands : number ≡ 0 → LineStands editionOne header (siteFrom numbers) (lineAt afterwards 0)

@@ -1,6 +1,6 @@
 -- Numbers that are no site are outside their range: the calls that take a site refuse them with 8.
 use mathlib.Core.Path.{_≡_, refl, _∙_}
-use mathlib.Core.Bool.{Bool, true, false}
+use mathlib.Core.Bool.{true, false}
 use mathlib.Core.List.{List}
 use Prim.Native.Nat.{ℕ, _+_, _<_}
 use native.Mathlib.Omega.{arith}
@@ -8,33 +8,28 @@ use lib.ListN.{length, getD, drop}
 use lib.Seq.{getD-take, getD-drop}
 use Rattle.site.specs.Rules.{slotCount}
 use Rattle.site.specs.Writing.{sound, writeRefusal}
+use Rattle.site.specs.Tested.{never-so}
 use Rattle.site.specs.Promises.{number-written}
-use Rattle.model.specs.Predicted.{Header, inLimits}
+use Rattle.header.specs.declared.Header.{Header}
+use Rattle.header.specs.Header.{inLimits}
 use Rattle.unit.specs.SiteNumbers.{slotNumbers, siteFrom, siteNumbers, WritesNumbers}
 use Rattle.unit.specs.LineNumbers.{lineOrder, LinesNumbers}
 use Rattle.unit.specs.Coding.{enough, kind-small, slots-small}
 
 module _ (numbers : List ℕ) where
-  unsound : (sound (siteFrom numbers) ≡ true → ⊥) → sound (siteFrom numbers) ≡ false
-  unsound never = by (sound (siteFrom numbers)) refl
-    where
-      by : (b : Bool) → sound (siteFrom numbers) ≡ b → b ≡ false
-      by true e = absurd (never e)
-      by false e = refl
-
   -- fewer numbers than a kind and twenty slots
   pub few-outside : length numbers < siteNumbers → sound (siteFrom numbers) ≡ false
-  few-outside h = unsound (λ e. omega (arith, enough numbers e))
+  few-outside h = never-so _ (λ e. omega (arith, enough numbers e))
 
   -- a kind above 255
   pub kind-outside : 255 < getD numbers 0 0 → sound (siteFrom numbers) ≡ false
-  kind-outside h = unsound (λ e. omega (arith, kind-small numbers e))
+  kind-outside h = never-so _ (λ e. omega (arith, kind-small numbers e))
 
   -- a slot above 65,536
   pub slot-outside : (i : ℕ) → i < slotCount → 65536 < getD numbers (1 + i) 0 → sound (siteFrom numbers) ≡ false
   slot-outside i h large =
       let at : getD (slotNumbers numbers) i 0 ≡ getD numbers (1 + i) 0 = getD-take slotCount (drop 1 numbers) i 0 h ∙ getD-drop 1 numbers i 0 in
-      unsound (λ e. omega (arith, at, slots-small numbers e i))
+      never-so _ (λ e. omega (arith, at, slots-small numbers e i))
 
   -- what the calls answer then: 8, of a line after the header's 4
   module _ (before afterwards : List ℕ) (number : ℕ) where

@@ -3,12 +3,12 @@ use Prim.Native.Nat.{ℕ}
 use mathlib.Core.Path.{_≡_, refl, sym, ap, _∙_}
 use mathlib.Core.List.{List}
 use lib.ListN.{length}
-use Rattle.project.specs.File.{countIn}
+use Rattle.header.specs.Header.{countIn}
 use Rattle.project.specs.Causes.{reportLength, NoCause, FirstCause}
 use Rattle.report.specs.declared.ProjectAnswer.{ProjectAnswer}
 use Rattle.report.specs.declared.ProjectAnswer.the-variants.{Reported, Refused}
 use Rattle.report.specs.Report.{projectAnswer, answerNumber, answerValue, reportAfter}
-use Rattle.report.specs.Demand.{Demand, AnswerMeets}
+use Rattle.report.specs.Demand.{Demand, AnswerMeets, ReportsProject}
 use Rattle.report.specs.ReaderCauses.{first-not-zero}
 
 -- 0: no cause is found in the file or its report, "4(sites + 1)", and the report meets the demand
@@ -41,15 +41,15 @@ module _ (file before afterwards : List ℕ) where
   not-made (Refused number place) m ne = record { first-cause = m .0; left = m .1 }
 
   pub told : (answer : ProjectAnswer)
-      → ((answer ≡ projectAnswer file (length before)) × (afterwards ≡ reportAfter file before)) × AnswerMeets file before afterwards answer
+      → ReportsProject file before afterwards answer
       → (same : ProjectAnswer) → answer ≡ same → ReadsProject file before afterwards (answerValue same) (answerNumber same)
   told answer h same e =
-      let q : same ≡ projectAnswer file (length before) = sym e ∙ h .0 .0 in
-      let m : AnswerMeets file before afterwards same = rw e at (h .1) in
+      let q : same ≡ projectAnswer file (length before) = sym e ∙ h .answer-is in
+      let m : AnswerMeets file before afterwards same = rw e at (h .meets) in
       record {
         number-is = ap answerNumber q;
         value-is = ap answerValue q;
-        report-is = h .0 .1;
+        report-is = h .report-is;
         reported = made same m;
         refused = not-made same m;
       }

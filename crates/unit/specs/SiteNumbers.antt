@@ -12,10 +12,9 @@ use Rattle.site.specs.declared.values.SiteAnswer.{SiteAnswer}
 use Rattle.site.specs.declared.values.SiteAnswer.the-variants.{Read, Refused}
 use Rattle.site.specs.Rules.{slotCount}
 use Rattle.site.specs.Answers.{readNumber, writeNumber, writeLength}
-use Rattle.laws.specs.Lent.{laid}
 use Rattle.site.specs.Record.{siteOf, readSite}
 use Rattle.site.specs.Writing.{slotsOf, writeAnswer, writeInto}
-use Rattle.unit.specs.Lent.{numberWithin}
+use Rattle.unit.specs.Lent.{LendsValues}
 
 -- an absent slot is 65,536, which no two bytes hold
 abbrev pub code : Slot → ℕ
@@ -51,9 +50,8 @@ unfoldable pub siteFrom : List ℕ → Site
 siteFrom numbers = cond (leb siteNumbers (length numbers)) (siteOf (kindFrom (getD numbers 0 0)) (map slotFrom (slotNumbers numbers))) (siteOf 255 [])
 
 -- a site read into a lent run of numbers: the number, and the run afterwards
-pub record ReadsNumbers (part before afterwards : List ℕ) (number : ℕ) : Type 0 where
-  pub number-is : number ≡ numberWithin (readNumber (readSite part)) (readValues (readSite part)) (length before)
-  pub values-are : afterwards ≡ laid (readValues (readSite part)) before
+abbrev pub ReadsNumbers : (part before afterwards : List ℕ) (number : ℕ) → Type 0
+ReadsNumbers part before afterwards number = LendsValues (readNumber (readSite part)) (readValues (readSite part)) before afterwards number
 
 -- a site written from a lent run of numbers: the number, the buffer and the record's length afterwards
 pub record WritesNumbers (numbers before afterwards : List ℕ) (length-before length-after number : ℕ) : Type 0 where

@@ -5,6 +5,7 @@ ghost use Rattle.power.specs.Power.{powerAnswer};
 ghost use Rattle.logarithm.specs.Logarithm.{logarithmAnswer};
 ghost use Rattle.exponential.specs.Exponential.{exponentialAnswer, exponentialNegativeAnswer};
 ghost use Rattle.unit.specs.Lent.{Lends};
+use crate::lent::lend_four;
 use bracket::BracketAnswer;
 
 // Leaves a bracket's four numbers at the start of `ends`: 0; or 8 where there is no bracket, then 10 where `ends` is too
@@ -12,17 +13,10 @@ use bracket::BracketAnswer;
 fn lend(answer: BracketAnswer, ends: &mut [u64]) -> u64
     ensures { λ r. ⌜ Lends answer (now (ends .entry)) (now (ends .exit)) r ⌝ }
 {
-    let BracketAnswer::Between(b) = answer else {
-        return 8;
-    };
-    if ends.len() < 4 {
-        return 10;
+    match answer {
+        BracketAnswer::OutOfRange => 8,
+        BracketAnswer::Between(b) => lend_four(b.low_num, b.low_den, b.high_num, b.high_den, ends),
     }
-    ends[0] = b.low_num;
-    ends[1] = b.low_den;
-    ends[2] = b.high_num;
-    ends[3] = b.high_den;
-    0
 }
 
 // base^(num / den): base from 1 to 20,000, den 100, and num one of 79, 49, 60, 61 and 20.

@@ -11,6 +11,7 @@ ghost use Rattle.site.specs.Rules.{slotCount};
 ghost use Rattle.unit.specs.SiteNumbers.{code, readValues, slotFrom, kindFrom, siteFrom, siteNumbers, answerNumbers};
 ghost use Rattle.unit.specs.SiteNumbers.{ReadsNumbers, WritesNumbers};
 use site::rules::SLOTS;
+use site::values;
 use site::values::Site;
 use site::values::SiteAnswer;
 use site::values::Slot;
@@ -49,7 +50,7 @@ fn put_site(site: Site, n: usize, values: &mut [u64])
     ensures { λ r. ⌜ now (values .exit) ≡ sets (now (values .entry)) 0 (readValues (Read site n)) ⌝ }
 {
     let kind = site.kind;
-    let slots = site_writer::slots_of(site);
+    let slots = values::slots_of(site);
     values[0] = kind as u64;
     put_slots(slots, values);
     values[SITE_NUMBERS] = n as u64;
@@ -117,10 +118,10 @@ pub fn site_from(values: &[u64]) -> Site
 {
     if values.len() < SITE_NUMBERS {
         let none = Slot::Absent;
-        return site_reader::site_of(NO_KIND, [none; SLOTS]);
+        return values::site_of(NO_KIND, [none; SLOTS]);
     }
     let kind = kind_from(values[0]);
-    site_reader::site_of(kind, slots_from(&values[1..SITE_NUMBERS]))
+    values::site_of(kind, slots_from(&values[1..SITE_NUMBERS]))
 }
 
 // Writes the record of a site from the start of the buffer: 0, with the record's length in written and the rest of the buffer

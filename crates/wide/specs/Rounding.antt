@@ -1,8 +1,9 @@
 -- What rounded scaling keeps of a bracket, for all whole numbers: a lower bound, an upper bound, their order and their width.
 -- A value x is the fraction xn / xd, a factor f is fn / fd, and a bound b stands for the fraction b / U.
 use mathlib.Core.Path.{ap, _∙_}
-use Prim.Native.Nat.{ℕ, zero, _+_, _-_, _*_, _/_, _^_, _≤_, _<_}
-use native.Mathlib.Nat.{le-of-eq, mul-le-mul, mul-le-mul-left, mul-le-mul-right, div-mul-le-self, lt-div-mul-add, le-of-mul-le-mul-right, lt-of-mul-lt-mul-right, mul-pos, eq-zero-or-pos, div-zero}
+use Prim.Native.Nat.{ℕ, zero, _+_, _-_, _*_, _/_, _≤_, _<_}
+use native.Mathlib.Nat.{le-of-eq, mul-le-mul, mul-le-mul-left, mul-le-mul-right, div-mul-le-self, lt-div-mul-add}
+use native.Mathlib.Nat.{le-of-mul-le-mul-right, lt-of-mul-lt-mul-right, mul-pos, eq-zero-or-pos, div-zero}
 use native.Mathlib.Omega.{arith}
 use mathlib.Core.Logic.{⊎-elim}
 use Rattle.wide.specs.Scaling.{floor, ceiling}
@@ -17,6 +18,9 @@ floor-le a n d = div-mul-le-self (a * n) d
 
 pub floor-lt : (a n d : ℕ) → zero < d → a * n < floor a n d * d + d
 floor-lt a n d h = lt-div-mul-add h
+
+pub floor-near : (a n d : ℕ) → zero < d → floor a n d * d < a * n + d
+floor-near a n d h = omega (arith, floor-le a n d)
 
 pub ceiling-ge : (a n d : ℕ) → zero < d → a * n ≤ ceiling a n d * d
 ceiling-ge a n d h = omega (arith, lt-div-mul-add {a = a * n + (d - 1)} {b = d} h)
@@ -37,13 +41,6 @@ module _ (a n d t : ℕ) (h : zero < d) where
 
   pub ceiling-≤ : a * n ≤ t * d → ceiling a n d ≤ t
   ceiling-≤ l = omega (arith, lt-of-mul-lt-mul-right d {m = ceiling a n d} {n = t + 1} (omega (arith, ceiling-lt a n d h)))
-
--- a scaling fits 64 bits where its product does over the divisor
-pub floor-fits : (a n d : ℕ) → zero < d → a * n + d ≤ d * 2 ^ 64 → floor a n d < 2 ^ 64
-floor-fits a n d h l = lt-of-mul-lt-mul-right d {m = floor a n d} {n = 2 ^ 64} (omega (arith, floor-le a n d))
-
-pub ceiling-fits : (a n d : ℕ) → zero < d → a * n + d ≤ d * 2 ^ 64 → ceiling a n d < 2 ^ 64
-ceiling-fits a n d h l = lt-of-mul-lt-mul-right d {m = ceiling a n d} {n = 2 ^ 64} (omega (arith, ceiling-lt a n d h))
 
 -- THE LOWER BOUND. lo / U ≤ x and ln / ld ≤ f give (lo * ln / ld) / U ≤ x * f. A division by 0 gives 0, so ld may be 0
 pub scaled-lower : (lo xn xd U ln ld fn fd : ℕ) → lo * xd ≤ xn * U → ln * fd ≤ fn * ld → floor lo ln ld * (xd * fd) ≤ (xn * fn) * U
@@ -86,13 +83,6 @@ scaled-width R a b r rho lo hi ln ld hn hd pl ph order narrow factor most =
     (omega (arith, mul-le-mul-right ld (ceiling-lt hi hn hd ph)))
     (omega (arith, mul-le-mul-right ld (ceiling-ge hi hn hd ph)))
     (omega (arith, mul-le-mul-right hd (floor-lt lo ln ld pl)))
-
--- the same for a factor that is at most F
-pub scaled-width-by : (R a r rho F lo hi ln ld hn hd : ℕ) → zero < ld → zero < hd → lo ≤ hi → Narrow R a r lo hi
-    → R * (hn * ld) ≤ R * (ln * hd) + rho * (hn * ld) → hn ≤ F * hd
-    → Narrow R (F * a + 2) (r + rho) (floor lo ln ld) (ceiling hi hn hd)
-scaled-width-by R a r rho F lo hi ln ld hn hd pl ph order narrow factor most =
-    scaled-width R a (F * a) r rho lo hi ln ld hn hd pl ph order narrow factor (omega (arith, mul-le-mul-left a most))
 
 -- the order of the bounds is kept
 pub scaled-order : (lo hi ln ld hn hd : ℕ) → zero < ld → zero < hd → lo ≤ hi → ln * hd ≤ hn * ld → floor lo ln ld ≤ ceiling hi hn hd

@@ -27,9 +27,10 @@ scaledDown a n d = answered d (floor a n d)
 abbrev pub scaledUp : (a n d : ℕ) → Scaled
 scaledUp a n d = answered d (ceiling a n d)
 
--- r is the quotient that an answer is of, wherever it fits
-abbrev pub ValueOf : (answer : Scaled) (r : ℕ) → Type 0
-ValueOf answer r = (d q : ℕ) → answer ≡ answered d q → 0 < d → q < 2 ^ 64 → r ≡ q
+-- the value of an answer that has one
+abbrev pub valueOf : Scaled → ℕ
+valueOf (Value v) = v
+valueOf TooLarge = 0
 
 -- a quotient that fits is answered
 pub answered-value : (d q : ℕ) → 0 < d → q < 2 ^ 64 → answered d q ≡ Value q
@@ -61,7 +62,3 @@ value-is d q v e = either (decLt 0 d) (decLt q (2 ^ 64))
     either (yes h) (yes l) = record { divisor = h; is = let t = answered-value d q h l in cc }
     either (yes h) (no f) = absurd (never (answered-large d q (omega arith)))
     either (no f) r = absurd (never (answered-zero d q (omega arith)))
-
--- what fits is never too large
-pub fits-never-large : (d q : ℕ) → 0 < d → q < 2 ^ 64 → answered d q ≡ TooLarge → ⊥
-fits-never-large d q h l e = let v = answered-value d q h l in let z : _≡_ {A = ℕ} 0 1 = cc in omega arith

@@ -17,7 +17,7 @@ fn norm(d: u64) -> u64
 // One digit of a quotient: the estimate from d's upper digit, lowered while it is too large.
 fn digit(rest: u64, next: u64, d: u64) -> u64
     requires { ⌜ (2 ^ 63 ≤ d) × (rest < d) × (next < 2 ^ 32) ⌝ }
-    ensures { λ r. ⌜ (r * d ≤ rest * 2 ^ 32 + next) × (rest * 2 ^ 32 + next < r * d + d) ⌝ }
+    ensures { λ r. ⌜ (r * d ≤ rest * 2 ^ 32 + next) × (rest * 2 ^ 32 + next < r * d + d) × (r < 2 ^ 32) ⌝ }
 {
     let d1 = d / BASE;
     let d0 = d % BASE;
@@ -37,7 +37,7 @@ fn digit(rest: u64, next: u64, d: u64) -> u64
 
 // What that digit leaves. The sum may pass 2^64 on the way, what is left does not.
 fn left_over(rest: u64, next: u64, d: u64, q: u64) -> u64
-    requires { ⌜ (rest < d) × (next < 2 ^ 32) × (q * d ≤ rest * 2 ^ 32 + next) × (rest * 2 ^ 32 + next < q * d + d) ⌝ }
+    requires { ⌜ (rest < d) × (next < 2 ^ 32) × (q * d ≤ rest * 2 ^ 32 + next) × (rest * 2 ^ 32 + next < q * d + d) × (q < 2 ^ 32) ⌝ }
     ensures { λ r. ⌜ q * d + r ≡ rest * 2 ^ 32 + next ⌝ }
 {
     let d1 = d / BASE;

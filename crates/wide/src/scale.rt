@@ -1,7 +1,7 @@
 // a * n / d, rounded down and rounded up, with the product exact.
 ghost use mathlib.Core.Path.{_≡_};
 ghost use Prim.Native.Nat.{_+_, _*_, _/_, _^_, _<_};
-ghost use Rattle.wide.specs.Scaling.{floor, ceiling, answered, scaledDown, scaledUp, ValueOf};
+ghost use Rattle.wide.specs.Scaling.{floor, ceiling, answered, scaledDown, scaledUp, valueOf};
 use crate::division::quotient;
 use crate::word::plus;
 use crate::word::product;
@@ -50,7 +50,7 @@ pub fn scale_up(a: u64, n: u64, d: u64) -> Scaled
 
 // The value of a scaling that fits.
 fn value(answer: Scaled) -> u64
-    ensures { λ r. ⌜ ValueOf answer r ⌝ }
+    ensures { λ r. ⌜ r ≡ valueOf answer ⌝ }
 {
     match answer {
         Scaled::Value(v) => v,

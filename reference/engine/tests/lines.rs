@@ -349,15 +349,15 @@ fn a_short_run_is_left_as_it_was() {
     }
 }
 
-/// The stored output of the engine's program `line_rounds` is the sum of the
+/// The stored output of the engine's program `rounds` ends with the sum of the
 /// lines of its stored input, made by the exported call.
 #[test]
 fn the_stored_sum_of_rounds_is_that_of_the_call() {
-    let input = include_bytes!("../../../crates/line_rounds/stdin");
-    let stored = include_str!("../../../crates/line_rounds/stdout");
+    let input = include_bytes!("../../../crates/rounds/stdin");
+    let stored = include_str!("../../../crates/rounds/stdout");
     let word = |at: usize| u64::from(u16::from_be_bytes([input[at], input[at + 1]]));
-    let (making, reading) = (word(0), word(2));
-    let mut rest = &input[4..];
+    let (making, reading) = (word(6), word(8));
+    let mut rest = &input[10..];
     let mut sum: u64 = 0;
     let mut sites = 0;
     while !rest.is_empty() {
@@ -368,5 +368,8 @@ fn the_stored_sum_of_rounds_is_that_of_the_call() {
         sites += 1;
     }
     assert_eq!(sites, 10);
-    assert_eq!((sum % (1 << 32)).to_string(), stored.trim());
+    assert_eq!(
+        stored.lines().last(),
+        Some((sum % (1 << 32)).to_string().as_str())
+    );
 }

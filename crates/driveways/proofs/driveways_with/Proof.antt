@@ -13,7 +13,7 @@ returns : tie.Need-returns
 unfolding whole fraction
 returns c =
     let a = c .before .before .args in
-    c .ends .ensures ∙ sym (bracket-below (a .constant) (a .fewest) (a .driveways) (logarithmBracket (a .traffic)) (omega arith))
+    c .span .ensures ∙ sym (bracket-below (a .constant) (a .fewest) (a .driveways) (logarithmBracket (a .traffic)) (omega arith))
 
 value-at-requires : tie.Need-value-at-requires
 value-at-requires c κs =
@@ -31,7 +31,7 @@ returns-2 : tie.Need-returns-2
 returns-2 c =
     let v = c .before .before in
     let a = v .before .before .before .before .args in
-    c .ends2 .ensures
+    c .span2 .ensures
     ∙ rising-ends (a .constant) (a .fewest) (a .driveways) (v .before .before .logarithm-with .ensures) (v .before .value-at .ensures) (v .value-at2 .ensures)
     (omega arith) (omega arith)
 
@@ -39,7 +39,7 @@ returns-3 : tie.Need-returns-3
 returns-3 c =
     let v = c .before .before in
     let a = v .before .before .before .before .args in
-    c .ends3 .ensures
+    c .span3 .ensures
     ∙ falling-ends (a .constant) (a .fewest) (a .driveways) (v .before .before .logarithm-with .ensures) (v .before .value-at .ensures) (v .value-at2 .ensures)
     (omega arith) (omega arith)
 

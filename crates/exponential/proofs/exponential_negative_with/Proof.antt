@@ -1,6 +1,7 @@
 -- The bracket of e^x, its fractions turned over and exchanged.
 use mathlib.Core.Path.{ap}
-use Rattle.exponential.specs.Exponential.{reciprocal, expNegBracket}
+use Rattle.bracket.specs.Reciprocal.{reciprocal}
+use Rattle.exponential.specs.Exponential.{expNegBracket}
 use borrow.Author.Needs.{needs}
 use Rattle.exponential.proofs.exponential_negative_with.Statement.{statement}
 use Rattle.exponential.proofs.exponential_negative_with.Tie as tie

@@ -15,10 +15,11 @@ pub record Terms (f k low-term high-term low high : ℕ) : Type 0 where
   pub low-is : low ≡ sumLow f k
   pub high-is : high ≡ sumHigh f k
   pub last : k ≤ 16
+  pub within : f ≤ 10000
 
-pub first : (f : ℕ) → Terms f 0 scale scale scale scale
+pub first : {f : ℕ} → f ≤ 10000 → Terms f 0 scale scale scale scale
 unfolding termLow termHigh sumLow sumHigh
-first f = record { low-term-is = refl; high-term-is = refl; low-is = refl; high-is = refl; last = omega arith }
+first l = record { low-term-is = refl; high-term-is = refl; low-is = refl; high-is = refl; last = omega arith; within = l }
 
 next-term : (f k : ℕ) → ceiling (termHigh f k) f (10000 * suc k) ≡ termHigh f (suc k)
 unfolding termHigh
@@ -30,7 +31,8 @@ module _ {f k low-term high-term low high : ℕ} (h : Terms f k low-term high-te
   next l =
       let t = ap (λ (z : ℕ). floor z f (10000 * suc k)) (h .low-term-is) in
       let u = ap (λ (z : ℕ). ceiling z f (10000 * suc k)) (h .high-term-is) ∙ next-term f k in
-      rw add-one (record { low-term-is = t; high-term-is = u; low-is = ap₂ _+_ (h .low-is) t; high-is = ap₂ _+_ (h .high-is) u; last = l })
+      rw add-one
+      (record { low-term-is = t; high-term-is = u; low-is = ap₂ _+_ (h .low-is) t; high-is = ap₂ _+_ (h .high-is) u; last = l; within = h .within })
 
   pub record Fit : Type 0 where
     pub low-product : low-term * f ≤ scale * 10000
@@ -38,17 +40,18 @@ module _ {f k low-term high-term low high : ℕ} (h : Terms f k low-term high-te
     pub low-sum : low ≤ 17 * scale
     pub high-sum : high ≤ 17 * scale
 
-  pub fit : f ≤ 10000 → Fit
-  fit l =
-      let s = terms-sized f l k in
+  pub fit : Fit
+  fit =
+      let s = terms-sized f (h .within) k in
       record {
-        low-product = mul-le-mul {n₁ = low-term} {n₂ = scale} (omega arith) l;
-        high-product = mul-le-mul {n₁ = high-term} {n₂ = scale} (omega arith) l;
+        low-product = mul-le-mul {n₁ = low-term} {n₂ = scale} (omega arith) (h .within);
+        high-product = mul-le-mul {n₁ = high-term} {n₂ = scale} (omega arith) (h .within);
         low-sum = omega arith;
         high-sum = omega arith;
       }
 
-pub done : {f low-term high-term low high : ℕ} → Terms f 16 low-term high-term low high → (low ≡ taylorLow f) × (high + 2 * ceiling high-term f 170000 ≡ taylorHigh f)
+pub done : {f low-term high-term low high : ℕ} → Terms f 16 low-term high-term low high
+    → (low ≡ taylorLow f) × (high + 2 * ceiling high-term f 170000 ≡ taylorHigh f)
 unfolding taylorLow taylorHigh
 done {f} h = (h .low-is, ap₂ (λ (s t : ℕ). s + 2 * t) (h .high-is) (ap (λ (z : ℕ). ceiling z f 170000) (h .high-term-is) ∙ next-term f 16))
 

@@ -1,7 +1,7 @@
 -- `header::is_in_limits` meets its contract. Each test is one of the definition's, in its order.
 use borrow.Author.Needs.{needs}
 use borrow.Author.Tests.{not-true, not-false}
-use Rattle.model.specs.Predicted.{inLimits}
+use Rattle.header.specs.Header.{inLimits}
 use Rattle.header.proofs.is_in_limits.Statement.{statement}
 use Rattle.header.proofs.is_in_limits.Tie as tie
 
@@ -20,12 +20,14 @@ returns-2 c = simp (
 
 returns-3 : tie.Need-returns-3
 unfolding inLimits
-returns-3 c = simp (
-  ← c .before .before .before .before .is-up-to .ensures,
-  not-false (c .before .before .before .before .is-up-to .result) (c .before .before .before .if1 .left),
-  ← c .before .before .is-up-to2 .ensures,
-  not-false (c .before .before .is-up-to2 .result) (c .before .if2 .left),
-) (c .is-up-to3 .ensures)
+returns-3 c =
+    let first = c .before .before .before in
+    simp (
+      ← first .before .is-up-to .ensures,
+      not-false (first .before .is-up-to .result) (first .if1 .left),
+      ← c .before .before .is-up-to2 .ensures,
+      not-false (c .before .before .is-up-to2 .result) (c .before .if2 .left),
+    ) (c .is-up-to3 .ensures)
 
 pub is-in-limits-spec : {M : Type 1} → statement M
 is-in-limits-spec =

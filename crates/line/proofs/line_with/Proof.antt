@@ -2,27 +2,23 @@
 use mathlib.Core.Path.{ap, _∙_}
 use Rattle.site.specs.Ranges.{valid-kind}
 use Rattle.model.specs.Coefficients.{editionOne}
-use Rattle.model.specs.Predicted.{headerOf}
-use Rattle.factors.specs.declared.Ratio.{Ratio}
-use Rattle.factors.specs.Ratio.{coded}
-use Rattle.prediction.specs.PredictedLaws.{HeaderMost}
-use Rattle.line.specs.LineSizes.{low-sizes, high-sizes}
-use Rattle.line.specs.Weighing.{line-made}
+use Rattle.prediction.specs.EditionOne.{edition-one-rated}
+use Rattle.bracket.specs.declared.Ratio.{Ratio}
+use Rattle.bracket.specs.Ratio.{coded}
+use Rattle.line.specs.Dispersion.{edition-one-dispersed}
+use Rattle.line.specs.Weighing.{both-sizes, line-made}
 use borrow.Author.Needs.{needs}
 use Rattle.line.proofs.line_with.Statement.{statement}
 use Rattle.line.proofs.line_with.Tie as tie
 
-limits : (c : tie.Start) → HeaderMost (headerOf (c .args .years) (c .args .segments) (c .args .crossings))
-limits c = record { years-most = c .pre .3; segments-most = c .pre .4; crossings-most = c .pre .5 }
-
 overdispersion-requires : tie.Need-overdispersion-requires
-overdispersion-requires c κs = valid-kind (c .before .args .site) (c .before .pre .6)
+overdispersion-requires c κs = valid-kind (c .before .args .site) (c .before .pre .4)
 
 weigh-requires : tie.Need-weigh-requires
 weigh-requires c κs =
     let start = c .before .before .before in
-    rw (c .before .overdispersion .ensures, c .predicted-with .ensures)
-    (low-sizes _ (limits start) (start .args .site) (start .pre .6) _, high-sizes _ (limits start) (start .args .site) (start .pre .6) _)
+    rw (c .before .overdispersion .ensures, c .before .before .number .ensures, c .predicted-with .ensures)
+    (both-sizes editionOne edition-one-rated _ (start .pre .3) (start .args .site) (start .pre .4) edition-one-dispersed)
 
 returns : tie.Need-returns
 returns c =

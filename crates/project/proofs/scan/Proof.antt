@@ -2,9 +2,9 @@
 use borrow.Author.Needs.{needs}
 use borrow.Author.Tests.{eq-eqb, ne-eqb}
 use mathlib.Core.Path.{sym, _∙_}
+use Rattle.header.specs.HeaderLaws.{header-accepted}
 use Rattle.project.specs.File.{scanFile}
 use Rattle.project.specs.Promise.{scans-file}
-use Rattle.project.specs.Headed.{header-accepted}
 use Rattle.project.proofs.scan.Statement.{statement}
 use Rattle.project.proofs.scan.Tie as tie
 
@@ -12,8 +12,8 @@ returns : tie.Need-returns
 unfolding scanFile
 returns c = scans-file _ _ (simp (← c .before .header-number .ensures, ne-eqb _ _ (c .if1 .taken)))
 
-header-of-requires : tie.Need-header-of-requires
-header-of-requires c κs = header-accepted _ (sym (c .before .header-number .ensures) ∙ c .if1 .left) .long
+count-in-requires : tie.Need-count-in-requires
+count-in-requires c κs = header-accepted _ (sym (c .before .header-number .ensures) ∙ c .if1 .left) .long
 
 scan-records-requires : tie.Need-scan-records-requires
 scan-records-requires c κs = header-accepted _ (sym (c .before .before .header-number .ensures) ∙ c .before .if1 .left) .long
@@ -23,11 +23,11 @@ unfolding scanFile
 returns-2 c = scans-file _ _ (simp (
   ← c .before .before .before .header-number .ensures,
   eq-eqb _ _ (c .before .before .if1 .left),
-  ← c .before .header-of .ensures .sites-is,
+  ← c .before .count-in .ensures,
   c .scan-records .ensures,
 ))
 
 pub scan-spec : {M : Type 1} → statement M
 scan-spec =
     tie.close
-    (tie.spec (λ c κs. search needs) returns header-of-requires scan-records-requires returns-2)
+    (tie.spec (λ c κs. search needs) returns count-in-requires scan-records-requires returns-2)

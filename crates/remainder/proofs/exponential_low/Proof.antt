@@ -9,15 +9,6 @@ use borrow.Author.Needs.{needs}
 use Rattle.remainder.proofs.exponential_low.Statement.{statement}
 use Rattle.remainder.proofs.exponential_low.Tie as tie
 
-mul-square : tie.Need-mul-square
-mul-square c = omega (arith, square-fits (c .pre))
-
-mul-cube : tie.Need-mul-cube
-mul-cube c = omega (arith, term-fits (c .pre) (square-down-small (c .pre) (rounded-down _ _ (lit< tt))))
-
-add-result-2 : tie.Need-add-result-2
-add-result-2 c = omega (arith, square-down-small (c .pre) (rounded-down _ _ (lit< tt)))
-
 add-result-3 : tie.Need-add-result-3
 add-result-3 c =
     let f = rounded-down (c .args .x * c .args .x) (2 * scale) (lit< tt) in
@@ -31,13 +22,10 @@ pub exponential-low-spec : {M : Type 1} → statement M
 exponential-low-spec =
     tie.close
     (tie.spec
-    mul-square
-    (λ c. search needs)
-    (λ c. search needs)
-    mul-cube
-    (λ c. search needs)
-    (λ c. search needs)
-    (λ c. search needs)
-    add-result-2
+    (λ c. omega (arith, square-fits (c .pre)))
+    (λ c. search needs) (λ c. search needs)
+    (λ c. omega (arith, term-fits (c .pre) (square-down-small (c .pre) (rounded-down _ _ (lit< tt)))))
+    (λ c. search needs) (λ c. search needs) (λ c. search needs)
+    (λ c. omega (arith, square-down-small (c .pre) (rounded-down _ _ (lit< tt))))
     add-result-3
     returns)

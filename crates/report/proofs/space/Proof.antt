@@ -1,5 +1,6 @@
+-- `report::space` meets its contract.
 use native.Mathlib.Omega.{arith}
-use Rattle.report.specs.ProjectLaws.{room-short, room-enough}
+use Rattle.report.specs.ReaderCauses.{room-short, room-enough}
 use borrow.Author.Needs.{needs}
 use Rattle.report.proofs.space.Statement.{statement}
 use Rattle.report.proofs.space.Tie as tie

@@ -52,13 +52,11 @@ put-digits-spec =
     μ-loop
     (λ c. search needs)
     sub-i
-    (λ c. search needs)
-    (λ c. search needs)
+    (λ c. search needs) (λ c. search needs)
     slice-write-out
     loop-less
     loop-again
-    (λ c. search needs)
-    (λ c. search needs)
+    (λ c. search needs) (λ c. search needs)
     slice-write-out-2
     same-length
     returns)

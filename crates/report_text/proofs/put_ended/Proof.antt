@@ -12,10 +12,14 @@ put-digits-requires : tie.Need-put-digits-requires
 put-digits-requires c κs = (omega arith, omega (arith, decimal-short (c .before .before .before .args .n) (search needs)))
 
 slice-write-out : tie.Need-slice-write-out
-slice-write-out c = omega (arith, decimal-short (c .before .before .before .before .before .before .args .n) (search needs), c .before .before .put-digits .kept .1 .0)
+slice-write-out c =
+    let put = c .before .before in
+    omega (arith, decimal-short (put .before .before .before .before .args .n) (search needs), put .put-digits .kept .1 .0)
 
 add-result : tie.Need-add-result
-add-result c = omega (arith, decimal-short (c .before .before .before .before .before .before .args .n) (search needs))
+add-result c =
+    let put = c .before .before in
+    omega (arith, decimal-short (put .before .before .before .before .args .n) (search needs))
 
 returns : tie.Need-returns
 returns c = ended-stored _ _ _ _ _ _ (search needs) (omega arith) (c .before .before .put-digits .ensures)

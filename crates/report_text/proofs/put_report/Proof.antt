@@ -17,7 +17,10 @@ loop-holds : tie.Need-loop-holds Inv-loop μ-loop
 loop-holds c = lines-start _ _
 
 loop-again : tie.Need-loop-again Inv-loop μ-loop
-loop-again c = lines-on _ _ _ _ _ _ _ (c .before .before .before .before .before .before .before .before .before .loop .inv) (c .before .before .before .before .before .before .before .before .loop-test .taken) (c .before .before .put-line .ensures)
+loop-again c =
+    let put = c .before .before in
+    let turn = put .before .before .before in
+    lines-on _ _ _ _ _ _ _ (turn .before .before .before .before .loop .inv) (turn .before .before .before .loop-test .taken) (put .put-line .ensures)
 
 returns : tie.Need-returns Inv-loop μ-loop
 returns c = (lines-end _ _ _ _ _ (c .before .loop .inv) (c .loop-test .left), omega arith)
@@ -29,20 +32,8 @@ put-report-spec =
     Inv-loop
     μ-loop
     loop-holds
-    (λ c. search needs)
-    (λ c. search needs)
-    (λ c. search needs)
-    (λ c. search needs)
-    (λ c. search needs)
-    (λ c. search needs)
-    (λ c. search needs)
-    (λ c. search needs)
-    (λ c. search needs)
-    (λ c. search needs)
-    (λ c. search needs)
-    (λ c. search needs)
-    (λ c κs. search needs)
-    (λ c. search needs)
+    (λ c. search needs) (λ c. search needs) (λ c. search needs) (λ c. search needs) (λ c. search needs) (λ c. search needs) (λ c. search needs)
+    (λ c. search needs) (λ c. search needs) (λ c. search needs) (λ c. search needs) (λ c. search needs) (λ c κs. search needs) (λ c. search needs)
     (λ c. search needs)
     loop-again
     (λ c. search needs)

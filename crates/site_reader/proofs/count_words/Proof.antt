@@ -19,8 +19,11 @@ abbrev μ-loop : tie.MeasureT-loop
 loop-again : tie.Need-loop-again Inv-loop μ-loop
 loop-again c =
     let turn = c .before .before .before in
-    let count = c .before .field-words .ensures .0 in
-    (omega arith, omega arith, words-turn _ _ _ (turn .before .before .pre) _ _ _ _ _ (turn .loop-test .taken) count (c .rest-of .ensures) (turn .before .loop .inv .2))
+    let count = c .before .field-words .ensures .0 in (
+      omega arith,
+      omega arith,
+      words-turn _ _ _ (turn .before .before .pre) _ _ _ _ _ (turn .loop-test .taken) count (c .rest-of .ensures) (turn .before .loop .inv .2),
+    )
 
 returns : tie.Need-returns Inv-loop μ-loop
 returns c = (words-done _ _ _ (c .before .before .pre) _ _ (c .loop-test .left) (c .before .loop .inv .2), omega arith)
@@ -31,13 +34,7 @@ count-words-spec =
     (tie.spec
     Inv-loop
     μ-loop
-    (λ c. omega arith)
-    (λ c. omega arith)
-    (λ c. omega arith)
-    (λ c κs. search needs)
-    (λ c. omega arith)
-    (λ c κs. search needs)
-    (λ c. omega arith)
+    (λ c. omega arith) (λ c. omega arith) (λ c. omega arith) (λ c κs. search needs) (λ c. omega arith) (λ c κs. search needs) (λ c. omega arith)
     (λ c. omega arith)
     loop-again
     returns)

@@ -8,7 +8,10 @@ use Rattle.site_reader.proofs.field_number.Statement.{statement}
 use Rattle.site_reader.proofs.field_number.Tie as tie
 
 word-at-requires : tie.Need-word-at-requires
-word-at-requires c κs = let b = eqb-true (bitOf (c .before .before .before .args .rule) (c .before .before .before .args .map)) 1 (sym (c .before .does-stand .ensures) ∙ c .if1 .taken) in omega arith
+word-at-requires c κs =
+    let args = c .before .before .before .args in
+    let b = eqb-true (bitOf (args .rule) (args .map)) 1 (sym (c .before .does-stand .ensures) ∙ c .if1 .taken) in
+    omega arith
 
 returns : tie.Need-returns
 returns c = simp (← c .before .before .before .does-stand .ensures, c .before .before .if1 .taken, c .value-number .ensures, c .before .word-at .ensures)

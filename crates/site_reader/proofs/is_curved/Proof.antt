@@ -20,15 +20,17 @@ abbrev μ-loop : tie.MeasureT-loop
 returns : tie.Need-returns Inv-loop μ-loop
 returns c =
     let turn = c .before .before .before in
-    any-hit _ _ _ _ _ _ _ (turn .before .before .pre) (turn .before .loop .inv .1) _ _ (turn .loop-test .taken) (c .before .curve-bit-stands .ensures) (c .if1 .taken)
+    let stands = c .before .curve-bit-stands .ensures in
+    any-hit _ _ _ _ _ _ _ (turn .before .before .pre) (turn .before .loop .inv .1) _ _ (turn .loop-test .taken) stands (c .if1 .taken)
 
 loop-again : tie.Need-loop-again Inv-loop μ-loop
 loop-again c =
-    let stands = c .before .before .before .curve-bit-stands .ensures in
-    let turn = c .before .before .before .before .before in
+    let bit = c .before .before .before in
+    let turn = bit .before .before in
     let loop = turn .before .loop in
     let rest = c .rest-of .ensures ∙ ap (λ (x : Rule). restOf x (loop .rest)) (c .before .rule-of .ensures) in
-    (omega arith, any-miss _ _ _ _ _ _ _ (turn .before .before .pre) (loop .inv .1) _ _ _ (turn .loop-test .taken) stands (c .before .before .if1 .left) rest)
+    let miss = any-miss _ _ _ _ _ _ _ (turn .before .before .pre) (loop .inv .1) _ _ _ (turn .loop-test .taken) in
+    (omega arith, miss (bit .curve-bit-stands .ensures) (c .before .before .if1 .left) rest)
 
 returns-2 : tie.Need-returns-2 Inv-loop μ-loop
 returns-2 c = any-end _ _ _ _ _ _ _ (c .before .before .pre) (c .before .loop .inv .1) (c .loop-test .left)
@@ -39,14 +41,8 @@ is-curved-spec =
     (tie.spec
     Inv-loop
     μ-loop
-    (λ c. search needs)
-    (λ c. omega arith)
-    (λ c. omega arith)
-    (λ c κs. search needs)
+    (λ c. search needs) (λ c. omega arith) (λ c. omega arith) (λ c κs. search needs)
     returns
-    (λ c κs. search needs)
-    (λ c κs. search needs)
-    (λ c. omega arith)
-    (λ c. omega arith)
+    (λ c κs. search needs) (λ c κs. search needs) (λ c. omega arith) (λ c. omega arith)
     loop-again
     returns-2)

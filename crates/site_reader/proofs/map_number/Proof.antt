@@ -23,16 +23,19 @@ abbrev μ-loop : tie.MeasureT-loop
 returns : tie.Need-returns Inv-loop μ-loop
 returns c =
     let turn = c .before .before .before in
-    rw (← any-hit _ _ _ _ _ _ _ (turn .before .before .pre) (turn .before .loop .inv .1) _ _ (turn .loop-test .taken) (c .before .lacked-bit-stands .ensures) (c .if1 .taken))
+    let lacked = c .before .lacked-bit-stands .ensures in
+    rw (← any-hit _ _ _ _ _ _ _ (turn .before .before .pre) (turn .before .loop .inv .1) _ _ (turn .loop-test .taken) lacked (c .if1 .taken))
 
 loop-again : tie.Need-loop-again Inv-loop μ-loop
 loop-again c =
-    let turn = c .before .before .before .before .before in
+    let lacked = c .before .before .before in
+    let turn = lacked .before .before in
     let count = turn .before .before .pre in
+    let more = turn .loop-test .taken in
     let inv = turn .before .loop .inv in (
       omega arith,
-      any-miss _ _ _ _ _ _ _ count (inv .1) _ _ _ (turn .loop-test .taken) (c .before .before .before .lacked-bit-stands .ensures) (c .before .before .if1 .left) (c .rest-of .ensures),
-      kept-more _ _ _ _ _ _ count _ (inv .2) _ _ _ (turn .loop-test .taken) (c .before .number-after .ensures) (c .rest-of .ensures),
+      any-miss _ _ _ _ _ _ _ count (inv .1) _ _ _ more (lacked .lacked-bit-stands .ensures) (c .before .before .if1 .left) (c .rest-of .ensures),
+      kept-more _ _ _ _ _ _ count _ (inv .2) _ _ _ more (c .before .number-after .ensures) (c .rest-of .ensures),
     )
 
 returns-2 : tie.Need-returns-2 Inv-loop μ-loop
@@ -53,15 +56,9 @@ map-number-spec =
     (tie.spec
     Inv-loop
     μ-loop
-    (λ c. search needs)
-    (λ c. omega arith)
-    (λ c. omega arith)
-    (λ c κs. search needs)
+    (λ c. search needs) (λ c. omega arith) (λ c. omega arith) (λ c κs. search needs)
     returns
-    (λ c κs. search needs)
-    (λ c κs. search needs)
-    (λ c. omega arith)
-    (λ c. omega arith)
+    (λ c κs. search needs) (λ c κs. search needs) (λ c. omega arith) (λ c. omega arith)
     loop-again
     returns-2
     returns-3)

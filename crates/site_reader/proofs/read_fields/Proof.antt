@@ -5,7 +5,7 @@ use mathlib.Core.List.{List}
 use Prim.Native.Nat.{ℕ, _*_}
 use lib.ListN.{length}
 use lib.Dec.{ltb}
-use borrow.Author.Tests.{lt-ltb, le-ltb, eq-eqb, ne-eqb}
+use borrow.Author.Tests.{lt-ltb, le-ltb, ne-eqb}
 use Rattle.site.specs.declared.rules.Rule.{Rule}
 use Rattle.laws.specs.Truth.{passed}
 use Rattle.site.specs.Record.{lacks, misses, words, fieldsNumber, recordNumber}
@@ -39,31 +39,22 @@ returns c = simp (
 )
 
 returns-2 : tie.Need-returns-2
-returns-2 c = simp (
-  fields-tell _ _ _ (c .before .before .before .map-number .ensures) (c .before .before .if1 .left),
-  ← c .before .count-words .ensures .0,
-  lt-ltb _ _ (c .if2 .taken),
-)
+returns-2 c =
+    let words = c .before in
+    simp (
+      fields-tell _ _ _ (words .before .before .map-number .ensures) (words .before .if1 .left),
+      ← words .count-words .ensures .0,
+      lt-ltb _ _ (c .if2 .taken),
+    )
 
 returns-3 : tie.Need-returns-3
-returns-3 c = simp (
-  fields-tell _ _ _ (c .before .before .before .before .before .map-number .ensures) (c .before .before .before .before .if1 .left),
-  ← c .before .before .before .count-words .ensures .0,
-  le-ltb _ _ (c .before .before .if2 .left),
-  ← c .before .fields-number .ensures,
-  ne-eqb _ _ (c .if3 .taken),
-)
-
-returns-4 : tie.Need-returns-4
-returns-4 c = simp (
-  fields-tell _ _ _ (c .before .before .before .before .before .before .before .map-number .ensures) (c .before .before .before .before .before .before .if1 .left),
-  ← c .before .before .before .before .before .count-words .ensures .0,
-  le-ltb _ _ (c .before .before .before .before .if2 .left),
-  ← c .before .before .before .fields-number .ensures,
-  eq-eqb _ _ (c .before .before .if3 .left),
-  ← c .before .fields-values .ensures,
-  ← c .site-of .ensures,
-)
+returns-3 c =
+    let words = c .before .before in
+    simp (
+      fields-tell _ _ _ (words .before .before .map-number .ensures) (words .before .if1 .left),
+      le-ltb _ _ (rw (words .count-words .ensures .0) at (c .before .if2 .left)),
+    )
+    (c .read-values .ensures)
 
 pub read-fields-spec : {M : Type 1} → statement M
 read-fields-spec =
@@ -71,12 +62,7 @@ read-fields-spec =
     (tie.spec
     (λ c κs. search needs)
     returns
-    (λ c κs. search needs)
-    (λ c. search needs)
+    (λ c κs. search needs) (λ c. search needs)
     returns-2
     (λ c κs. search needs)
-    returns-3
-    (λ c κs. search needs)
-    (λ c κs. search needs)
-    (λ c. search needs)
-    returns-4)
+    returns-3)

@@ -19,12 +19,14 @@ returns-2 c = reads-site _ _ (simp (le-ltb _ _ (c .before .before .if1 .left), l
 returns-3 : tie.Need-returns-3
 unfolding readSite refusalOf
 returns-3 c =
-    let start = c .before .before .before .before .before .before .before .before in
+    let word = c .before .before .before in
+    let kind = word .before .before .before in
+    let start = kind .before .before in
     reads-site _ _
     (simp (
-      le-ltb _ _ (c .before .before .before .before .before .before .if1 .left),
-      le-ltb _ _ (c .before .before .before .before .if2 .left),
-      ← c .before .before .before .word-at .ensures,
+      le-ltb _ _ (kind .if1 .left),
+      le-ltb _ _ (word .before .if2 .left),
+      ← word .word-at .ensures,
       ← c .before .before .rules-read .ensures,
     )
     (rw (part-from (now (start .args .part)) 3) at (c .read-fields .ensures)))
@@ -36,10 +38,5 @@ read-site-spec =
     returns
     (λ c. search needs)
     returns-2
-    (λ c κs. search needs)
-    (λ c κs. search needs)
-    (λ c. search needs)
-    (λ c. search needs)
-    (λ c. search needs)
-    (λ c κs. search needs)
+    (λ c κs. search needs) (λ c κs. search needs) (λ c. search needs) (λ c. search needs) (λ c. search needs) (λ c κs. search needs)
     returns-3)

@@ -8,10 +8,17 @@ use Rattle.site_reader.proofs.word_at.Statement.{statement}
 use Rattle.site_reader.proofs.word_at.Tie as tie
 
 mul-result : tie.Need-mul-result
-mul-result c = omega (arith, c .wide .ensures, c .before .shared-slice-known2 .given (c .before .before .before .args .at), c .before .shared-slice-known2 .given (c .before .before .before .args .at + 1))
+mul-result c =
+    let at = c .before .before .before .args .at in
+    let bytes = c .before .shared-slice-known2 .given in
+    omega (arith, c .wide .ensures, bytes at, bytes (at + 1))
 
 add-result : tie.Need-add-result
-add-result c = omega (arith, c .before .before .wide .ensures, c .wide2 .ensures, c .before .shared-slice-known3 .given (c .before .before .before .before .before .args .at), c .before .shared-slice-known3 .given (c .before .before .before .before .before .args .at + 1))
+add-result c =
+    let high = c .before .before in
+    let at = high .before .before .before .args .at in
+    let bytes = c .before .shared-slice-known3 .given in
+    omega (arith, high .wide .ensures, c .wide2 .ensures, bytes at, bytes (at + 1))
 
 returns : tie.Need-returns
 returns c = simp (getD-drop, add-zero, c .before .before .wide .ensures, c .wide2 .ensures)
@@ -20,11 +27,8 @@ pub word-at-spec : {M : Type 1} → statement M
 word-at-spec =
     tie.close
     (tie.spec
-    (λ c. search needs)
-    (λ c. search needs)
-    (λ c κs. search needs)
+    (λ c. search needs) (λ c. search needs) (λ c κs. search needs)
     mul-result
-    (λ c. search needs)
-    (λ c κs. search needs)
+    (λ c. search needs) (λ c κs. search needs)
     add-result
     returns)

@@ -27,8 +27,9 @@ map-with-requires c κs =
 
 loop-again : tie.Need-loop-again Inv-loop μ-loop
 loop-again c =
-    let loop = c .before .before .before .before .loop in
-    let pre = c .before .before .before .before .before .pre in
+    let at = c .before .before .before .before in
+    let loop = at .loop in
+    let pre = at .before .pre in
     let e : loop .i - 1 + 1 ≡ loop .i = omega arith in
     (omega arith, map-more _ _ (loop .i - 1) (pre .0) (pre .1) _ _ _ _ (omega arith) (rw e (loop .inv .1)) (c .map-with .ensures))
 
@@ -44,11 +45,7 @@ map-of-spec =
     Inv-loop
     μ-loop
     loop-holds
-    (λ c. omega arith)
-    (λ c. omega arith)
-    (λ c. omega arith)
-    (λ c. omega arith)
-    (λ c. omega arith)
+    (λ c. omega arith) (λ c. omega arith) (λ c. omega arith) (λ c. omega arith) (λ c. omega arith)
     map-with-requires
     (λ c. omega arith)
     loop-again

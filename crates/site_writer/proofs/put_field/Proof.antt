@@ -11,7 +11,7 @@ use Rattle.site_writer.proofs.put_field.Statement.{statement}
 use Rattle.site_writer.proofs.put_field.Tie as tie
 
 -- a bit that stands, of a slot that holds a number
-bytes-are : (c : tie.After-slot) → let a = c .before .before .before .before .before .args in
+bytes-are : (c : tie.After-slot) → let bit = c .before .before .before in let a = bit .before .before .args in
     fieldBytes (a .rule) (a .slot) ≡ c .slot .given .0 .0 / 256 ∷ c .slot .given .0 .0 % 256 ∷ []
 bytes-are c =
     let bit = c .before .before .before in
@@ -24,10 +24,16 @@ slice-write-buffer-2 : tie.Need-slice-write-buffer-2
 slice-write-buffer-2 c = simp length-set (omega (arith, ap length (bytes-are (c .before))))
 
 returns : tie.Need-returns
-returns c = let a = c .before .before .before .before .before .args in put-none _ _ (a .rule) (a .slot) (ap (fieldBytes (a .rule)) (c .enum-told .given .1))
+returns c =
+    let bit = c .before .before .before in
+    let a = bit .before .before .args in
+    put-none _ _ (a .rule) (a .slot) (ap (fieldBytes (a .rule)) (c .enum-told .given .1))
 
 returns-2 : tie.Need-returns-2
-returns-2 c = let a = c .before .before .before .before .before .before .args in put-two _ _ (a .rule) (a .slot) _ _ (bytes-are (c .before))
+returns-2 c =
+    let bit = c .before .before .before .before in
+    let a = bit .before .before .args in
+    put-two _ _ (a .rule) (a .slot) _ _ (bytes-are (c .before))
 
 returns-3 : tie.Need-returns-3
 returns-3 c =
@@ -38,13 +44,9 @@ pub put-field-spec : {M : Type 1} → statement M
 put-field-spec =
     tie.close
     (tie.spec
-    (λ c κs. search needs)
-    (λ c. search needs)
-    (λ c. search needs)
-    (λ c. search needs)
+    (λ c κs. search needs) (λ c. search needs) (λ c. search needs) (λ c. search needs)
     slice-write-buffer
-    (λ c. search needs)
-    (λ c. search needs)
+    (λ c. search needs) (λ c. search needs)
     slice-write-buffer-2
     (λ c. search needs)
     returns

@@ -25,12 +25,14 @@ put-field-requires : tie.Need-put-field-requires Inv-loop μ-loop
 put-field-requires c κs =
     let turn = c .before .before .before in
     let start = turn .before .before .before in
-    omega (arith, bytes-length (start .args .t1) (start .args .t2) (turn .before .loop .i) (start .pre .0) (start .pre .1) Foreign Absent (turn .loop-test .taken))
+    let pre = start .pre in
+    omega (arith, bytes-length (start .args .t1) (start .args .t2) (turn .before .loop .i) (pre .0) (pre .1) Foreign Absent (turn .loop-test .taken))
 
 loop-again : tie.Need-loop-again Inv-loop μ-loop
 loop-again c =
-    let put = c .before .before .put-field in
-    let turn = c .before .before .before .before .before .before in
+    let after = c .before .before in
+    let put = after .put-field in
+    let turn = after .before .before .before .before in
     let loop = turn .before .loop in
     let start = turn .before .before .before in
     let count = start .pre .0 in
@@ -51,14 +53,9 @@ put-fields-spec =
     (tie.spec
     Inv-loop
     μ-loop
-    (λ c. search needs)
-    (λ c. omega arith)
-    (λ c. omega arith)
-    (λ c. omega arith)
-    (λ c. omega arith)
+    (λ c. search needs) (λ c. omega arith) (λ c. omega arith) (λ c. omega arith) (λ c. omega arith)
     put-field-requires
-    (λ c. omega arith)
-    (λ c. omega arith)
+    (λ c. omega arith) (λ c. omega arith)
     loop-again
     (λ c. search needs)
     returns)

@@ -3,14 +3,15 @@ use borrow.Author.Needs.{needs}
 use native.Mathlib.Omega.{arith}
 use mathlib.Core.Path.{sym, _∙_}
 use borrow.Author.Tests.{not-true, not-false}
-use denote.Ref.{now}
+use mathlib.Core.List.{[]}
 use lib.ListN.{length-set}
 use Rattle.site.specs.Tested.{tested-rules}
 use Rattle.site_writer.proofs.WriteWhole.{kind-outside, slots-tell, outside, Found, fields-long, room-refused, all-written}
 use Rattle.site_writer.proofs.write_site.Statement.{statement}
 use Rattle.site_writer.proofs.write_site.Tie as tie
 
-abbrev found : (c : tie.After-count-words) → Found (c .before .before .before .before .before .before .before .before .args .site)
+abbrev found : (c : tie.After-count-words) → let fit = c .before .before .before in let known = fit .before .before .before in
+    Found (known .before .before .args .site)
 found c =
     let fit = c .before .before .before in
     record {
@@ -32,9 +33,10 @@ returns c = let start = c .before .before in outside (start .args .site) _ (kind
 returns-2 : tie.Need-returns-2
 returns-2 c =
     let fit = c .before in
-    let site = fit .before .before .before .before .before .args .site in
-    let tell = slots-tell site (fit .before .before .before .if1 .left) _ (fit .before .before .slots-of .ensures) _ (fit .before .rules-held .ensures) _ (fit .do-all-fit .ensures) in
-    outside site _ (tell ∙ not-true (fit .do-all-fit .result) (c .if2 .taken))
+    let slots = fit .before .before in
+    let known = slots .before in
+    let tell = slots-tell _ (known .if1 .left) _ (slots .slots-of .ensures) _ (fit .before .rules-held .ensures) _ (fit .do-all-fit .ensures) in
+    outside (known .before .before .args .site) _ (tell ∙ not-true (fit .do-all-fit .result) (c .if2 .taken))
 
 map-of-requires : tie.Need-map-of-requires
 map-of-requires c κs =
@@ -44,42 +46,33 @@ map-of-requires c κs =
 returns-3 : tie.Need-returns-3
 returns-3 c = room-refused _ _ (found (c .before)) (c .if3 .taken)
 
-slice-write-buffer-2 : tie.Need-slice-write-buffer-2
-slice-write-buffer-2 c = simp length-set (omega arith)
-
-slice-write-buffer-3 : tie.Need-slice-write-buffer-3
-slice-write-buffer-3 c = simp length-set (omega arith)
-
 put-fields-requires : tie.Need-put-fields-requires
 put-fields-requires c κs =
-    let f = found (c .before .before) in
-    (search needs, search needs, simp length-set (omega (arith, fields-long _ (now (c .before .before .before .before .before .before .before .before .before .before .args .buffer)) f)))
+    (search needs, search needs, simp length-set (omega (arith, fields-long _ [] (found (c .before .before)))))
 
 same-length : tie.Need-same-length
 same-length c = c .before .before .put-fields .kept .1 .1 .0 ∙ simp length-set
 
 returns-4 : tie.Need-returns-4
-returns-4 c = all-written _ _ (found (c .before .before .before .before .before)) (c .before .before .before .before .if3 .left) _ (c .before .before .put-fields .ensures)
+returns-4 c =
+    let put = c .before .before in
+    let room = put .before .before in
+    all-written _ _ (found (room .before)) (room .if3 .left) _ (put .put-fields .ensures)
 
 pub write-site-spec : {M : Type 1} → statement M
 write-site-spec =
     tie.close
     (tie.spec
     returns
-    (λ c κs. search needs)
-    (λ c κs. search needs)
-    (λ c κs. search needs)
+    (λ c κs. search needs) (λ c κs. search needs) (λ c κs. search needs)
     returns-2
     map-of-requires
-    (λ c κs. search needs)
-    (λ c. search needs)
-    (λ c. search needs)
+    (λ c κs. search needs) (λ c. search needs) (λ c. search needs)
     returns-3
+    (λ c. search needs) (λ c. search needs)
+    (λ c. simp length-set (omega arith))
     (λ c. search needs)
-    (λ c. search needs)
-    slice-write-buffer-2
-    (λ c. search needs)
-    slice-write-buffer-3
+    (λ c. simp length-set (omega arith))
     put-fields-requires
     same-length
     returns-4)

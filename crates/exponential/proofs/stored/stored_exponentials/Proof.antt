@@ -1,5 +1,5 @@
 -- The table is the definition's, entry by entry: one computed test.
-use mathlib.Core.Path.{refl}
+use Rattle.laws.specs.Table.{passesAll}
 use Rattle.estimate.specs.Fraction.{whole, fraction}
 use Rattle.estimate.specs.Exponential.{termNum, termDen, sumNum, partialSum, expUnder}
 use Rattle.exponential.specs.Stored.{storedExp}
@@ -8,8 +8,8 @@ use Rattle.exponential.proofs.stored.stored_exponentials.Statement.{sta
 use Rattle.exponential.proofs.stored.stored_exponentials.Tie as tie
 
 returns : tie.Need-returns
-unfolding isStored storedExp expUnder partialSum sumNum termNum termDen whole fraction
-returns c = stored-by-test _ refl tt
+unfolding passesAll isStored storedExp expUnder partialSum sumNum termNum termDen whole fraction
+returns c = stored-by-test _ tt
 
 pub stored-exponentials-spec : {M : Type 1} → statement M
 stored-exponentials-spec = tie.close (tie.spec returns)

@@ -5,7 +5,7 @@ use mathlib.Core.Path.{sym}
 use native.Mathlib.Nat.{mul-le-mul}
 use Rattle.estimate.specs.Fraction.{whole, fraction}
 use Rattle.model.specs.Access.{twoWayLane}
-use Rattle.factors.specs.Ratio.{coded-quotient}
+use Rattle.bracket.specs.Ratio.{coded-quotient}
 use Rattle.factors.proofs.access.two_way_lane.Statement.{statement}
 use Rattle.factors.proofs.access.two_way_lane.Tie as tie
 

@@ -5,7 +5,7 @@ use mathlib.Core.Path.{sym}
 use native.Mathlib.Nat.{mul-le-mul}
 use Rattle.estimate.specs.Fraction.{whole, fraction}
 use Rattle.model.specs.Alignment.{curve}
-use Rattle.factors.specs.Ratio.{coded-quotient}
+use Rattle.bracket.specs.Ratio.{coded-quotient}
 use Rattle.factors.proofs.alignment.curve.Statement.{statement}
 use Rattle.factors.proofs.alignment.curve.Tie as tie
 

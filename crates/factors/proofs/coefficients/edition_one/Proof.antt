@@ -5,7 +5,7 @@ use Rattle.factors.proofs.coefficients.edition_one.Tie as tie
 
 returns : tie.Need-returns
 unfolding editionOne
-returns c = (refl, refl, refl)
+returns c = record { share-is = refl; constant-is = refl; fewest-is = refl }
 
 pub edition-one-spec : {M : Type 1} → statement M
 edition-one-spec = tie.close (tie.spec returns)

@@ -7,7 +7,8 @@ use Rattle.factors.proofs.widths.at_traffic.Statement.{statement}
 use Rattle.factors.proofs.widths.at_traffic.Tie as tie
 
 -- from 400 to 2,000 vehicles, what is added fits and what is taken away is there
-steps : (c : tie.Then2) → let a = c .before .before .args in (a .column .light + a .column .adds * (a .traffic - 400) ≤ highestValue) × (a .column .takes * (a .traffic - 400) ≤ a .column .light)
+steps : (c : tie.Then2) → let a = c .before .before .args in
+    (a .column .light + a .column .adds * (a .traffic - 400) ≤ highestValue) × (a .column .takes * (a .traffic - 400) ≤ a .column .light)
 steps c =
     let a = c .before .before .args in
     let bounds = c .before .before .pre in

@@ -4,7 +4,7 @@ use mathlib.Core.Path.{sym}
 use native.Mathlib.Nat.{mul-le-mul}
 use Prim.Native.Nat.{_-_, _*_, _≤_}
 use Rattle.model.specs.FactorBounds.{highestValue}
-use Rattle.factors.specs.Ratio.{coded-quotient}
+use Rattle.bracket.specs.Ratio.{coded-quotient}
 use Rattle.factors.proofs.widths.of_related.Statement.{statement}
 use Rattle.factors.proofs.widths.of_related.Tie as tie
 

@@ -5,7 +5,7 @@ use lib.Dec.{lit<, lit≤}
 use Prim.Native.Nat.{_*_, _≤_}
 use Rattle.model.specs.Widths.{shoulderValue, typeValue, ofRelated, atTraffic}
 use Rattle.model.specs.FactorBounds.{highestValue, shoulder-column-within, shoulder-value-within, column-alone}
-use Rattle.factors.specs.Ratio.{coded}
+use Rattle.bracket.specs.Ratio.{coded}
 use Rattle.factors.proofs.widths.shoulder.Statement.{statement}
 use Rattle.factors.proofs.widths.shoulder.Tie as tie
 

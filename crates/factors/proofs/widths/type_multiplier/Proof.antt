@@ -22,8 +22,7 @@ pub type-multiplier-spec : {M : Type 1} → statement M
 type-multiplier-spec =
     tie.close
     (tie.spec
-    (λ c κs. search needs)
-    (λ c. search needs)
+    (λ c κs. search needs) (λ c. search needs)
     mul-result-2
     (λ c. search needs)
     index-2-result

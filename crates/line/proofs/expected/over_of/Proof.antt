@@ -7,7 +7,7 @@ use Rattle.line.proofs.expected.over_of.Statement.{statement}
 use Rattle.line.proofs.expected.over_of.Tie as tie
 
 product : (c : tie.Start) → let a = c .args in a .kn * a .observed ≤ 1000 * 500
-product c = mul-le-mul (c .pre .0) (c .pre .2)
+product c = mul-le-mul (c .pre .0 .kn-most) (c .pre .1)
 
 mul-result : tie.Need-mul-result
 mul-result c = omega (arith, product c)

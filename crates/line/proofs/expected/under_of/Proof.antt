@@ -2,12 +2,13 @@
 use native.Mathlib.Nat.{mul-le-mul}
 use native.Mathlib.Omega.{arith}
 use Prim.Native.Nat.{_*_, _≤_}
+use Rattle.model.specs.StatedWidths.{mostPredicted}
 use borrow.Author.Needs.{needs}
 use Rattle.line.proofs.expected.under_of.Statement.{statement}
 use Rattle.line.proofs.expected.under_of.Tie as tie
 
-product : (c : tie.Start) → let a = c .args in a .kn * a .n ≤ 1000 * 100000000000000
-product c = mul-le-mul (c .pre .0) (c .pre .2)
+product : (c : tie.Start) → let a = c .args in a .kn * a .n ≤ 1000 * mostPredicted
+product c = mul-le-mul (c .pre .0 .kn-most) (c .pre .1)
 
 mul-result-2 : tie.Need-mul-result-2
 mul-result-2 c = omega (arith, product c)

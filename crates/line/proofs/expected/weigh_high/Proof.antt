@@ -5,7 +5,9 @@ use Rattle.line.proofs.expected.weigh_high.Statement.{statement}
 use Rattle.line.proofs.expected.weigh_high.Tie as tie
 
 times-up-requires : tie.Need-times-up-requires
-times-up-requires c κs = rw (c .before .over-of .ensures, c .under-of .ensures) (under-positive _ _ _ _ (c .before .before .pre), high-fits _ _ _ _ (c .before .before .pre))
+times-up-requires c κs =
+    let sizes = c .before .before .pre in
+    rw (c .before .over-of .ensures, c .under-of .ensures) (under-positive _ _ _ _ sizes, high-fits _ _ _ _ sizes)
 
 returns : tie.Need-returns
 returns c = rw (← c .before .before .over-of .ensures, ← c .before .under-of .ensures) (c .times-up .ensures)

@@ -5,7 +5,9 @@ use Rattle.line.proofs.expected.weigh_low.Statement.{statement}
 use Rattle.line.proofs.expected.weigh_low.Tie as tie
 
 times-down-requires : tie.Need-times-down-requires
-times-down-requires c κs = rw (c .before .over-of .ensures, c .under-of .ensures) (under-positive _ _ _ _ (c .before .before .pre), low-fits _ _ _ _ (c .before .before .pre))
+times-down-requires c κs =
+    let sizes = c .before .before .pre in
+    rw (c .before .over-of .ensures, c .under-of .ensures) (under-positive _ _ _ _ sizes, low-fits _ _ _ _ sizes)
 
 returns : tie.Need-returns
 returns c = rw (← c .before .before .over-of .ensures, ← c .before .under-of .ensures) (c .times-down .ensures)

@@ -1,3 +1,4 @@
+use Rattle.laws.specs.Table.{passesAll}
 use Rattle.estimate.specs.Fraction.{leᶠ, fraction, whole, decimal}
 use Rattle.estimate.specs.Exponential.{termNum, termDen, sumNum, partialSum, sumWithTail, expUnder, expOver}
 use Rattle.logarithm.proofs.Entries.{passes, rightEntry, stored-by-test}
@@ -6,7 +7,7 @@ use Rattle.logarithm.proofs.stored.stored_logarithms.Tie as tie
 
 -- the one test, which is computed over the table
 returns : tie.Need-returns
-unfolding passes rightEntry leᶠ fraction whole decimal expOver expUnder sumWithTail partialSum sumNum termNum termDen
+unfolding passes passesAll rightEntry leᶠ fraction whole decimal expOver expUnder sumWithTail partialSum sumNum termNum termDen
 returns c = stored-by-test _ tt
 
 pub stored-logarithms-spec : {M : Type 1} → statement M

@@ -17,9 +17,6 @@ Inv-loop num e₀ e = (e ≤ 5) × ((j : ℕ) → j < e → Passed num j)
 abbrev μ-loop : tie.MeasureT-loop
 μ-loop num e₀ e = 5 - e
 
-loop-holds : tie.Need-loop-holds Inv-loop μ-loop
-loop-holds c = (search needs, below-none (Passed (c .args .num)))
-
 returns : tie.Need-returns Inv-loop μ-loop
 unfolding placeOf
 returns c =
@@ -45,10 +42,9 @@ exponent-place-spec =
     (tie.spec
     Inv-loop
     μ-loop
-    loop-holds
+    (λ c. (search needs, below-none (Passed (c .args .num))))
     (λ c κs. search needs)
     returns
-    (λ c. omega arith)
-    (λ c. omega arith)
+    (λ c. omega arith) (λ c. omega arith)
     loop-again
     returns-2)

@@ -1,5 +1,5 @@
 -- `prediction::segment::carry_segment` meets its contract.
-use Rattle.prediction.specs.Values.{straight-carried, curve-carried}
+use Rattle.prediction.specs.Carrying.{straight-carried, curve-carried}
 use borrow.Author.Needs.{needs}
 use Rattle.prediction.proofs.segment.carry_segment.Statement.{statement}
 use Rattle.prediction.proofs.segment.carry_segment.Tie as tie
@@ -10,7 +10,8 @@ carry-curve-requires c κs = c .before .before .before .pre .3 .bend (c .if1 .ta
 returns : tie.Need-returns
 returns c =
     let s = c .before .before in
-    rw (← s .before .segment-start .ensures, ← curve-carried (s .before .before .args .v) _ (c .before .if1 .taken), ← s .carry-straight .ensures) (c .carry-curve .ensures)
+    let v = s .before .before .args .v in
+    rw (← s .before .segment-start .ensures, ← curve-carried v _ (c .before .if1 .taken), ← s .carry-straight .ensures) (c .carry-curve .ensures)
 
 returns-2 : tie.Need-returns-2
 returns-2 c =
@@ -21,8 +22,7 @@ pub carry-segment-spec : {M : Type 1} → statement M
 carry-segment-spec =
     tie.close
     (tie.spec
-    (λ c κs. search needs)
-    (λ c κs. search needs)
+    (λ c κs. search needs) (λ c κs. search needs)
     carry-curve-requires
     returns
     returns-2)

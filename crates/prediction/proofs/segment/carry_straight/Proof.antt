@@ -1,67 +1,97 @@
 -- `prediction::segment::carry_straight` meets its contract.
-use mathlib.Core.Path.{refl, _∙_}
-use Rattle.bracket.specs.CarryLaws.{one-by-one, further}
+use mathlib.Core.Path.{refl}
+use native.Mathlib.Omega.{arith}
+use Rattle.bracket.specs.CarryLaws.{further, further-exact}
 use Rattle.bracket.specs.declared.carry.CarryAnswer.the-variants.{Carried}
-use Rattle.prediction.specs.Values.{straightBrackets}
+use Rattle.factors.specs.Edition.{lane-of, shoulder-of}
+use Rattle.model.specs.Coefficients.{editionOne}
+use Rattle.model.specs.Widths.{lane, shoulder}
+use Rattle.model.specs.Access.{twoWayLane, passing}
+use Rattle.model.specs.Parts.{straightFactors}
+use Rattle.prediction.specs.EditionOne.{edition-one-rated}
+use Rattle.prediction.specs.Carrying.{through-all}
 use borrow.Author.Needs.{needs}
 use Rattle.prediction.proofs.segment.carry_straight.Statement.{statement}
 use Rattle.prediction.proofs.segment.carry_straight.Tie as tie
 
-passing-factor-requires : tie.Need-passing-factor-requires
-passing-factor-requires c κs = c .before .before .before .before .before .before .before .before .before .before .before .before .pre .1
+-- the places from which the numbers of edition 1 are known, as seen from further on
+abbrev edition-at-shoulder : tie.After-through-exact → tie.After-edition-one
+edition-at-shoulder c = c .before .before .before .before
+
+abbrev edition-at-passing : tie.After-through-exact5 → tie.After-edition-one
+edition-at-passing c =
+    let steep = c .before .before .before .before in
+    let shoulder = steep .before .before .before .before in
+    edition-at-shoulder shoulder
+
+abbrev edition-at-driveways : tie.After-through2 → tie.After-edition-one
+edition-at-driveways c = edition-at-passing (c .before .before .before .before)
+
+lane-requires : tie.Need-lane-requires
+lane-requires c κs = omega (arith, c .before .before .edition-one .ensures .share-is, edition-one-rated .bounded .share-most)
+
+shoulder-requires : tie.Need-shoulder-requires
+shoulder-requires c κs =
+    let edition = edition-at-shoulder c in
+    (omega (arith, edition .edition-one .ensures .share-is, edition-one-rated .bounded .share-most), edition .before .pre .1 .type-most)
+
+passing-requires : tie.Need-passing-requires
+passing-requires c κs = edition-at-passing c .before .pre .1 .passing-most
 
 hazard-factor-requires : tie.Need-hazard-factor-requires
-hazard-factor-requires c κs =
-    let sizes = c .before .before .before .before .before .before .before .before .before .before .before .before .before .before .pre .1 in
-    (sizes .rating-least, sizes .rating-most)
+hazard-factor-requires c κs = let sizes = edition-at-passing (c .before .before) .before .pre .1 in (sizes .rating-least, sizes .rating-most)
 
-driveway-factor-requires : tie.Need-driveway-factor-requires
-driveway-factor-requires c κs = c .before .before .before .before .before .before .before .before .before .before .before .before .before .before .before .before .pre
+driveways-with-requires : tie.Need-driveways-with-requires
+driveways-with-requires c κs =
+    let edition = edition-at-driveways c in
+    let pre = edition .before .pre in
+    let is = edition .edition-one .ensures .constant-is in
+    let least = edition-one-rated .constant-least in
+    let most = edition-one-rated .constant-most in
+    (pre .0, omega (arith, is, most), omega (arith, is, least), pre .1 .driveways-most, pre .1 .traffic .least, pre .1 .traffic .most)
 
 returns : tie.Need-returns
-unfolding straightBrackets
+unfolding straightFactors
 returns c =
     let driveways = c .before in
     let hazard = driveways .before .before in
-    let passing = hazard .before .before in
-    let two-way = passing .before .before in
-    let second = two-way .before .before in
-    let first = second .before .before in
-    let shoulder = first .before .before in
-    let lane = shoulder .before .before in
-    let base = lane .before .before in
-    let a = base .before .args in
+    let passing-lane = hazard .before .before in
+    let two-way = passing-lane .before .before in
+    let steep = two-way .before .before in
+    let grade = steep .before .before in
+    let shoulders = grade .before .before in
+    let lanes = shoulders .before .before in
+    let base = lanes .before .before in
+    let edition = base .before in
+    let held = edition .edition-one .ensures in
+    let a = edition .before .args in
     let start = a .start in
-    let to-base = further {a = Carried start start} refl (base .base-factor .ensures) (lane .before .through .ensures) in
-    let to-lane = further to-base (lane .lane-factor .ensures) (shoulder .before .through2 .ensures) in
-    let to-shoulder = further to-lane (shoulder .shoulder-factor .ensures) (first .before .through3 .ensures) in
-    let to-first = further to-shoulder (first .first-grade-factor .ensures) (second .before .through4 .ensures) in
-    let to-second = further to-first (second .second-grade-factor .ensures) (two-way .before .through5 .ensures) in
-    let to-two-way = further to-second (two-way .two-way-factor .ensures) (passing .before .through6 .ensures) in
-    let to-passing = further to-two-way (passing .passing-factor .ensures) (hazard .before .through7 .ensures) in
-    let to-hazard = further to-passing (hazard .hazard-factor .ensures) (driveways .before .through8 .ensures) in
-    further to-hazard (driveways .driveway-factor .ensures) (c .through9 .ensures) ∙ one-by-one (straightBrackets (a .v)) (Carried start start)
+    let to-base = further {a = Carried start start} refl (base .base-factor .ensures) (lanes .before .through .ensures) in
+    let to-lane = further-exact (lane editionOne _ _) to-base (lane-of held _ _ (lanes .lane .ensures)) (shoulders .before .through-exact .ensures) in
+    let shoulder-is = shoulder-of held _ _ _ (shoulders .shoulder .ensures) in
+    let to-shoulder = further-exact (shoulder editionOne _ _ _) to-lane shoulder-is (grade .before .through-exact2 .ensures) in
+    let to-grade = further-exact (editionOne .grade _) to-shoulder (grade .grade .ensures) (steep .before .through-exact3 .ensures) in
+    let to-steep = further-exact (editionOne .steep-grade _) to-grade (steep .steep-grade .ensures) (two-way .before .through-exact4 .ensures) in
+    let to-two-way = further-exact (twoWayLane _ _) to-steep (two-way .two-way-lane .ensures) (passing-lane .before .through-exact5 .ensures) in
+    let to-passing = further-exact (passing _) to-two-way (passing-lane .passing .ensures) (hazard .before .through-exact6 .ensures) in
+    let to-hazard = further to-passing (hazard .hazard-factor .ensures) (driveways .before .through2 .ensures) in
+    let bracket = rw (held .constant-is, held .fewest-is) at (driveways .driveways-with .ensures) in
+    through-all (Carried start start) (straightFactors (a .v)) (further to-hazard bracket (c .through3 .ensures))
 
 pub carry-straight-spec : {M : Type 1} → statement M
 carry-straight-spec =
     tie.close
     (tie.spec
+    (λ c κs. search needs) (λ c κs. search needs) (λ c κs. search needs)
+    lane-requires
     (λ c κs. search needs)
+    shoulder-requires
+    (λ c κs. search needs) (λ c κs. search needs) (λ c κs. search needs) (λ c κs. search needs) (λ c κs. search needs) (λ c κs. search needs)
     (λ c κs. search needs)
-    (λ c κs. search needs)
-    (λ c κs. search needs)
-    (λ c κs. search needs)
-    (λ c κs. search needs)
-    (λ c κs. search needs)
-    (λ c κs. search needs)
-    (λ c κs. search needs)
-    (λ c κs. search needs)
-    (λ c κs. search needs)
-    (λ c κs. search needs)
-    passing-factor-requires
+    passing-requires
     (λ c κs. search needs)
     hazard-factor-requires
     (λ c κs. search needs)
-    driveway-factor-requires
+    driveways-with-requires
     (λ c κs. search needs)
     returns)

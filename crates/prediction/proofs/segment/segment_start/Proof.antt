@@ -1,13 +1,13 @@
 -- `prediction::segment::segment_start` meets its contract.
 use native.Mathlib.Omega.{arith}
-use Rattle.prediction.specs.Values.{StartRoom, start-room}
+use Rattle.prediction.specs.Carrying.{StartRoom, start-room}
 use borrow.Author.Needs.{needs}
 use Rattle.prediction.proofs.segment.segment_start.Statement.{statement}
 use Rattle.prediction.proofs.segment.segment_start.Tie as tie
 
 -- the products fit
 room : (c : tie.Start) → let a = c .args in StartRoom (a .years) (a .calibration) (a .v .traffic) (a .v .length)
-room c = let p = c .pre in start-room (p .0) (p .1) (p .2 .traffic-most) (p .2 .length-most)
+room c = let p = c .pre in start-room (p .0) (p .1) (p .2 .traffic .most) (p .2 .length-most)
 
 mul-result : tie.Need-mul-result
 mul-result c = omega (arith, room c .first)

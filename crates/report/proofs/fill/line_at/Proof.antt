@@ -1,41 +1,35 @@
+-- `report::fill::line_at` meets its contract. The line of the site that was read, or none.
 use denote.Ref.{now}
-use Rattle.model.specs.Predicted.{Header, headerOf}
-use Rattle.report.proofs.RecordRead.{no-line, a-line}
+use Rattle.model.specs.Coefficients.{editionOne}
+use Rattle.report.specs.Fill.{no-line, a-line}
 use borrow.Author.Needs.{needs}
 use Rattle.report.proofs.fill.line_at.Statement.{statement}
 use Rattle.report.proofs.fill.line_at.Tie as tie
-
-abbrev header : tie.Start → Header
-header start = headerOf (start .args .header .years) (start .args .header .segments) (start .args .header .crossings)
 
 line-with-requires : tie.Need-line-with-requires
 line-with-requires c κs =
     let read = c .before .before .before in
     let pre = read .before .before .before .pre in
-    (pre .0, pre .1, pre .2, pre .4, pre .5, pre .6, read .read-site .ensures .valid _ _ (c .before .answer .given .1))
+    (pre .0, pre .1, pre .2, pre .4, read .read-site .ensures .valid _ _ (c .before .answer .given .1))
 
 returns : tie.Need-returns
 returns c =
     let read = c .before .before in
     let start = read .before .before .before in
-    no-line (now (start .args .file)) (start .args .at) _ (read .read-site .ensures) (header start) _ (c .enum-told .given .1)
+    no-line (now (start .args .file)) (start .args .at) _ (read .read-site .ensures) editionOne (start .args .header) _ (c .enum-told .given .1)
 
 returns-2 : tie.Need-returns-2
 returns-2 c =
     let read = c .before .before .before .before in
     let start = read .before .before .before in
-    a-line (now (start .args .file)) (start .args .at) _ (read .read-site .ensures) (header start) _ _ _ (c .before .before .answer .given .1) (c .line-with .ensures)
+    a-line (now (start .args .file)) (start .args .at) _ (read .read-site .ensures) editionOne (start .args .header) _ _ _
+    (c .before .before .answer .given .1) (c .line-with .ensures)
 
 pub line-at-spec : {M : Type 1} → statement M
 line-at-spec =
     tie.close
     (tie.spec
-    (λ c. search needs)
-    (λ c. search needs)
-    (λ c. search needs)
-    (λ c κs. search needs)
-    (λ c. search needs)
-    (λ c. search needs)
+    (λ c. search needs) (λ c. search needs) (λ c. search needs) (λ c κs. search needs) (λ c. search needs) (λ c. search needs)
     line-with-requires
     returns
     returns-2)

@@ -1,3 +1,4 @@
+-- `report::fill::put_line` meets its contract. Four stores, one after another.
 use Prim.Native.Nat.{suc, _+_}
 use mathlib.Core.Path.{_≡_, refl}
 use native.Mathlib.Omega.{arith}
@@ -5,15 +6,6 @@ use lib.ListN.{length-set}
 use borrow.Author.Needs.{needs}
 use Rattle.report.proofs.fill.put_line.Statement.{statement}
 use Rattle.report.proofs.fill.put_line.Tie as tie
-
-slice-write-report-2 : tie.Need-slice-write-report-2
-slice-write-report-2 c = simp length-set (omega arith)
-
-slice-write-report-3 : tie.Need-slice-write-report-3
-slice-write-report-3 c = simp length-set (omega arith)
-
-slice-write-report-4 : tie.Need-slice-write-report-4
-slice-write-report-4 c = simp length-set (omega arith)
 
 returns : tie.Need-returns
 returns c =
@@ -27,16 +19,11 @@ pub put-line-spec : {M : Type 1} → statement M
 put-line-spec =
     tie.close
     (tie.spec
-    (λ c. search needs)
-    (λ c. search needs)
-    (λ c. search needs)
-    (λ c. search needs)
-    slice-write-report-2
-    (λ c. search needs)
-    (λ c. search needs)
-    slice-write-report-3
-    (λ c. search needs)
-    (λ c. search needs)
-    slice-write-report-4
+    (λ c. search needs) (λ c. search needs) (λ c. search needs) (λ c. search needs)
+    (λ c. simp length-set (omega arith))
+    (λ c. search needs) (λ c. search needs)
+    (λ c. simp length-set (omega arith))
+    (λ c. search needs) (λ c. search needs)
+    (λ c. simp length-set (omega arith))
     (λ c. search needs)
     returns)

@@ -21,8 +21,9 @@ abbrev μ-loop : tie.MeasureT-loop
 
 loop-again : tie.Need-loop-again Inv-loop μ-loop
 loop-again c =
-    let count = c .before .before .before .before .before .pre .0 in
-    let loop = c .before .before .before .loop in (
+    let at = c .before .before .before in
+    let count = at .before .before .pre .0 in
+    let loop = at .loop in (
       omega arith,
       simp length-set (loop .inv .1),
       store-more code _ _ _ _ count (loop .inv .2) _ _ (c .before .before .loop-test .taken) (c .code-of .ensures),
@@ -37,15 +38,8 @@ put-slots-spec =
     (tie.spec
     Inv-loop
     μ-loop
-    (λ c. search needs)
-    (λ c. omega arith)
-    (λ c. omega arith)
-    (λ c κs. search needs)
-    (λ c. omega arith)
-    (λ c. omega arith)
-    (λ c. omega arith)
-    (λ c. omega arith)
-    (λ c. omega arith)
+    (λ c. search needs) (λ c. omega arith) (λ c. omega arith) (λ c κs. search needs) (λ c. omega arith) (λ c. omega arith) (λ c. omega arith)
+    (λ c. omega arith) (λ c. omega arith)
     loop-again
     (λ c. search needs)
     returns)

@@ -25,8 +25,9 @@ loop-holds c = (omega arith, refl, map-start slotFrom (now (c .before .args .num
 
 loop-again : tie.Need-loop-again Inv-loop μ-loop
 loop-again c =
-    let count = c .before .before .before .before .before .pre in
-    let loop = c .before .before .before .loop in (
+    let at = c .before .before .before in
+    let count = at .before .before .pre in
+    let loop = at .loop in (
       omega arith,
       simp length-set (loop .inv .1),
       map-more slotFrom _ _ _ _ count (loop .inv .2) _ _ (c .before .before .loop-test .taken) (c .slot-from .ensures),
@@ -42,12 +43,6 @@ slots-from-spec =
     Inv-loop
     μ-loop
     loop-holds
-    (λ c. omega arith)
-    (λ c. omega arith)
-    (λ c κs. search needs)
-    (λ c. omega arith)
-    (λ c. omega arith)
-    (λ c. omega arith)
-    (λ c. omega arith)
+    (λ c. omega arith) (λ c. omega arith) (λ c κs. search needs) (λ c. omega arith) (λ c. omega arith) (λ c. omega arith) (λ c. omega arith)
     loop-again
     returns)

@@ -5,7 +5,7 @@ use Prim.Native.Nat.{_+_, _*_, _/_, _%_, _^_, _<_}
 use native.Mathlib.Nat.{div-add-mod'}
 use native.Mathlib.Omega.{arith}
 use Rattle.wide.proofs.Words.{top}
-use Rattle.wide.proofs.division.Laws.{pos, first, failed, long, passed, past, again}
+use Rattle.wide.proofs.division.Laws.{pos, short, first, failed, long, passed, past, again}
 use Rattle.wide.proofs.division.digit.Statement.{statement}
 use Rattle.wide.proofs.division.digit.Tie as tie
 
@@ -25,10 +25,10 @@ returns : tie.Need-returns Inv-loop μ-loop
 returns c =
     let l = c .before .before .before .loop in
     let a = c .before .before .before .before .args in
-    (passed _ _ _ (a .d / 2 ^ 32) (a .d % 2 ^ 32) (omega arith) (l .q) (l .r) (l .inv .0) (c .if2 .taken), l .inv .1)
+    (passed _ _ _ (a .d / 2 ^ 32) (a .d % 2 ^ 32) (omega arith) (l .q) (l .r) (l .inv .0) (c .if2 .taken), l .inv .1, omega arith)
 
 -- where the turn goes on, the estimate is too large
-large : (c : tie.Joined1 Inv-loop μ-loop) → c .before .before .before .args .rest * 2 ^ 32 + c .before .before .before .args .next < c .before .before .loop .q * c .before .before .before .args .d
+large : (c : tie.Joined1 Inv-loop μ-loop) → let l = c .before .before in let a = l .before .args in a .rest * 2 ^ 32 + a .next < l .loop .q * a .d
 large c =
     let l = c .before .before .loop in
     let a = c .before .before .before .args in
@@ -40,22 +40,31 @@ large c =
 above : (c : tie.Joined1 Inv-loop μ-loop) → 0 < c .before .before .loop .q
 above c = pos _ _ _ (large c)
 
-sub-q : tie.Need-sub-q Inv-loop μ-loop
-sub-q c = omega (arith, above c)
-
-loop-less : tie.Need-loop-less Inv-loop μ-loop
-loop-less c = omega (arith, above c)
-
 loop-again : tie.Need-loop-again Inv-loop μ-loop
 loop-again c = again _ _ _ (c .before .before .loop .q) _ (c .before .before .loop .r) _ (omega (arith, above c)) (c .before .before .loop .inv .0) (large c)
 
 returns-2 : tie.Need-returns-2 Inv-loop μ-loop
 returns-2 c =
     let l = c .before .loop in
-    let a = c .before .before .args in
-    (past _ _ _ (a .d / 2 ^ 32) (a .d % 2 ^ 32) (omega arith) (l .q) (l .r) (omega arith) (omega arith) (l .inv .0) (c .loop-test .left), l .inv .1)
+    let s = c .before .before in
+    let a = s .args in
+    let p =
+    past (a .rest) (a .next) (a .d) (a .d / 2 ^ 32) (a .d % 2 ^ 32) (omega arith) (l .q) (l .r) (s .pre .1) (omega arith) (l .inv .0) (c .loop-test .left) in
+    (p, l .inv .1, short _ _ _ (l .q) (s .pre .1) (s .pre .2) p)
 
 pub digit-spec : {M : Type 1} → statement M
 digit-spec =
     tie.close
-    (tie.spec Inv-loop μ-loop (λ c. omega arith) (λ c. omega arith) loop-holds mul-if2 (λ c. omega arith) (λ c. omega arith) returns sub-q (λ c. omega arith) loop-less loop-again returns-2)
+    (tie.spec
+    Inv-loop
+    μ-loop
+    (λ c. omega arith) (λ c. omega arith)
+    loop-holds
+    mul-if2
+    (λ c. omega arith) (λ c. omega arith)
+    returns
+    (λ c. omega (arith, above c))
+    (λ c. omega arith)
+    (λ c. omega (arith, above c))
+    loop-again
+    returns-2)

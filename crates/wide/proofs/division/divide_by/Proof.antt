@@ -15,8 +15,9 @@ short-requires : tie.Need-short-requires
 short-requires c κs =
     let s = c .before .before in
     let a = s .before in
-    let b = still-below (c .shift .result .high) (a .args .w .high) (a .args .d) (2 ^ s .twos .result) (pow-pos (s .twos .result)) (a .pre) (s .twos .ensures .1) (c .shift .ensures .0) in
-    (b, c .before .if1 .left)
+    let t = s .twos in
+    let m = 2 ^ t .result in
+    (still-below _ (a .args .w .high) (a .args .d) m (pow-pos (t .result)) (a .pre) (t .ensures .1) (c .shift .ensures .0), c .before .if1 .left)
 
 returns-2 : tie.Need-returns-2
 returns-2 c =
@@ -32,11 +33,6 @@ pub divide-by-spec : {M : Type 1} → statement M
 divide-by-spec =
     tie.close
     (tie.spec
-    (λ c κs. search needs)
-    (λ c. search needs)
-    (λ c. search needs)
-    (λ c κs. search needs)
-    (λ c. search needs)
-    (λ c κs. search needs)
+    (λ c κs. search needs) (λ c. search needs) (λ c. search needs) (λ c κs. search needs) (λ c. search needs) (λ c κs. search needs)
     short-requires
     returns-2)

@@ -23,16 +23,10 @@ normal d k s lo hi e =
 zeros : (c : tie.Start) → leadingZeros 64 (c .args .d) < 64
 zeros c = let t = leading-top 64 (c .args .d) (c .pre) (c .fits .d .fits) in omega (arith, t .1)
 
-cast-result : tie.Need-cast-result
-cast-result c = omega (arith, zeros c)
-
-shl-result : tie.Need-shl-result
-shl-result c = zeros c
-
 returns : tie.Need-returns
 returns c =
     let t = leading-top 64 (c .args .d) (c .pre) (c .fits .d .fits) in
     rw (shifted (leadingZeros 64 (c .args .d)) (zeros c)) (normal (c .args .d) (t .0) (leadingZeros 64 (c .args .d)) (t .2) (t .3) (t .1))
 
 pub norm-spec : {M : Type 1} → statement M
-norm-spec = tie.close (tie.spec cast-result shl-result returns)
+norm-spec = tie.close (tie.spec (λ c. omega (arith, zeros c)) (λ c. zeros c) returns)

@@ -5,7 +5,7 @@ use mathlib.Core.Path.{_≡_, refl, ap, sym, _∙_}
 use native.Mathlib.Omega.{arith}
 use lib.Pow.{pow-pos, pow-add}
 use mir.Facts.{fits-of-lt}
-use Rattle.wide.proofs.division.Laws.{carried-bits, carried-room, shifted}
+use Rattle.wide.proofs.division.Laws.{Carried, carried}
 use Rattle.wide.proofs.division.shift.Statement.{statement}
 use Rattle.wide.proofs.division.shift.Tie as tie
 
@@ -16,21 +16,20 @@ halves s h =
     let e : 2 ^ s * 2 ^ (63 - s) ≡ 2 ^ 63 = sym (pow-add 2 s (63 - s)) ∙ ap (λ (n : ℕ). 2 ^ n) sum in
     omega arith
 
+split : (a s : ℕ) → s < 64 → Carried a (2 ^ s) (2 ^ (63 - s)) (2 ^ 64)
+split a s h = carried a (2 ^ s) (2 ^ (63 - s)) (2 ^ 64) (halves s h) (pow-pos s) (pow-pos (63 - s))
+
 add-t11 : tie.Need-add-t11
 add-t11 c =
-    let a = c .before .before .before in
-    let e = halves (a .args .s) (a .pre) in
-    rw (carried-bits (a .args .w .high) (2 ^ a .args .s) (2 ^ (63 - a .args .s)) (2 ^ 64) e (pow-pos (a .args .s)) (pow-pos (63 - a .args .s)))
-    (fits-of-lt (carried-room (a .args .w .high) (2 ^ a .args .s) (2 ^ (63 - a .args .s)) (2 ^ 64) e (pow-pos (a .args .s)) (pow-pos (63 - a .args .s)) (a .args .w .low) (omega (arith, c .struct-known3 .given))))
+    let b = c .before .before .before in
+    let k = split (b .args .w .high) (b .args .s) (b .pre) in
+    rw (k .bits) (fits-of-lt (k .room (b .args .w .low) (omega (arith, c .struct-known3 .given))))
 
 returns : tie.Need-returns
 returns c =
-    let a = c .before .before .before in
-    let e = halves (a .args .s) (a .pre) in (
-      refl,
-      rw (carried-bits (a .args .w .high) (2 ^ a .args .s) (2 ^ (63 - a .args .s)) (2 ^ 64) e (pow-pos (a .args .s)) (pow-pos (63 - a .args .s)))
-          (shifted (a .args .w .high) (2 ^ a .args .s) (2 ^ (63 - a .args .s)) (2 ^ 64) e (pow-pos (a .args .s)) (pow-pos (63 - a .args .s)) (a .args .w .low)),
-    )
+    let b = c .before .before .before in
+    let k = split (b .args .w .high) (b .args .s) (b .pre) in
+    (refl, rw (k .bits) (k .shifted (b .args .w .low)))
 
 pub shift-spec : {M : Type 1} → statement M
 shift-spec = tie.close (tie.spec (λ c. search needs) (λ c. search needs) (λ c. search needs) (λ c. search needs) (λ c. search needs) add-t11 returns)

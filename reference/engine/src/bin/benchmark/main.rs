@@ -1,8 +1,8 @@
 //! Times of the engine's brackets, of its line of a site and of whole projects,
 //! with the stored numbers lent, beside plain doubles and, where they are
 //! installed, two interval libraries, in one run. For brackets and lines the
-//! engine's programs `bracket_rounds` and `line_rounds` are run with few and with
-//! many rounds, and the difference is divided by what was made.
+//! engine's program `rounds` is run with few and with many rounds, and the
+//! difference is divided by what was made.
 
 mod intervals;
 
@@ -18,45 +18,38 @@ use std::iter;
 use std::process::{Command, Stdio};
 use std::time::{Duration, Instant};
 
-const BRACKET_ROUNDS: &str = concat!(
-    env!("CARGO_MANIFEST_DIR"),
-    "/../../target/bin/bracket_rounds"
-);
-const LINE_ROUNDS: &str = concat!(env!("CARGO_MANIFEST_DIR"), "/../../target/bin/line_rounds");
+const PROGRAM: &str = concat!(env!("CARGO_MANIFEST_DIR"), "/../../target/bin/rounds");
 
 /// Each figure is the least of so many measurements, of a program's run or of
 /// work in this one.
 const TRIES: usize = 8;
 const TRIES_HERE: usize = 60;
 
-/// A kind of bracket: the byte that asks for a round, the brackets in a round
-/// and the rounds by which two runs differ.
+/// A kind of bracket: the brackets in a round, and the rounds by which two runs
+/// differ.
 struct Kind {
     name: &'static str,
-    byte: u8,
     brackets: u32,
-    rounds: usize,
+    rounds: u16,
     double: fn() -> f64,
 }
 
+/// In the order of the program's input.
 const KINDS: [Kind; 3] = [
     Kind {
         name: "power",
-        byte: b'p',
         brackets: 100_000,
         rounds: 20,
         double: powers_in_doubles,
     },
     Kind {
         name: "logarithm",
-        byte: b'l',
         brackets: 20_000,
         rounds: 200,
         double: logarithms_in_doubles,
     },
     Kind {
         name: "exponential",
-        byte: b'e',
         brackets: 140_001,
         rounds: 20,
         double: exponentials_in_doubles,
@@ -86,10 +79,10 @@ fn exponentials_in_doubles() -> f64 {
         .sum()
 }
 
-/// How long a program takes for an input, and what it prints.
-fn run(program: &str, input: &[u8]) -> (Duration, String) {
+/// How long the program takes for an input, and what it prints.
+fn run(input: &[u8]) -> (Duration, String) {
     let start = Instant::now();
-    let mut child = Command::new(program)
+    let mut child = Command::new(PROGRAM)
         .stdin(Stdio::piped())
         .stdout(Stdio::piped())
         .spawn()
@@ -122,10 +115,29 @@ fn nanoseconds(time: Duration, count: f64) -> f64 {
     time.as_secs_f64() * 1e9 / count
 }
 
-fn engine_time(kind: &Kind) -> f64 {
-    let timed = |rounds| least(TRIES, || run(BRACKET_ROUNDS, &vec![kind.byte; rounds]).0);
-    let (few, many) = (timed(1), timed(1 + kind.rounds));
-    let brackets = f64::from(kind.brackets) * kind.rounds as f64;
+/// The program's input: rounds of each kind of bracket, rounds that make lines,
+/// rounds that only read, and the records.
+fn rounds_of(brackets: [u16; KINDS.len()], lines: [u16; 2], sites: &[Site]) -> Vec<u8> {
+    let counts = brackets.into_iter().chain(lines);
+    let mut input: Vec<u8> = counts.flat_map(u16::to_be_bytes).collect();
+    for site in sites {
+        input.extend(write_site(site, usize::MAX).expect("a site that the writer takes"));
+    }
+    input
+}
+
+fn engine_time(at: usize) -> f64 {
+    let Kind {
+        brackets, rounds, ..
+    } = KINDS[at];
+    let timed = |rounds| {
+        let mut asked = [0; KINDS.len()];
+        asked[at] = rounds;
+        let input = rounds_of(asked, [0; 2], &[]);
+        least(TRIES, || run(&input).0)
+    };
+    let (few, many) = (timed(1), timed(1 + rounds));
+    let brackets = f64::from(brackets) * f64::from(rounds);
     nanoseconds(many.saturating_sub(few), brackets)
 }
 
@@ -146,16 +158,6 @@ const HEADER: Header = Header {
 /// Sites of all kinds, and the rounds over them by which two runs differ.
 const SITES: usize = 1_900;
 const ROUNDS: u16 = 300;
-
-/// The input of `line_rounds`: rounds that make lines, rounds that only read,
-/// and the records.
-fn rounds_of(making: u16, reading: u16, sites: &[Site]) -> Vec<u8> {
-    let mut input = [making.to_be_bytes(), reading.to_be_bytes()].concat();
-    for site in sites {
-        input.extend(write_site(site, usize::MAX).expect("a site that the writer takes"));
-    }
-    input
-}
 
 /// One making round's sum by the exported call, which the program must print.
 fn sum_of_lines(sites: &[Site]) -> u64 {
@@ -181,12 +183,12 @@ fn assert_same_figures(sites: &[Site]) {
 /// Nanoseconds for a site: reading its record, and making its line. The three
 /// runs take turns, so that a slow spell of the machine meets all of them.
 fn line_times(sites: &[Site]) -> (f64, f64) {
-    let rounds = [(1, 1), (1, 1 + ROUNDS), (1 + ROUNDS, 1)];
-    let inputs = rounds.map(|(making, reading)| rounds_of(making, reading, sites));
+    let rounds = [[1, 1], [1, 1 + ROUNDS], [1 + ROUNDS, 1]];
+    let inputs = rounds.map(|lines| rounds_of([0; KINDS.len()], lines, sites));
     let mut times = [Duration::MAX; 3];
     for _ in 0..TRIES {
         for (time, input) in times.iter_mut().zip(&inputs) {
-            *time = run(LINE_ROUNDS, input).0.min(*time);
+            *time = run(input).0.min(*time);
         }
     }
     let [none, read, made] = times;
@@ -248,8 +250,8 @@ struct Times {
 
 fn times_of(sites: &[Site]) -> Times {
     assert_same_figures(sites);
-    let (_, printed) = run(LINE_ROUNDS, &rounds_of(1, 0, sites));
-    assert_eq!(printed.trim(), sum_of_lines(sites).to_string());
+    let (_, printed) = run(&rounds_of([0; KINDS.len()], [1, 0], sites));
+    assert_eq!(printed, format!("0\n{}\n", sum_of_lines(sites)));
     let (reading, making) = line_times(sites);
     Times {
         making,
@@ -351,8 +353,8 @@ fn random_sites(random: &mut Random, count: usize) -> Vec<Site> {
 fn main() {
     println!("| Bracket | Engine, low and high, ns | One double, ns |");
     println!("|---|---|---|");
-    for kind in &KINDS {
-        let (engine, double) = (engine_time(kind), double_time(kind));
+    for (at, kind) in KINDS.iter().enumerate() {
+        let (engine, double) = (engine_time(at), double_time(kind));
         println!("| {} | {engine:.0} | {double:.0} |", kind.name);
     }
     println!();

@@ -1,0 +1,54 @@
+-- The header of a project file: its values, their limits, and its refusals.
+use Prim.Native.Nat.{ℕ}
+use mathlib.Core.Bool.{Bool, cond, _&&_}
+use mathlib.Core.List.{List}
+use lib.ListN.{length, getD, drop}
+use lib.Dec.{ltb, leb, eqb}
+use Rattle.site.specs.Rules.{inside}
+use Rattle.site.specs.Record.{word}
+use Rattle.header.specs.declared.Header.{Header}
+
+-- "Byte 0: edition, 1. Byte 1: years Y .. Bytes 2-3: segment calibration .. Bytes 4-5: the same for crossings. Bytes 6-7: sites"
+abbrev pub headerLength : ℕ
+headerLength = 8
+
+abbrev pub editionIn : List ℕ → ℕ
+editionIn s = getD s 0 0
+
+-- what holds for every site: years, and calibrations in thousandths
+abbrev pub headerOf : (years segments crossings : ℕ) → Header
+headerOf years segments crossings = record { years = years; segments = segments; crossings = crossings }
+
+abbrev pub headerIn : List ℕ → Header
+headerIn s = headerOf (getD s 1 0) (word (drop 2 s)) (word (drop 4 s))
+
+abbrev pub countIn : List ℕ → ℕ
+countIn s = word (drop 6 s)
+
+-- "edition, 1"
+abbrev pub firstEdition : ℕ
+firstEdition = 1
+
+-- "years Y, 1 to 10"
+abbrev pub mostYears : ℕ
+mostYears = 10
+
+-- "segment calibration, 1 to 9,999 thousandths .. the same for crossings"
+abbrev pub mostCalibration : ℕ
+mostCalibration = 9999
+
+-- "sites, 0 to 1,900"
+abbrev pub mostSites : ℕ
+mostSites = 1900
+
+-- years and both calibrations within their limits
+unfoldable pub inLimits : Header → Bool
+inLimits header = inside 1 mostYears (header .years) && (inside 1 mostCalibration (header .segments) && inside 1 mostCalibration (header .crossings))
+
+-- "header 1, 3, 4": the first refusal of the header, or 0
+unfoldable pub headerNumber : List ℕ → ℕ
+headerNumber s =
+    cond (ltb (length s) headerLength) 1
+    (cond (eqb (editionIn s) firstEdition)
+    (cond (inLimits (headerIn s) && leb (countIn s) mostSites) 0 4)
+    3)

@@ -1,0 +1,117 @@
+-- A header's number is the first of its causes, and 0 exactly where none is found; what limits say of a header's values.
+use mathlib.Core.Path.{_≡_, refl, sym, _∙_}
+use mathlib.Core.Bool.{Bool, true, false, cond, _&&_, true≢false}
+use mathlib.Core.List.{List}
+use Prim.Native.Nat.{ℕ, _≤_}
+use native.Mathlib.Omega.{arith}
+use lib.ListN.{length}
+use lib.Dec.{ltb, leb, eqb}
+use borrow.Author.Tests.{ltb-true, ltb-false, lt-ltb, le-ltb, eqb-true, eqb-false, eq-eqb, ne-eqb, leb-true, leb-false, le-leb}
+use Rattle.laws.specs.Truth.{and-left, and-right, passed}
+use Rattle.site.specs.Rules.{inside}
+use Rattle.header.specs.declared.Header.{Header}
+use Rattle.header.specs.Header.{headerLength, editionIn, headerIn, countIn, firstEdition, mostYears, mostCalibration, mostSites, inLimits, headerNumber}
+use Rattle.header.specs.Causes.{HeaderCause, header-cut, header-edition, header-limits, HeaderAccepted}
+
+-- THE LIMITS of a header's values
+pub record HeaderWithin (header : Header) : Type 0 where
+  pub years-least : 1 ≤ header .years
+  pub years-most : header .years ≤ mostYears
+  pub segments-least : 1 ≤ header .segments
+  pub segments-most : header .segments ≤ mostCalibration
+  pub crossings-least : 1 ≤ header .crossings
+  pub crossings-most : header .crossings ≤ mostCalibration
+
+pub limits-of : (header : Header) → inLimits header ≡ true → HeaderWithin header
+unfolding inLimits
+limits-of header e =
+    let years = inside 1 mostYears (header .years) in
+    let segments = inside 1 mostCalibration (header .segments) in
+    let crossings = inside 1 mostCalibration (header .crossings) in
+    let years-in = and-left years (segments && crossings) e in
+    let rest = and-right years (segments && crossings) e in
+    let segments-in = and-left segments crossings rest in
+    let crossings-in = and-right segments crossings rest in
+    record {
+      years-least = least _ _ years-in;
+      years-most = most _ _ years-in;
+      segments-least = least _ _ segments-in;
+      segments-most = most _ _ segments-in;
+      crossings-least = least _ _ crossings-in;
+      crossings-most = most _ _ crossings-in;
+    }
+  where
+    least : (high n : ℕ) → inside 1 high n ≡ true → 1 ≤ n
+    least high n e = leb-true 1 n (and-left (leb 1 n) (leb n high) e)
+
+    most : (high n : ℕ) → inside 1 high n ≡ true → n ≤ high
+    most high n e = leb-true n high (and-right (leb 1 n) (leb n high) e)
+
+module _ (s : List ℕ) where
+  -- A NUMBER by the causes
+  by-tests : (short known limits few : Bool) → ltb (length s) headerLength ≡ short → eqb (editionIn s) firstEdition ≡ known
+      → inLimits (headerIn s) ≡ limits → leb (countIn s) mostSites ≡ few
+      → (headerNumber s ≡ 0 → ⊥) → HeaderCause s (headerNumber s)
+  unfolding headerNumber
+  by-tests true known limits few a b c d ne = rw a (header-cut (ltb-true (length s) headerLength a))
+  by-tests false false limits few a b c d ne =
+      let l = ltb-false (length s) headerLength a in
+      rw (a, b) (header-edition l (record { place-is = refl; there = omega arith; other = eqb-false (editionIn s) firstEdition b }))
+  by-tests false true false few a b c d ne =
+      rw (a, b, c) (header-limits (eqb-true (editionIn s) firstEdition b)
+      (record { place-is = refl; there = ltb-false (length s) headerLength a; outside = λ h. true≢false (sym (h .0) ∙ c) }))
+  by-tests false true true false a b c d ne =
+      let w = leb-false (countIn s) mostSites d in
+      rw (a, b, c, d) (header-limits (eqb-true (editionIn s) firstEdition b)
+      (record { place-is = refl; there = ltb-false (length s) headerLength a; outside = λ h. let q = h .1 in omega arith }))
+  by-tests false true true true a b c d ne = absurd (ne (rw (a, b, c, d)))
+
+  pub header-cause : (headerNumber s ≡ 0 → ⊥) → HeaderCause s (headerNumber s)
+  header-cause =
+      by-tests (ltb (length s) headerLength) (eqb (editionIn s) firstEdition) (inLimits (headerIn s)) (leb (countIn s) mostSites) refl refl refl refl
+
+  limits-by : (limits few : Bool) → inLimits (headerIn s) ≡ limits → leb (countIn s) mostSites ≡ few
+      → ((inLimits (headerIn s) ≡ true) × (countIn s ≤ mostSites) → ⊥) → _≡_ {A = ℕ} (cond (limits && few) 0 4) 4
+  limits-by true true a b out = absurd (out (a, leb-true (countIn s) mostSites b))
+  limits-by true false a b out = refl
+  limits-by false few a b out = refl
+
+  pub cause-header : {number : ℕ} → HeaderCause s number → headerNumber s ≡ number
+  unfolding headerNumber
+  cause-header (header-cut h) = rw (lt-ltb (length s) headerLength h)
+  cause-header (header-edition l h) = rw (le-ltb (length s) headerLength l, ne-eqb (editionIn s) firstEdition (h .other))
+  cause-header (header-limits e h) =
+      rw (le-ltb (length s) headerLength (h .there), eq-eqb (editionIn s) firstEdition e)
+      (limits-by (inLimits (headerIn s)) (leb (countIn s) mostSites) refl refl (h .outside))
+
+  pub header-not-zero : {number : ℕ} → HeaderCause s number → number ≡ 0 → ⊥
+  header-not-zero (header-cut h) e = omega arith
+  header-not-zero (header-edition l h) e = omega arith
+  header-not-zero (header-limits q h) e = omega arith
+
+  -- NO NUMBER where none is found
+  pub header-accepted : headerNumber s ≡ 0 → HeaderAccepted s
+  unfolding headerNumber
+  header-accepted e =
+      by (eqb (editionIn s) firstEdition) (inLimits (headerIn s) && leb (countIn s) mostSites) refl refl (passed (ltb (length s) headerLength) 0 _ e)
+    where
+      by : (a b : Bool) → eqb (editionIn s) firstEdition ≡ a → (inLimits (headerIn s) && leb (countIn s) mostSites) ≡ b
+          → (ltb (length s) headerLength ≡ false) × (_≡_ {A = ℕ} (cond a (cond b 0 4) 3) 0) → HeaderAccepted s
+      by true true p q h =
+          record {
+            long = ltb-false (length s) headerLength (h .0);
+            edition = eqb-true (editionIn s) firstEdition p;
+            limits = and-left (inLimits (headerIn s)) (leb (countIn s) mostSites) q;
+            few = leb-true (countIn s) mostSites (and-right (inLimits (headerIn s)) (leb (countIn s) mostSites) q);
+          }
+      by true false p q h = let z : ⊥ = omega arith in absurd z
+      by false b p q h = let z : ⊥ = omega arith in absurd z
+
+  pub accepted-header : HeaderAccepted s → headerNumber s ≡ 0
+  unfolding headerNumber
+  accepted-header h = rw (
+    le-ltb (length s) headerLength (h .long),
+    eq-eqb (editionIn s) firstEdition (h .edition),
+    h .limits,
+    le-leb (countIn s) mostSites (h .few),
+  )

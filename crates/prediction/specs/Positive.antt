@@ -1,0 +1,108 @@
+-- NO PREDICTION IS 0: the under-estimate of a valid site is above 0 at every depth.
+use Prim.Native.Nat.{ℕ, _-_, _*_, _≤_, _<_}
+use mathlib.Core.Path.{_≡_, refl}
+use mathlib.Core.Bool.{Bool, true, false, cond}
+use mathlib.Core.List.{List, [], _∷_, map}
+use lib.Dec.{leb, ltb, eqb, lit<}
+use native.Mathlib.Nat.{mul-pos, pos-of-ne-zero}
+use native.Mathlib.Omega.{arith}
+use borrow.Author.Tests.{eqb-true, eqb-false}
+use Rattle.estimate.specs.Fraction.{Fraction, fraction, _//_, whole, _+ᶠ_, _*ᶠ_}
+use Rattle.estimate.specs.FractionLaws.{//-num, positive-above, lesser-by}
+use Rattle.estimate.specs.Power.{powerUnder}
+use Rattle.estimate.specs.PowerLaws.{power-under-≥-one}
+use Rattle.estimate.specs.Exponential.{exp-under-positive}
+use Rattle.estimate.specs.ExponentialBounds.{exp-neg-under-positive}
+use Rattle.site.specs.declared.values.Site.{Site}
+use Rattle.site.specs.Writing.{Valid}
+use Rattle.site.specs.Numbers.{number, segmentOf, crossingOf, segment-sizes, crossing-sizes, site-traffic, crossing-minor}
+use Rattle.model.specs.Coefficients.{Coefficients}
+use Rattle.model.specs.Access.{drivewayAt, drivewayPart}
+use Rattle.model.specs.Parts.{Term, exponential, exponentialNegative, hazard}
+use Rattle.model.specs.Parts.{Factor, Exact, Base, Hazard, Driveways, MajorTraffic, MinorTraffic, Skew, partOf}
+use Rattle.model.specs.Parts.{segmentFactors, crossingFactors, segmentStart, crossingStart, segmentParts, crossingParts}
+use Rattle.model.specs.FactorBounds.{capped}
+use Rattle.header.specs.declared.Header.{Header}
+use Rattle.header.specs.HeaderLaws.{HeaderWithin}
+use Rattle.model.specs.Predicted.{productUnder, termOf, termsOf, sumUnder, predictedUnder}
+use Rattle.prediction.specs.Kept.{Rated, FactorSized, AllSized, segment-sized, crossing-sized}
+
+times : (x y : Fraction) → 0 < x .num → 0 < y .num → 0 < (x *ᶠ y) .num
+unfolding _*ᶠ_
+times x y h k = mul-pos h k
+
+one : 0 < whole 1 .num
+unfolding whole fraction
+one = lit< tt
+
+quotient : (n d : ℕ) → 0 < n → 0 < (n // d) .num
+quotient n d h = rw (//-num n d) h
+
+power-positive : (d A p : ℕ) → 1 ≤ A → 0 < powerUnder d A p 100 .num
+power-positive d A p h = positive-above one (power-under-≥-one A p 100 (lit< tt) h d)
+
+hazard-positive : (rating d : ℕ) → 0 < hazard rating .under d .num
+hazard-positive rating d = by (leb 3 rating)
+  where
+    by : (b : Bool) → 0 < cond b (exponential (668 * (rating - 3))) (exponentialNegative (668 * (3 - rating))) .under d .num
+    by true = exp-under-positive d _
+    by false = exp-neg-under-positive d _
+
+module _ (k : Coefficients) (rated : Rated k) where
+  driveway-positive : (count : ℕ) (ln : Fraction) → 0 < drivewayPart k count ln .num
+  unfolding drivewayPart
+  driveway-positive count ln = by (ltb count (k .fewest-driveways))
+    where
+      by : (b : Bool) → 0 < cond b (whole 1) (drivewayAt (k .driveway-constant) count ln) .num
+      by true = one
+      by false =
+          let constant : 0 < k .driveway-constant = omega (arith, rated .constant-least) in
+          quotient _ _ (omega (arith, mul-pos constant (ln .pos)))
+
+  -- EACH FACTOR
+  factor-positive : (d : ℕ) (factor : Factor) → FactorSized factor → 0 < partOf k factor .under d .num
+  factor-positive d (Exact factor) s = capped k (rated .bounded) factor s .positive
+  factor-positive d (Base kind) s = exp-neg-under-positive d _
+  factor-positive d (Hazard rating) s = hazard-positive rating d
+  factor-positive d (Driveways count traffic) s =
+      lesser-by _ _ (λ (x : Fraction). 0 < x .num) (λ _. driveway-positive count _) (λ _. driveway-positive count _)
+  factor-positive d (MajorTraffic kind traffic) s = power-positive d _ _ (s .2 .least)
+  factor-positive d (MinorTraffic kind traffic) s = power-positive d _ _ (s .2 .least)
+  factor-positive d (Skew kind degrees) s = exp-under-positive d _
+
+  product-positive : (d : ℕ) (factors : List Factor) → AllSized factors → 0 < productUnder d (map (partOf k) factors) .num
+  unfolding productUnder
+  product-positive d [] s = one
+  product-positive d (factor ∷ factors) s = times _ _ (factor-positive d factor (s .0)) (product-positive d factors (s .1))
+
+  -- A SITE
+  module _ (site : Site) (valid : Valid site) (years calibration d : ℕ) (some-years : 1 ≤ years) (some : 1 ≤ calibration) where
+    segment-positive : site .kind ≡ 0 → 0 < productUnder d (segmentParts k calibration site (termOf years site)) .num
+    unfolding segmentParts productUnder
+    segment-positive e =
+        let v = segmentOf (number (site .traffic)) site in
+        let s = segment-sizes site valid e _ (site-traffic site valid) in
+        times (segmentStart calibration site (termOf years site)) (productUnder d (map (partOf k) (segmentFactors v)))
+        (quotient _ _ (mul-pos (mul-pos (mul-pos (mul-pos some-years some) (s .traffic .least)) (s .length-least)) (lit< tt)))
+        (product-positive d (segmentFactors v) (segment-sized v s))
+
+    crossing-positive : 1 ≤ site .kind → 0 < productUnder d (crossingParts k calibration site (termOf years site)) .num
+    unfolding crossingParts productUnder
+    crossing-positive from =
+        let v = crossingOf (number (site .traffic)) (number (site .«minor_traffic»)) site in
+        let s = crossing-sizes site valid from _ _ (site-traffic site valid) (crossing-minor site valid from) in
+        times (crossingStart calibration (termOf years site)) (productUnder d (map (partOf k) (crossingFactors v)))
+        (quotient _ _ (mul-pos some-years some)) (product-positive d (crossingFactors v) (crossing-sized v s))
+
+  pub predicted-positive : (header : Header) → HeaderWithin header → (site : Site) → Valid site
+      → (d : ℕ) → 0 < predictedUnder k header site d .num
+  unfolding predictedUnder sumUnder termsOf _+ᶠ_ whole fraction
+  predicted-positive header limits site valid d = omega (arith, by (eqb (site .kind) 0) refl)
+    where
+      term : Term
+      term = termOf (header .years) site
+
+      by : (b : Bool) → eqb (site .kind) 0 ≡ b
+          → 0 < productUnder d (cond b (segmentParts k (header .segments) site term) (crossingParts k (header .crossings) site term)) .num
+      by true e = segment-positive site valid _ _ d (limits .years-least) (limits .segments-least) (eqb-true (site .kind) 0 e)
+      by false e = crossing-positive site valid _ _ d (limits .years-least) (limits .crossings-least) (pos-of-ne-zero (eqb-false (site .kind) 0 e))

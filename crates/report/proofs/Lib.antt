@@ -1,2 +1,0 @@
--- Steps of the proofs of the report's functions.
-pub mod RecordRead
