@@ -261,3 +261,38 @@ fn the_review_has_every_edit_of_code() {
     assert!(wrong.is_empty(), "{}", wrong.join("\n"));
     assert!(cited.len() >= 60, "{} edits", cited.len());
 }
+
+/// The functions of every crate, by name.
+fn functions() -> HashSet<String> {
+    let mut names = HashSet::new();
+    for file in files_below(&root().join("crates"), "rt") {
+        let text = fs::read_to_string(&file).expect("a source file");
+        for line in text.lines() {
+            if let Some((_, rest)) = line.split_once("fn ") {
+                names.extend(rest.split('(').next().map(str::to_owned));
+            }
+        }
+    }
+    names
+}
+
+/// The first column of the review's tables names calls that are there, or crates.
+#[test]
+fn the_review_names_calls_that_are_there() {
+    let page = text_of("docs/REVIEW.md").expect("docs/REVIEW.md");
+    let functions = functions();
+    let is_crate = |name: &str| root().join("crates").join(name).exists();
+    let first_cells = page.lines().filter(|line| line.starts_with("| `"));
+    let named: Vec<_> = first_cells
+        .filter_map(|line| line.split('|').nth(1))
+        .flat_map(|cell| cell.split('`').skip(1).step_by(2).collect::<Vec<_>>())
+        .collect();
+    let gone: Vec<_> = named
+        .iter()
+        .filter(|name| {
+            !functions.contains(name.rsplit("::").next().unwrap_or("")) && !is_crate(name)
+        })
+        .collect();
+    assert!(gone.is_empty(), "no such call: {gone:?}");
+    assert!(named.len() >= 40, "{} calls", named.len());
+}

@@ -1,5 +1,5 @@
 -- What a reader must believe: Bracket, what it means that one stands and how wide it is; Answer, what a call answers; Carry, what a list of
--- factors makes of it; the definitions that head Reciprocal and Rounded. Laws: all the rest.
+-- factors makes of it; the definitions that head Ratio (a fraction in code, a bracket of two), Reciprocal and Rounded. Laws: all the rest.
 pub mod Bracket
 pub mod Ratio
 pub mod Answer

@@ -1,8 +1,8 @@
 -- Numbers at most and at least e^x, told by partial sums alone; what they make, and why they stand against the estimates of e^x at every depth.
-use Prim.Native.Nat.{ℕ, _+_, _*_, _<_}
+use Prim.Native.Nat.{ℕ, _+_, _*_, _≤_, _<_}
 use mathlib.Core.Path.{_≡_}
 use native.Mathlib.Omega.{arith}
-use Rattle.estimate.specs.Fraction.{Fraction, _≤ᶠ_, _<ᶠ_, _=ᶠ_, whole, inverse, _+ᶠ_, _*ᶠ_, _^ᶠ_}
+use Rattle.estimate.specs.Fraction.{Fraction, fraction, _≤ᶠ_, _<ᶠ_, _=ᶠ_, whole, tenThousandths, inverse, _+ᶠ_, _*ᶠ_, _^ᶠ_}
 use Rattle.estimate.specs.FractionLaws.{≤ᶠ-trans, ≤ᶠ-refl, *ᶠ-mono, ^ᶠ-mono, inverse-antitone}
 use Rattle.estimate.specs.Standing.{LowRight, HighRight}
 use Rattle.estimate.specs.Exponential.{partialSum, sumWithTail, expUnder, expOver, expNegUnder, expNegOver, exp-under-positive, exp-over-positive}
@@ -115,6 +115,11 @@ unfolding expOver
 exp-over-strict d h = sum-with-tail-strict h (40 + d) (omega arith)
 
 -- STANDING
+
+-- an argument up to 21, for which the tail bounds every sum
+pub within-tail-law : (x : ℕ) → x ≤ 210000 → tenThousandths x ≤ᶠ whole 21
+unfolding tenThousandths fraction whole
+within-tail-law x h = record { cross = omega arith }
 
 pub exp-low-stands : {w x : Fraction} → x ≤ᶠ whole 21 → AtMostExp w x → LowRight w (λ d. expOver d x)
 exp-low-stands {w} {x} b h = record { at = λ d _. exp-bounds-in-order h (exp-over-at-least d x b) (≤ᶠ-refl x) }

@@ -42,9 +42,6 @@ pub ≤ᶠ-of-not-<ᶠ : {a b : Fraction} → (b <ᶠ a → ⊥) → a ≤ᶠ b
     not-less : (b .num * a .den < a .num * b .den → ⊥) → a .num * b .den ≤ b .num * a .den
     not-less h = omega arith
 
-pub =ᶠ-refl : (a : Fraction) → a =ᶠ a
-=ᶠ-refl a = omega arith
-
 pub =ᶠ-≤ᶠ : {a b : Fraction} → a =ᶠ b → a ≤ᶠ b
 =ᶠ-≤ᶠ h = omega arith
 

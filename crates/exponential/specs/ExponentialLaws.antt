@@ -5,9 +5,9 @@ use native.Mathlib.Nat.{mul-le-mul-left, lt-of-not-le, sub-add-cancel}
 use native.Mathlib.Omega.{arith}
 use lib.Dec.{leb, leb→le, lit≤}
 use borrow.Author.Tests.{le-leb}
-use Rattle.estimate.specs.Fraction.{fraction, _≤ᶠ_, whole, tenThousandths}
+use Rattle.estimate.specs.Fraction.{fraction, tenThousandths}
 use Rattle.estimate.specs.Exponential.{expUnder, expOver, expNegUnder, expNegOver, exp-under-positive, exp-over-positive}
-use Rattle.estimate.specs.ExponentialBounds.{exp-low-stands, exp-high-stands}
+use Rattle.estimate.specs.ExponentialBounds.{within-tail-law, exp-low-stands, exp-high-stands}
 use Rattle.bracket.specs.Bracket.{Stands, RelativeWidth, exponentialWidth}
 use Rattle.bracket.specs.declared.Bracket.{Bracket}
 use Rattle.bracket.specs.Answer.{Answers, answer-stands}
@@ -21,18 +21,13 @@ use Rattle.exponential.specs.ExponentialEnds.{exp-low-at-most, exp-high-
 narrower : (R S r L H : ℕ) → R ≤ S → L ≤ H → S * H ≤ S * L + r * H → R * H ≤ R * L + r * H
 narrower R S r L H le order w = omega (arith, mul-le-mul-left (S - R) order, ap (λ z. z * L) (sub-add-cancel le), ap (λ z. z * H) (sub-add-cancel le))
 
--- within the range the tail law holds at every depth
-within-tail-law : (x : ℕ) → x ≤ exponentialLimit → tenThousandths x ≤ᶠ whole 21
-unfolding tenThousandths fraction whole
-within-tail-law x within = record { cross = omega arith }
-
 module _ (x : ℕ) (within : x ≤ exponentialLimit) where
   exp-stands : Stands (expBracket x) (λ d. expUnder d (tenThousandths x)) (λ d. expOver d (tenThousandths x))
   unfolding expBracket scaled fraction
   exp-stands = record {
     low-den = scale-positive;
     high-den = scale-positive;
-    low-right = exp-low-stands (within-tail-law x within) (exp-low-at-most x);
+    low-right = exp-low-stands (within-tail-law x (omega arith)) (exp-low-at-most x);
     high-right = exp-high-stands (exp-high-at-least x within);
     in-order = exp-ends-in-order x within;
   }

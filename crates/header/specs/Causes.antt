@@ -10,7 +10,7 @@ use Rattle.header.specs.Header.{headerLength, editionIn, headerIn, count
 pub record EditionNot (s : List ℕ) (p : ℕ) : Type 0 where
   pub place-is : p ≡ 0
   pub there : 0 < length s
-  pub other : editionIn s ≡ firstEdition → ⊥
+  pub other : editionIn s ≡ 1 → ⊥
 
 -- "years, calibration or sites outside limits": 4, at "place 0"
 pub record OutsideLimits (s : List ℕ) (p : ℕ) : Type 0 where

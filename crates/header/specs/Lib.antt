@@ -1,5 +1,5 @@
 -- The header of a project file. To be believed: Header, what its bytes say and its limits, and Causes, why it is refused. Laws of
--- these: HeaderLaws.
+-- these: HeaderLaws, whose `HeaderWithin` inner steps require.
 pub mod Header
 pub mod Causes
 pub mod HeaderLaws

@@ -4,7 +4,7 @@ ghost use Prim.Native.Nat.{_≤_};
 ghost use lib.ListN.{length};
 ghost use Rattle.site.specs.Rules.{inside};
 ghost use Rattle.header.specs.Header.{headerLength, headerIn, countIn, inLimits, headerNumber};
-use site_reader::word_at;
+use site::words::word_at;
 
 // What holds for every site: the years, and the calibrations in thousandths.
 pub struct Header {

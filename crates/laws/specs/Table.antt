@@ -22,28 +22,40 @@ both-right true b t = t
 both-right false b t = absurd t
 
 -- the test passes at each entry of the list and its place, counted from i
-abbrev pub every : (ℕ → ℕ → Bool) → ℕ → List ℕ → Bool
-every test i [] = true
-every test i (x ∷ xs) = both (test i x) (every test (suc i) xs)
+abbrev pub everyAt : (ℕ → ℕ → Bool) → ℕ → List ℕ → Bool
+everyAt test i [] = true
+everyAt test i (x ∷ xs) = both (test i x) (everyAt test (suc i) xs)
 
-at-from : (test : ℕ → ℕ → Bool) (xs : List ℕ) (i : ℕ) → T (every test i xs) → (k : ℕ) → k < length xs → T (test (i + k) (getD xs k 0))
+at-from : (test : ℕ → ℕ → Bool) (xs : List ℕ) (i : ℕ) → T (everyAt test i xs) → (k : ℕ) → k < length xs → T (test (i + k) (getD xs k 0))
 at-from test [] i t k h = absurd (not-suc-le-zero h)
-at-from test (x ∷ xs) i t zero h = subst (λ (m : ℕ). T (test m x)) (sym (add-zero i)) (both-left (test i x) (every test (suc i) xs) t)
+at-from test (x ∷ xs) i t zero h = subst (λ (m : ℕ). T (test m x)) (sym (add-zero i)) (both-left (test i x) (everyAt test (suc i) xs) t)
 at-from test (x ∷ xs) i t (suc k) h =
     subst (λ (m : ℕ). T (test m (getD xs k 0))) (suc-add i k ∙ sym (add-suc i k))
-    (at-from test xs (suc i) (both-right (test i x) (every test (suc i) xs) t) k (le-of-suc-le-suc h))
+    (at-from test xs (suc i) (both-right (test i x) (everyAt test (suc i) xs) t) k (le-of-suc-le-suc h))
 
--- what every entry passes, the k-th passes
-pub at : (test : ℕ → ℕ → Bool) (xs : List ℕ) → T (every test 0 xs) → (k : ℕ) → k < length xs → T (test k (getD xs k 0))
+-- what everyAt entry passes, the k-th passes
+pub at : (test : ℕ → ℕ → Bool) (xs : List ℕ) → T (everyAt test 0 xs) → (k : ℕ) → k < length xs → T (test k (getD xs k 0))
 at test xs t k h = subst (λ (m : ℕ). T (test m (getD xs k 0))) (zero-add k) (at-from test xs 0 t k h)
 
 -- a table of n entries that each pass, and its k-th
 unfoldable pub passesAll : (ℕ → ℕ → Bool) → ℕ → List ℕ → Bool
-passesAll test n xs = both (eqb (length xs) n) (every test 0 xs)
+passesAll test n xs = both (eqb (length xs) n) (everyAt test 0 xs)
 
 pub entry-passes : (test : ℕ → ℕ → Bool) (n : ℕ) (xs : List ℕ) → T (passesAll test n xs) → (k : ℕ) → k < n → T (test k (getD xs k 0))
 unfolding passesAll
 entry-passes test n xs t k h = at test xs (both-right (eqb (length xs) n) _ t) k (rw (eqb→eq (length xs) n (both-left (eqb (length xs) n) _ t)) h)
+
+-- a test passes at each entry of a list
+unfoldable pub allOf : {A : Type 0} → (A → Bool) → List A → Bool
+allOf test [] = true
+allOf test (x ∷ xs) = both (test x) (allOf test xs)
+
+-- so at the i-th, and past the end where the default passes too
+pub entry-of : {A : Type 0} (test : A → Bool) (d : A) → T (test d) → (xs : List A) → T (allOf test xs) → (i : ℕ) → T (test (getD xs i d))
+unfolding allOf
+entry-of test d td [] t i = td
+entry-of test d td (x ∷ xs) t zero = both-left (test x) (allOf test xs) t
+entry-of test d td (x ∷ xs) t (suc i) = entry-of test d td xs (both-right (test x) (allOf test xs) t) i
 
 -- a test passes at each number below n
 unfoldable pub allBelow : (ℕ → Bool) → ℕ → Bool

@@ -39,3 +39,8 @@ both-zero x y false q e = absurd (eqb-false x 0 q e)
 pub passed : (a : Bool) (x y : ℕ) → cond a (suc x) y ≡ 0 → (a ≡ false) × (y ≡ 0)
 passed true x y e = let z : ⊥ = omega arith in absurd z
 passed false x y e = (refl, e)
+
+-- a test that never holds
+pub never-so : (a : Bool) → (a ≡ true → ⊥) → a ≡ false
+never-so true never = absurd (never refl)
+never-so false never = refl

@@ -13,7 +13,7 @@ use Rattle.header.specs.declared.Header.{Header}
 use Rattle.header.specs.HeaderLaws.{HeaderWithin}
 use Rattle.model.specs.Coefficients.{Coefficients}
 use Rattle.model.specs.Expected.{weighed, expectedLow, expectedHigh, overdispersionOf}
-use Rattle.model.specs.StatedWidths.{mostPredicted}
+use Rattle.prediction.specs.Pair.{mostPredicted}
 use Rattle.site.specs.Numbers.{number, observed-most}
 use Rattle.model.specs.Predicted.{predictedUnder, predictedOver}
 use Rattle.prediction.specs.Pair.{predictedPair}

@@ -3,7 +3,7 @@ ghost use mathlib.Core.Path.{_≡_};
 ghost use Prim.Native.Nat.{_≤_};
 ghost use Rattle.wide.specs.Scaling.{floor, ceiling};
 ghost use Rattle.site.specs.Numbers.{number};
-ghost use Rattle.model.specs.StatedWidths.{mostPredicted};
+ghost use Rattle.prediction.specs.Pair.{mostPredicted};
 ghost use Rattle.line.specs.Dispersion.{Overdispersed};
 ghost use Rattle.line.specs.Weighing.{over, under, Sizes, weighedPair};
 use bracket::Ratio;

@@ -1,6 +1,6 @@
 -- Each exact factor, over its valid range, is positive and at most a cap. A table's bounds are one computed test, and one law
 -- carries it to the entries.
-use Prim.Native.Nat.{ℕ, zero, suc, _+_, _-_, _*_, _≤_, _<_}
+use Prim.Native.Nat.{ℕ, _+_, _-_, _*_, _≤_, _<_}
 use mathlib.Core.Bool.{Bool, true, false, cond, _&&_}
 use mathlib.Core.List.{List, [], _∷_}
 use mathlib.Core.Path.{_≡_, refl, ap}
@@ -11,7 +11,7 @@ use lib.ListN.{getD}
 use borrow.Author.Tests.{leb-true}
 use Rattle.estimate.specs.Fraction.{Fraction, _≤ᶠ_, fraction, _//_, whole, _^ᶠ_, leᶠ}
 use Rattle.estimate.specs.FractionLaws.{//-num, //-den, ≤ᶠ-refl, leᶠ-sound}
-use Rattle.laws.specs.Table.{both, both-left, both-right, allBelow, all-below}
+use Rattle.laws.specs.Table.{both, both-left, both-right, allOf, entry-of, allBelow, all-below}
 use Rattle.model.specs.Coefficients.{Coefficients, editionOne, leftTurnOne, rightTurnOne}
 use Rattle.model.specs.Widths.{Column, none, atTraffic, laneColumns, laneColumn, laneValue, ofRelated, lane}
 use Rattle.model.specs.Widths.{shoulderColumns, shoulderColumn, shoulderValue, typeMultipliers, typeValue, shoulder}
@@ -240,46 +240,34 @@ two-way-lane-within present driveways =
     under-one : (density : ℕ) → Capped (whole 1) ((1199000 + 65 * density) // (1199000 + 100 * density))
     under-one density = one-within _ _ (omega arith) (omega arith) (omega arith)
 
--- a test passes at each entry of a list
-allOf : {A : Type 0} → (A → Bool) → List A → Bool
-allOf test [] = true
-allOf test (x ∷ xs) = both (test x) (allOf test xs)
-
--- so at the i-th, and past the end where the default passes too
-entry : {A : Type 0} (test : A → Bool) (d : A) → T (test d) → (xs : List A) → T (allOf test xs) → (i : ℕ) → T (test (getD xs i d))
-unfolding allOf
-entry test d td [] t i = td
-entry test d td (x ∷ xs) t zero = both-left (test x) (allOf test xs) t
-entry test d td (x ∷ xs) t (suc i) = entry test d td xs (both-right (test x) (allOf test xs) t) i
-
 -- a part of a whole: from 1 to `unit` of its units
-partOf : (unit part : ℕ) → Bool
-partOf unit part = both (ltb 0 part) (leb part unit)
+isPart : (unit part : ℕ) → Bool
+isPart unit part = both (ltb 0 part) (leb part unit)
 
-part-within : (unit part : ℕ) → T (partOf unit part) → Capped (whole 1) (part // unit)
-unfolding partOf
+part-within : (unit part : ℕ) → T (isPart unit part) → Capped (whole 1) (part // unit)
+unfolding isPart
 part-within unit part t =
     let least = ltb→lt _ _ (both-left (ltb 0 part) _ t) in
     let most = leb→le _ _ (both-right (ltb 0 part) _ t) in
     one-within part unit (omega arith) least most
 
 passing-within : (kind : ℕ) → Capped (whole 1) (passing kind)
-unfolding passing partOf allOf
-passing-within kind = part-within 100 _ (entry (partOf 100) 100 tt (100 ∷ 75 ∷ 65 ∷ []) tt kind)
+unfolding passing isPart allOf
+passing-within kind = part-within 100 _ (entry-of (isPart 100) 100 tt (100 ∷ 75 ∷ 65 ∷ []) tt kind)
 
 -- a table of thousandths by kind and count of lanes
-turn-within : (table : List (List ℕ)) → T (allOf (allOf (partOf 1000)) table) → (kind lanes : ℕ)
+turn-within : (table : List (List ℕ)) → T (allOf (allOf (isPart 1000)) table) → (kind lanes : ℕ)
     → Capped (whole 1) (getD (getD table kind []) lanes 1000 // 1000)
-unfolding partOf allOf
+unfolding isPart allOf
 turn-within table t kind lanes =
-    part-within 1000 _ (entry (partOf 1000) 1000 tt (getD table kind []) (entry (allOf (partOf 1000)) [] tt table t kind) lanes)
+    part-within 1000 _ (entry-of (isPart 1000) 1000 tt (getD table kind []) (entry-of (allOf (isPart 1000)) [] tt table t kind) lanes)
 
 left-turn-within : (kind lanes : ℕ) → Capped (whole 1) (leftTurn editionOne kind lanes)
-unfolding leftTurn editionOne partOf allOf
+unfolding leftTurn editionOne isPart allOf
 left-turn-within kind lanes = turn-within leftTurnOne tt kind lanes
 
 right-turn-within : (kind lanes : ℕ) → Capped (whole 1) (rightTurn editionOne kind lanes)
-unfolding rightTurn editionOne partOf allOf
+unfolding rightTurn editionOne isPart allOf
 right-turn-within kind lanes = turn-within rightTurnOne tt kind lanes
 
 sight-within : (quadrants : ℕ) → quadrants ≤ 4 → Capped (6 // 5) (sight quadrants)

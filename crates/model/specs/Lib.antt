@@ -1,5 +1,5 @@
 -- The road model beside document 01's sections on factors, sites and history. What a reader must believe: Coefficients to
--- StatedWidths. Laws: all the rest, the table of known figures among them.
+-- StatedWidths. Laws: all the rest, the table of known figures among them; inner steps require `ColumnWithin` of FactorBounds.
 pub mod Coefficients
 pub mod Widths
 pub mod Alignment

@@ -94,7 +94,8 @@ partOf k (MajorTraffic kind traffic) = power traffic (majorExponent kind)
 partOf k (MinorTraffic kind traffic) = power traffic (minorExponent kind)
 partOf k (Skew kind degrees) = exponential (skewExponent kind * degrees)
 
--- "e^(−0.4865) × the factors × e^(0.0668(RHR − 3)) × (0.2 + c·DD)/(0.2 + 5c)" of every road
+-- "e^(−0.4865) × the factors × e^(0.0668(RHR − 3)) × (0.2 + c·DD)/(0.2 + 5c)" of every road; its two factors of a grade are
+-- document 01's power of 1.016 (`grade-is`)
 unfoldable pub straightFactors : Segment → List Factor
 straightFactors v =
     Base 0

@@ -20,7 +20,3 @@ expectedEach = 8
 -- what a site's observed crashes count for there: in edition 1 each once
 abbrev pub observedWeight : Coefficients → Site → ℕ
 observedWeight c site = number (site .observed)
-
--- no number of a line is above a hundred million crashes
-abbrev pub mostPredicted : ℕ
-mostPredicted = 100000000000000

@@ -10,7 +10,7 @@ use Rattle.laws.specs.Table.{both, both-left, both-right, allBelow, all-below}
 use Rattle.estimate.specs.Fraction.{Fraction, fraction, _≤ᶠ_, _//_, whole, tenThousandths}
 use Rattle.estimate.specs.FractionLaws.{//-num, //-den}
 use Rattle.estimate.specs.Exponential.{sumWithTail, sumNum, termNum, termDen}
-use Rattle.estimate.specs.ExponentialBounds.{exp-under-≤-over, exp-neg-under-≤-over}
+use Rattle.estimate.specs.ExponentialBounds.{within-tail-law, exp-under-≤-over, exp-neg-under-≤-over}
 use Rattle.bracket.specs.declared.Bracket.{Bracket}
 use Rattle.bracket.specs.Bracket.{Stands, RelativeWidth, exponentialWidth, powerWidth, logarithmWidth}
 use Rattle.bracket.specs.Ratio.{exactly, exactly-stands}
@@ -82,10 +82,6 @@ unfolding narrowly
 stored-narrow part t = in-shares storedWidth stored-shares (record { width = leb→le _ _ t })
 
 -- up to e^21 every under-estimate is at most every over-estimate
-within-tail-law : (x : ℕ) → x ≤ 210000 → tenThousandths x ≤ᶠ whole 21
-unfolding tenThousandths fraction whole
-within-tail-law x h = record { cross = omega arith }
-
 pub exponential-in-order : (x : ℕ) → x ≤ 210000 → InOrder (exponential x)
 exponential-in-order x h i j = exp-under-≤-over (tenThousandths x) (within-tail-law x h) i j
 

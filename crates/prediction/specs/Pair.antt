@@ -62,3 +62,7 @@ sumPair k header site (term ∷ terms) = plus (termPair k header site term) (sum
 -- THE PREDICTED PAIR of a site
 unfoldable pub predictedPair : Coefficients → Header → Site → Pair
 predictedPair k header site = sumPair k header site (termsOf header site)
+
+-- no number of a valid site's pair is above a hundred million crashes (`predicted-stands`)
+abbrev pub mostPredicted : ℕ
+mostPredicted = 100000000000000

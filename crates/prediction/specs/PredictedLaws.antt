@@ -29,7 +29,8 @@ use Rattle.header.specs.declared.Header.{Header}
 use Rattle.header.specs.Header.{mostYears, mostCalibration}
 use Rattle.header.specs.HeaderLaws.{HeaderWithin}
 use Rattle.model.specs.Predicted.{termsOf, productUnder, productOver, sumUnder, sumOver, predictedUnder, predictedOver}
-use Rattle.model.specs.StatedWidths.{widthParts, predictedEach, mostPredicted}
+use Rattle.prediction.specs.Pair.{mostPredicted}
+use Rattle.model.specs.StatedWidths.{widthParts, predictedEach}
 use Rattle.prediction.specs.Stored.{storedWidth}
 use Rattle.prediction.specs.Factors.{parts, bracketsOf, piecesOf}
 use Rattle.prediction.specs.Pair.{unit, segmentUnits, crossingUnits, pairOf, segmentPair, crossingPair, termPair, plus, sumPair, predictedPair}

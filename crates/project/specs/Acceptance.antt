@@ -3,7 +3,7 @@ use mathlib.Core.Path.{_≡_, refl, ap, sym, subst, _∙_}
 use mathlib.Core.Bool.{Bool, true, false}
 use mathlib.Core.List.{List}
 use mathlib.Core.Logic.{_↔_, _⊎_, inl, inr}
-use Prim.Native.Nat.{ℕ, _<_, _≤_}
+use Prim.Native.Nat.{ℕ, _≤_}
 use native.Mathlib.Omega.{arith}
 use lib.ListN.{length, drop}
 use lib.Dec.{ltb}
@@ -109,11 +109,6 @@ module _ (s : List ℕ) (room : ℕ) where
   first-or-none = found-by (scanFile s) refl
 
   -- 10 comes last, where the bytes show no cause
-  pub first-short : (n : ℕ) → scanFile s ≡ Accepted n → room < reportLength n → FirstCause s room 10 0
-  first-short n e h =
-      let w = accepted-exactly s n .0 e in
-      in-report (counted s n w) (record { place-is = refl; short = subst (λ (k : ℕ). room < reportLength k) (w .count-is) h })
-
   not-both-found : {number p : ℕ} → FirstInBytes s number p → Whole s (countIn s) → ⊥
   not-both-found {number} {p} f w =
       let a = refused-exactly s number p .1 f in

@@ -1,5 +1,6 @@
 -- DEMAND 3, one claim about a project's bytes and a report: each site's line and the totals are right at every depth, in order
--- and narrow. It names the estimates and the numbers of the report, and nothing that makes them.
+-- and narrow. `Demand` names the estimates and the numbers of the report, and nothing that makes them. Last, what the project
+-- reader promises.
 use Prim.Native.Nat.{ℕ, _+_, _*_, _≤_, _<_}
 use mathlib.Core.Path.{_≡_}
 use mathlib.Core.List.{List, [], _∷_}

@@ -21,7 +21,7 @@ use Rattle.header.specs.declared.Header.{Header}
 use Rattle.header.specs.Header.{headerLength, headerIn, countIn, mostSites}
 use Rattle.header.specs.HeaderLaws.{HeaderWithin}
 use Rattle.model.specs.Coefficients.{Coefficients}
-use Rattle.model.specs.StatedWidths.{mostPredicted}
+use Rattle.prediction.specs.Pair.{mostPredicted}
 use Rattle.line.specs.declared.Line.{Line}
 use Rattle.line.specs.Line.{siteLine}
 use Rattle.line.specs.Weighing.{LineAtMost, at-most-wider}

@@ -1,8 +1,8 @@
 -- EVERY PART OF DEMAND 3 IS NEEDED: a report that fails one part, at one site or in its totals, does not meet the demand. The
 -- numbers of the report are named by their index, and the widths are written out.
 use Prim.Native.Nat.{ℕ, _+_, _*_, _≤_, _<_}
-use mathlib.Core.Path.{_≡_}
-use mathlib.Core.List.{List, _∷_}
+use mathlib.Core.Path.{_≡_, refl, ap}
+use mathlib.Core.List.{List, [], _∷_}
 use lib.ListN.{length, getD}
 use lib.Dec.{lit<}
 use native.Mathlib.Omega.{arith}
@@ -12,6 +12,7 @@ use Rattle.site.specs.declared.values.Site.{Site}
 use Rattle.site.specs.declared.values.Slot.the-variants.{Number}
 use Rattle.header.specs.Header.{headerIn}
 use Rattle.site.specs.Numbers.{number}
+use Rattle.model.specs.Coefficients.{Coefficients}
 use Rattle.model.specs.Predicted.{predictedUnder, predictedOver}
 use Rattle.model.specs.Expected.{expectedUnder, expectedOver}
 use Rattle.line.specs.NeededParts as line
@@ -76,6 +77,16 @@ module _ (bytes report : List ℕ) (i : ℕ) (h : i < length (sitesIn bytes)) wh
     pub site-expected-high-above-both : predictedHigh < expectedHigh → observed * 1000000 < expectedHigh → Fails
     site-expected-high-above-both l k m = line.expected-high-above-both _ _ _ _ observed history l k (m .each i h)
 
+-- the observed crashes of sites, each once
+unfoldable pub crashesIn : List Site → ℕ
+crashesIn [] = 0
+crashesIn (site ∷ sites) = number (site .observed) + crashesIn sites
+
+counted-once : (c : Coefficients) (sites : List Site) → observedIn c sites ≡ crashesIn sites
+unfolding observedIn crashesIn
+counted-once c [] = refl
+counted-once c (site ∷ sites) = ap (λ (rest : ℕ). number (site .observed) + rest) (counted-once c sites)
+
 -- THE TOTALS, the four numbers after the lines of n sites
 module _ (bytes report : List ℕ) where
   abbrev n : ℕ
@@ -121,9 +132,8 @@ module _ (bytes report : List ℕ) where
   pub total-predicted-too-wide : 100000 * (low + 4 * n) + high < 100000 * high → Wrong
   total-predicted-too-wide l m = omega (arith, m .totals .predicted-narrow .width)
 
-  pub total-expected-too-wide : let observed = observedIn (coefficientsIn bytes) (sitesIn bytes) in
-      100000 * (lowExpected + 8 * (n + observed)) + highExpected < 100000 * highExpected → Wrong
-  total-expected-too-wide l m = omega (arith, m .totals .expected-narrow .width)
+  pub total-expected-too-wide : 100000 * (lowExpected + 8 * (n + crashesIn (sitesIn bytes))) + highExpected < 100000 * highExpected → Wrong
+  total-expected-too-wide l m = omega (arith, m .totals .expected-narrow .width, counted-once (coefficientsIn bytes) (sitesIn bytes))
 
 -- A PAIR FROM ZERO TO THE TOP for the first site, whatever stands after it
 pub zero-to-the-top : (bytes rest : List ℕ) → 0 < length (sitesIn bytes) → Demand bytes (0 ∷ 18446744073709551615 ∷ rest) → ⊥

@@ -12,7 +12,7 @@ use lib.Dec.{leb}
 use Rattle.laws.specs.Lent.{laidOver}
 use Rattle.site.specs.RecordCauses.{cause-not-zero}
 use Rattle.header.specs.Header.{countIn}
-use Rattle.header.specs.Causes.{header-cut, header-edition, header-limits}
+use Rattle.header.specs.HeaderLaws.{header-not-zero}
 use Rattle.project.specs.Causes.{reportLength, NoCause, FirstCause, in-bytes, in-report, in-header, in-record, in-rest}
 use Rattle.project.specs.Scan.{refused-exactly, accepted-exactly}
 use Rattle.project.specs.Acceptance.{no-cause-exactly, FirstFound, first-or-none}
@@ -24,9 +24,7 @@ use Rattle.report.specs.Demand.{Demand, ReportsProject}
 
 -- no cause has the number of a success
 pub first-not-zero : {s : List ℕ} {room number p : ℕ} → FirstCause s room number p → number ≡ 0 → ⊥
-first-not-zero (in-bytes (in-header (header-cut h))) e = omega arith
-first-not-zero (in-bytes (in-header (header-edition l h))) e = omega arith
-first-not-zero (in-bytes (in-header (header-limits q h))) e = omega arith
+first-not-zero {s} (in-bytes (in-header h)) e = header-not-zero s h e
 first-not-zero (in-bytes (in-record header r)) e = cause-not-zero (r .cause) e
 first-not-zero (in-bytes (in-rest header r)) e = omega arith
 first-not-zero (in-report w h) e = omega arith

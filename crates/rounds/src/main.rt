@@ -20,8 +20,8 @@ use power::power_with;
 use power::stored::stored_powers;
 use site::values::Site;
 use site::values::SiteAnswer;
+use site::words::word_at;
 use site_reader::read_site;
-use site_reader::word_at;
 
 const MODULUS: u64 = 4294967296;
 

@@ -19,7 +19,7 @@ pub record HeadPresent (s : List ℕ) : Type 0 where
   pub known : kindIn s ≤ lastKind
 
 -- "kind and map present (1), 5, 6, 7, all fields present (1), then field by field 8, 9": how the tests come out, by their number.
--- Only this opens `refusalOf`; what is said of a refusal goes by these cases
+-- Of the laws about refusals only this opens `refusalOf`: the others go by these cases
 pub data Tried (s : List ℕ) : ℕ → Type 0 where
   head-short : length s < 3 → Tried s 1
   kind-unknown : 3 ≤ length s → lastKind < kindIn s → Tried s 5

@@ -25,8 +25,8 @@ use Rattle.site.specs.Fields.{Absence, never, no-number, usual, on-curve
 use Rattle.site.specs.Fields.{mapBits, lackedFrom, lackedBits, fieldIn, othersOf, bitAt, standing, numberAt, inRange}
 use Rattle.site.specs.Fields.{isUsual, spellsDefault, AbsentAs, FieldRead, BitRead, AllAbsent, FieldsRead}
 use Rattle.site.specs.Writing.{slotsOf}
-use Rattle.laws.specs.Truth.{and-left, and-right, or-left, or-right, not-both}
-use Rattle.site.specs.Tested.{by-kind, never-so, tested-rules}
+use Rattle.laws.specs.Truth.{and-left, and-right, or-left, or-right, not-both, never-so}
+use Rattle.site.specs.Tested.{by-kind, tested-rules}
 use Rattle.site.specs.Accepted.{Accepted, reading}
 use Rattle.site.specs.ReadWrite.{value-taken, slots-again}
 use Rattle.site.specs.BitLaws.{bitRules, bitSlots, with-bits, listed, EachHasBit, wordAt, words-listed, value-at, needed-stands}

@@ -16,7 +16,7 @@ use Rattle.site.specs.declared.numbers.Crossing.{Crossing}
 use Rattle.site.specs.Rules as rules
 use Rattle.site.specs.Rules.{absent}
 use Rattle.site.specs.Writing.{Valid}
-use Rattle.site.specs.Tested.{by-kind}
+use Rattle.site.specs.Tested.{by-kind, top}
 use Rattle.site.specs.Ranges.{Within, Obeys, StraightRoad, CurvedRoad, CrossingRanges}
 use Rattle.site.specs.Ranges.{valid-kind, segment-ranges, three-leg-ranges, four-leg-ranges, signal-ranges}
 
@@ -57,20 +57,13 @@ crossingOf traffic minor site = record {
   «limited_sight» = number (site .«limited_sight»);
 }
 
--- the least and the largest number of a field that obeys a rule
+-- the least number of a field that obeys a rule; the largest is its top
 abbrev ruleLeast : Rule → ℕ
 ruleLeast Foreign = 0
 ruleLeast Lacking = 0
 ruleLeast (Needed low high) = low
 ruleLeast (Optional low high) = 0
 ruleLeast (Default low high usual) = low
-
-abbrev ruleMost : Rule → ℕ
-ruleMost Foreign = 0
-ruleMost Lacking = 0
-ruleMost (Needed low high) = high
-ruleMost (Optional low high) = high
-ruleMost (Default low high usual) = high
 
 within-least : {low high : ℕ} {slot : Slot} → Within low high slot → low ≤ number slot
 within-least {low} w = le-trans (w .at-least) (le-of-eq (ap number (sym (w .is))))
@@ -88,7 +81,7 @@ obeys-least (Needed low high) slot h = within-least h
 obeys-least (Optional low high) slot h = omega arith
 obeys-least (Default low high usual) slot h = within-least h
 
-obeys-most : (rule : Rule) (slot : Slot) → Obeys rule slot → number slot ≤ ruleMost rule
+obeys-most : (rule : Rule) (slot : Slot) → Obeys rule slot → number slot ≤ top rule
 obeys-most Foreign slot h = absent-most h
 obeys-most Lacking slot h = absent-most h
 obeys-most (Needed low high) slot h = within-most h
@@ -176,10 +169,10 @@ record CrossingRules (site : Site) : Type 0 where
   right : Rule
   sight : Rule
   obeyed : CrossingRanges angle left right sight site
-  angle-most : ruleMost angle ≤ 60
-  left-most : ruleMost left ≤ 2
-  right-most : ruleMost right ≤ 2
-  sight-most : ruleMost sight ≤ 4
+  angle-most : top angle ≤ 60
+  left-most : top left ≤ 2
+  right-most : top right ≤ 2
+  sight-most : top sight ≤ 4
 
 crossing-rules : (site : Site) → Valid site → 1 ≤ site .kind → CrossingRules site
 crossing-rules site v from =
@@ -189,8 +182,8 @@ crossing-rules site v from =
     (λ e. of _ _ _ _ (signal-ranges site v e) (lit≤ tt) (lit≤ tt) (lit≤ tt) (lit≤ tt))
     (site .kind) from (valid-kind site v) refl
   where
-    of : (angle left right sight : Rule) → CrossingRanges angle left right sight site → ruleMost angle ≤ 60 → ruleMost left ≤ 2
-        → ruleMost right ≤ 2 → ruleMost sight ≤ 4 → CrossingRules site
+    of : (angle left right sight : Rule) → CrossingRanges angle left right sight site → top angle ≤ 60 → top left ≤ 2
+        → top right ≤ 2 → top sight ≤ 4 → CrossingRules site
     of angle left right sight c a l r s = record {
       angle = angle;
       left = left;

@@ -14,10 +14,9 @@ use Rattle.site.specs.Rules.{lastKind}
 use Rattle.site.specs.Answers.{readNumber}
 use Rattle.site.specs.Record.{lacks, misses, words, fieldsNumber, kindIn, mapIn, rulesIn, refusalOf, readSite}
 use Rattle.site.specs.Fields.{lacked, mapBits, fieldIn, bitAt, standing, numberAt, fieldsEnd, inRange, spellsDefault}
-use Rattle.laws.specs.Truth.{not-both}
+use Rattle.laws.specs.Truth.{not-both, never-so}
 use Rattle.site.specs.Accepted.{HeadPresent, Tried, head-short, kind-unknown, map-lacks, map-misses, fields-short}
 use Rattle.site.specs.Accepted.{fields-tell, tried, tried-number, accepted, accept, number-read}
-use Rattle.site.specs.Tested.{never-so}
 use Rattle.site.specs.ReadWrite.{value-taken}
 use Rattle.site.specs.BitLaws.{bitNumber, BitsTell, none-refused, first-refused, refused-first}
 use Rattle.site.specs.Curve.{mapMatched, misses-by-bits}

@@ -24,11 +24,6 @@ by-kind P segment threeLegStop fourLegStop signal (suc (suc zero)) h = fourLegSt
 by-kind P segment threeLegStop fourLegStop signal (suc (suc (suc zero))) h = signal
 by-kind P segment threeLegStop fourLegStop signal (suc (suc (suc (suc kind)))) h = absurd (omega arith)
 
--- a test that never holds
-pub never-so : (a : Bool) → (a ≡ true → ⊥) → a ≡ false
-never-so true never = absurd (never refl)
-never-so false never = refl
-
 -- what an absent field is read as is within its rule, unless the field is needed: a default lies in its range
 abbrev pub right : Rule → Bool
 right rule = needed rule || fits rule (absentOf rule)

@@ -19,7 +19,8 @@ use Rattle.site.specs.Rules.{entriesOf, lastKind, bits}
 use Rattle.site.specs.Record.{anyField, misses, curved, rulesRead, restOf, words, kindIn, mapIn, rulesIn, readSite}
 use Rattle.site.specs.Writing.{recordOf, sound, Valid, writeRefusal, writeAnswer, writeInto}
 use Rattle.site.specs.Digits.{Bytes, digit-most}
-use Rattle.site.specs.Tested.{bitCount, by-kind, never-so, tested-rules}
+use Rattle.laws.specs.Truth.{never-so}
+use Rattle.site.specs.Tested.{bitCount, by-kind, tested-rules}
 use Rattle.site.specs.Accepted.{reading}
 use Rattle.site.specs.WriteRead.{write-read}
 use Rattle.site.specs.ReadWrite.{read-valid, read-write}

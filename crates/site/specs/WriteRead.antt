@@ -19,11 +19,11 @@ use Rattle.site.specs.Rules.{entriesOf, lastKind, slotCount, allows, abs
 use Rattle.site.specs.Record.{bitOf, stands, lackedBitStands, neededBitAbsent, anyField, lacks, misses, curved, rulesRead}
 use Rattle.site.specs.Record.{words, fieldNumber, fieldValue, after, fieldsNumber, fieldsValues, siteOf, readSite}
 use Rattle.site.specs.Writing.{slotsOf, curveHeld, rulesHeld, fits, allFit, slotBit, mapOf, slotBytes, fieldBytes, bytesOf, recordBy, recordOf, Valid}
-use Rattle.laws.specs.Truth.{and-left, and-right, not-both}
+use Rattle.laws.specs.Truth.{and-left, and-right, not-both, never-so}
 use Rattle.site.specs.Digits.{digit-low, digit-rest, two-bytes}
 use Rattle.site.specs.Ranges.{valid-fits, valid-kind}
 use Rattle.site.specs.Tested.{right, entryRight, hasCurve, needsCurve, bits-most, every}
-use Rattle.site.specs.Tested.{allows-bit, needed-bit, tested-rules, entries-count, never-so}
+use Rattle.site.specs.Tested.{allows-bit, needed-bit, tested-rules, entries-count}
 use Rattle.site.specs.Accepted.{Accepted, accept}
 
 absent-is : (slot : Slot) → absent slot ≡ true → slot ≡ Absent

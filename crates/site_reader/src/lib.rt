@@ -5,7 +5,7 @@ ghost use mathlib.Core.Bool.{cond};
 ghost use lib.ListN.{length, drop};
 ghost use Rattle.site.specs.Rules.{lastKind, slotCount};
 ghost use Rattle.site.specs.Answers.{readAnswer};
-ghost use Rattle.site.specs.Record.{word, bitOf, restOf, stands, lackedBitStands, lacks, neededBitAbsent, misses, curveBitStands, curved, rulesRead};
+ghost use Rattle.site.specs.Record.{stands, lackedBitStands, lacks, neededBitAbsent, misses, curveBitStands, curved, rulesRead};
 ghost use Rattle.site.specs.Record.{fieldWords, words, valueNumber, fieldNumber, fieldValue, fieldsNumber, fieldsValues, siteOf, recordNumber};
 ghost use Rattle.site.specs.Promises.{ReadsSite};
 use site::rules;
@@ -16,35 +16,11 @@ use site::rules::SLOTS;
 use site::values;
 use site::values::SiteAnswer;
 use site::values::Slot;
-
-fn wide(byte: u8) -> u16
-    ensures { λ r. ⌜ r ≡ byte ⌝ }
-{
-    byte as u16
-}
-
-// The two-byte number at a place, high byte first.
-pub fn word_at(s: &[u8], at: usize) -> u16
-    requires { ⌜ at + 1 < length (now s) ⌝ }
-    ensures { λ r. ⌜ r ≡ word (drop at (now (s .entry))) ⌝ }
-{
-    let low = at + 1;
-    wide(s[at]) * 256 + wide(s[low])
-}
-
-// The bit of the next field.
-fn bit_of(rule: Rule, map: u16) -> u16
-    ensures { λ r. ⌜ (r ≡ bitOf rule map) × (r ≤ 1) ⌝ }
-{
-    map % (1 + rules::bits_of(rule))
-}
-
-// What is left of the map after the next field.
-fn rest_of(rule: Rule, map: u16) -> u16
-    ensures { λ r. ⌜ r ≡ restOf rule map ⌝ }
-{
-    map / (1 + rules::bits_of(rule))
-}
+use site::words::bit_of;
+use site::words::count_words;
+use site::words::field_words;
+use site::words::rest_of;
+use site::words::word_at;
 
 fn does_stand(rule: Rule, map: u16) -> bool
     ensures { λ r. ⌜ r ≡ stands rule map ⌝ }
@@ -119,30 +95,6 @@ fn map_number(rules: [Rule; SLOTS], map: u16) -> u8
         i += 1;
     }
     if 0 < rest { 6 } else { number }
-}
-
-// How many two-byte numbers a field has in the record.
-fn field_words(rule: Rule, map: u16) -> usize
-    ensures { λ r. ⌜ (r ≡ fieldWords rule map) × (r ≤ 1) ⌝ }
-{
-    bit_of(rule, map) as usize
-}
-
-// How many two-byte numbers follow the map.
-pub fn count_words(rules: [Rule; SLOTS], map: u16) -> usize
-    requires { ⌜ length rules ≡ slotCount ⌝ }
-    ensures { λ r. ⌜ (r ≡ words rules map) × (r ≤ slotCount) ⌝ }
-{
-    let mut rest = map;
-    let mut count = 0;
-    let mut i = 0;
-    while i < SLOTS {
-        let rule = rules[i];
-        count += field_words(rule, rest);
-        rest = rest_of(rule, rest);
-        i += 1;
-    }
-    count
 }
 
 // 8 or 9 for a value that stands, or 0.

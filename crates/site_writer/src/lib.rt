@@ -17,6 +17,7 @@ use site::values;
 use site::values::Site;
 use site::values::Slot;
 use site::values::WriteAnswer;
+use site::words::count_words;
 
 fn is_held(entry: Entry, slot: Slot) -> bool
     ensures { λ r. ⌜ r ≡ (onCurve entry && not (absent slot)) ⌝ }
@@ -177,7 +178,7 @@ pub fn write_site(site: Site, buffer: &mut [u8]) -> WriteAnswer
         return WriteAnswer::Unwritten(8);
     }
     let map = map_of(rules, slots);
-    let n = 3 + 2 * site_reader::count_words(rules, map);
+    let n = 3 + 2 * count_words(rules, map);
     if buffer.len() < n {
         return WriteAnswer::Unwritten(10);
     }

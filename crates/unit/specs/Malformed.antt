@@ -8,7 +8,7 @@ use lib.ListN.{length, getD, drop}
 use lib.Seq.{getD-take, getD-drop}
 use Rattle.site.specs.Rules.{slotCount}
 use Rattle.site.specs.Writing.{sound, writeRefusal}
-use Rattle.site.specs.Tested.{never-so}
+use Rattle.laws.specs.Truth.{never-so}
 use Rattle.site.specs.Promises.{number-written}
 use Rattle.header.specs.declared.Header.{Header}
 use Rattle.header.specs.Header.{inLimits}

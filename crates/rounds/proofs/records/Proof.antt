@@ -16,15 +16,17 @@ abbrev μ-loop : tie.MeasureT-loop
 site-added-requires : tie.Need-site-added-requires Inv-loop μ-loop
 site-added-requires c κs =
     let read = c .before .before .before in
-    let start = read .before .before .before .before .before in
+    let loop = read .before .before .before in
+    let start = loop .before .before in
     (start .pre .0, start .pre .1, start .pre .2, read .read-site .ensures .valid _ _ (c .before .answer .given .1))
 
 -- the record ends within the records, and is not empty
 loop-again : tie.Need-loop-again Inv-loop μ-loop
 loop-again c =
     let read = c .before .before .before .before in
-    let loop = read .before .before .before .loop in
-    let records = now (read .before .before .before .before .before .args .records) in
+    let turn = read .before .before .before in
+    let loop = turn .loop in
+    let records = now (turn .before .before .args .records) in
     let found = read .read-site .ensures .bounds _ _ (c .before .before .answer .given .1) in
     omega (arith, loop .inv, found .within, length-take (length records - loop .at) (drop (loop .at) records), length-drop (loop .at) records)
 

@@ -2,7 +2,7 @@
 use native.Mathlib.Nat.{mul-le-mul}
 use native.Mathlib.Omega.{arith}
 use Prim.Native.Nat.{_*_, _≤_}
-use Rattle.model.specs.StatedWidths.{mostPredicted}
+use Rattle.prediction.specs.Pair.{mostPredicted}
 use borrow.Author.Needs.{needs}
 use Rattle.line.proofs.expected.under_of.Statement.{statement}
 use Rattle.line.proofs.expected.under_of.Tie as tie

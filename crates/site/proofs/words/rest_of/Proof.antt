@@ -1,9 +1,9 @@
--- `site_reader::rest_of` meets its contract. A quotient by one more than the field's bits.
+-- `site::words::rest_of` meets its contract. A quotient by one more than the field's bits.
 use mathlib.Core.Path.{ap}
 use Prim.Native.Nat.{ℕ, _+_, _/_}
 use borrow.Author.Needs.{needs}
-use Rattle.site_reader.proofs.rest_of.Statement.{statement}
-use Rattle.site_reader.proofs.rest_of.Tie as tie
+use Rattle.site.proofs.words.rest_of.Statement.{statement}
+use Rattle.site.proofs.words.rest_of.Tie as tie
 
 returns : tie.Need-returns
 returns c = ap (λ (b : ℕ). c .before .args .map / (1 + b)) (c .bits-of .ensures .0)

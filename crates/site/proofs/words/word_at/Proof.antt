@@ -1,11 +1,11 @@
--- `site_reader::word_at` meets its contract. High byte first; both bytes are below 256, so the number fits.
+-- `site::words::word_at` meets its contract. High byte first; both bytes are below 256, so the number fits.
 use Prim.Native.Nat.{_+_}
 use native.Mathlib.Omega.{arith}
 use lib.Seq.{getD-drop}
 use native.Mathlib.Nat.{add-zero}
 use borrow.Author.Needs.{needs}
-use Rattle.site_reader.proofs.word_at.Statement.{statement}
-use Rattle.site_reader.proofs.word_at.Tie as tie
+use Rattle.site.proofs.words.word_at.Statement.{statement}
+use Rattle.site.proofs.words.word_at.Tie as tie
 
 mul-result : tie.Need-mul-result
 mul-result c =

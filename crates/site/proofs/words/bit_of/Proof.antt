@@ -1,11 +1,11 @@
--- `site_reader::bit_of` meets its contract. A remainder by one more than the field's bits.
+-- `site::words::bit_of` meets its contract. A remainder by one more than the field's bits.
 use mathlib.Core.Path.{ap}
 use native.Mathlib.Omega.{arith}
 use Prim.Native.Nat.{ℕ, _+_, _%_}
 use Rattle.site.specs.Digits.{digit-most}
 use borrow.Author.Needs.{needs}
-use Rattle.site_reader.proofs.bit_of.Statement.{statement}
-use Rattle.site_reader.proofs.bit_of.Tie as tie
+use Rattle.site.proofs.words.bit_of.Statement.{statement}
+use Rattle.site.proofs.words.bit_of.Tie as tie
 
 returns : tie.Need-returns
 returns c = (

@@ -1,14 +1,14 @@
--- `site_reader::count_words` meets its contract. The loop's invariant: the count so far and the words of the rules from i on are the whole.
+-- `site::words::count_words` meets its contract. The loop's invariant: the count so far and the words of the rules from i on are the whole.
 use borrow.Author.Needs.{needs}
 use native.Mathlib.Omega.{arith}
 use mathlib.Core.Path.{_≡_}
 use Prim.Native.Nat.{_+_, _≤_, _-_}
 use lib.ListN.{drop}
 use Rattle.site.specs.Rules.{slotCount}
 use Rattle.site.specs.Record.{words}
 use Rattle.site.proofs.ReadSteps.{words-turn, words-done}
-use Rattle.site_reader.proofs.count_words.Statement.{statement}
-use Rattle.site_reader.proofs.count_words.Tie as tie
+use Rattle.site.proofs.words.count_words.Statement.{statement}
+use Rattle.site.proofs.words.count_words.Tie as tie
 
 abbrev Inv-loop : tie.InvT-loop
 Inv-loop map rules rest₀ count₀ i₀ rest count i = (i ≤ slotCount) × (count ≤ i) × (count + words (drop i rules) rest ≡ words rules map)
