@@ -13,13 +13,12 @@ use Rattle.project.specs.declared.ScanAnswer.{ScanAnswer}
 use Rattle.project.specs.declared.ScanAnswer.the-variants as scan
 use Rattle.site.specs.Theorems.{longest, read-length}
 use Rattle.project.specs.File.{scanFile}
-use Rattle.project.specs.Causes.{Starts, first, next}
+use Rattle.project.specs.Causes.{Starts, first, next, reportLength}
 use Rattle.project.specs.Scan.{accepted-exactly}
 use Rattle.project.specs.SitesRead.{accepted-sites}
 use Rattle.project.specs.Prefix.{longestFile, scan-prefix}
 use Rattle.report.specs.declared.ProjectAnswer.{ProjectAnswer}
 use Rattle.report.specs.declared.ProjectAnswer.the-variants.{Reported, Refused}
-use Rattle.project.specs.Causes.{reportLength}
 use Rattle.report.specs.Report.{reportNumbers, linesIn, projectAnswer, reportAfter}
 use Rattle.report.specs.Demand.{ReportsProject}
 use Rattle.report.specs.Accepted.{length-report, count-lines}

@@ -13,10 +13,9 @@ use Rattle.header.specs.declared.Header.{Header}
 use Rattle.header.specs.HeaderLaws.{HeaderWithin}
 use Rattle.model.specs.Coefficients.{Coefficients}
 use Rattle.model.specs.Expected.{weighed, expectedLow, expectedHigh, overdispersionOf}
-use Rattle.prediction.specs.Pair.{mostPredicted}
+use Rattle.prediction.specs.Pair.{mostPredicted, predictedPair}
 use Rattle.site.specs.Numbers.{number, observed-most}
 use Rattle.model.specs.Predicted.{predictedUnder, predictedOver}
-use Rattle.prediction.specs.Pair.{predictedPair}
 use Rattle.prediction.specs.declared.Pair.{Pair}
 use Rattle.prediction.specs.Kept.{Rated}
 use Rattle.prediction.specs.PredictedLaws.{PairStands, predicted-stands}

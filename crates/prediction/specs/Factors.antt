@@ -1,4 +1,4 @@
--- The readings of a site's factors beside their estimates: its bracket, its share of the width, and a bound of it.
+-- The readings of a factor beside its estimates: its bracket, its share of the width, and a bound of it.
 use Prim.Native.Nat.{ℕ, _*_, _/_, _^_}
 use mathlib.Core.List.{List, map}
 use Rattle.estimate.specs.Fraction.{Fraction, _//_, whole}

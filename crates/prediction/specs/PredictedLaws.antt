@@ -29,11 +29,11 @@ use Rattle.header.specs.declared.Header.{Header}
 use Rattle.header.specs.Header.{mostYears, mostCalibration}
 use Rattle.header.specs.HeaderLaws.{HeaderWithin}
 use Rattle.model.specs.Predicted.{termsOf, productUnder, productOver, sumUnder, sumOver, predictedUnder, predictedOver}
-use Rattle.prediction.specs.Pair.{mostPredicted}
 use Rattle.model.specs.StatedWidths.{widthParts, predictedEach}
 use Rattle.prediction.specs.Stored.{storedWidth}
 use Rattle.prediction.specs.Factors.{parts, bracketsOf, piecesOf}
-use Rattle.prediction.specs.Pair.{unit, segmentUnits, crossingUnits, pairOf, segmentPair, crossingPair, termPair, plus, sumPair, predictedPair}
+use Rattle.prediction.specs.Pair.{unit, segmentUnits, crossingUnits, pairOf, segmentPair, crossingPair}
+use Rattle.prediction.specs.Pair.{termPair, plus, sumPair, predictedPair, mostPredicted}
 use Rattle.prediction.specs.Kept.{Rated, Roomy, AllSized, segmentMost, crossingMost, all-kept, segment-sized, crossing-sized}
 use Rattle.prediction.specs.declared.Pair.{Pair}
 

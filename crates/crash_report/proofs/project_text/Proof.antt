@@ -1,4 +1,3 @@
--- `crash_report::project_text` meets its contract.
 use mathlib.Core.Path.{sym}
 use lib.ListN.{length-take}
 use lib.Seq.{length-take-le}

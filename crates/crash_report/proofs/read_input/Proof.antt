@@ -1,4 +1,3 @@
--- `crash_report::read_input` meets its contract.
 use Prim.Native.Nat.{_≤_, _-_}
 use mathlib.Core.Path.{_≡_}
 use lib.ListN.{length}

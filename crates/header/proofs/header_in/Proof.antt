@@ -1,4 +1,4 @@
--- `header::header_in` meets its contract. Each field is what the call that reads it answers.
+-- Each field is what the call that reads it answers.
 use borrow.Author.Needs.{needs}
 use Rattle.header.proofs.header_in.Statement.{statement}
 use Rattle.header.proofs.header_in.Tie as tie

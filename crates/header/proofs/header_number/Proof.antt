@@ -1,4 +1,4 @@
--- `header::header_number` meets its contract. Length, edition, then the limits.
+-- Length, edition, then the limits.
 use borrow.Author.Needs.{needs}
 use borrow.Author.Tests.{lt-ltb, le-ltb, eq-eqb, ne-eqb, le-leb, lt-leb, not-true, not-false}
 use Rattle.header.specs.Header.{headerNumber}

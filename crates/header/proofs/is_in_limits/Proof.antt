@@ -1,4 +1,4 @@
--- `header::is_in_limits` meets its contract. Each test is one of the definition's, in its order.
+-- Each test is one of the definition's, in its order.
 use borrow.Author.Needs.{needs}
 use borrow.Author.Tests.{not-true, not-false}
 use Rattle.header.specs.Header.{inLimits}

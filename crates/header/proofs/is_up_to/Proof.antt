@@ -1,4 +1,4 @@
--- `header::is_up_to` meets its contract. Two comparisons.
+-- Two comparisons.
 use borrow.Author.Tests.{le-leb, lt-leb}
 use Rattle.header.proofs.is_up_to.Statement.{statement}
 use Rattle.header.proofs.is_up_to.Tie as tie

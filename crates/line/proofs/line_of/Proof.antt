@@ -1,4 +1,3 @@
--- `line::line_of` meets its contract.
 use mathlib.Core.Path.{sym, _∙_}
 use borrow.Author.Tests.{not-true, not-false}
 use Rattle.header.specs.HeaderLaws.{limits-of}

@@ -1,4 +1,3 @@
--- `line::line_with` meets its contract.
 use mathlib.Core.Path.{ap, _∙_}
 use Rattle.site.specs.Ranges.{valid-kind}
 use Rattle.model.specs.Coefficients.{editionOne}

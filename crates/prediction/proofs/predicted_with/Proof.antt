@@ -1,4 +1,3 @@
--- `prediction::predicted_with` meets its contract.
 use native.Mathlib.Nat.{pos-of-ne-zero}
 use Rattle.site.specs.Numbers.{segment-sizes, crossing-sizes, site-traffic, crossing-minor}
 use Rattle.prediction.specs.Carrying.{segment-pair, crossing-pair}

@@ -1,4 +1,4 @@
--- `project::scan` meets its contract. The header's refusal, or the scan of as many records as the header says.
+-- The header's refusal, or the scan of as many records as the header says.
 use borrow.Author.Needs.{needs}
 use borrow.Author.Tests.{eq-eqb, ne-eqb}
 use mathlib.Core.Path.{sym, _∙_}

@@ -1,4 +1,4 @@
--- `project::scan_records` meets its contract. The loop's invariant: the records from i on, at their place, tell what the scan answers.
+-- The loop's invariant: the records from i on, at their place, tell what the scan answers.
 -- The measure is the number of records that are left.
 use mathlib.Core.Path.{_≡_, sym, _∙_}
 use mathlib.Core.List.{List}

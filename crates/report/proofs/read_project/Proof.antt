@@ -1,4 +1,4 @@
--- `report::read_project` meets its contract. Scan, space, then the fill.
+-- Scan, space, then the fill.
 use mathlib.Core.Path.{sym, _∙_}
 use Rattle.project.specs.SitesRead.{accepted-sites}
 use Rattle.report.specs.ReaderCauses.{space-suffices, refused-by-bytes, refused-by-room, reported}

@@ -1,4 +1,3 @@
--- `report::space` meets its contract.
 use native.Mathlib.Omega.{arith}
 use Rattle.report.specs.ReaderCauses.{room-short, room-enough}
 use borrow.Author.Needs.{needs}

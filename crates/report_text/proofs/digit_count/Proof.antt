@@ -1,4 +1,4 @@
--- `report_text::digit_count` meets its contract. The loop's invariant: what was counted and what is left make up the number's digits.
+-- The loop's invariant: what was counted and what is left make up the number's digits.
 use Prim.Native.Nat.{_+_, _≤_}
 use mathlib.Core.Path.{_≡_}
 use native.Mathlib.Omega.{arith}

@@ -1,4 +1,4 @@
--- `report_text::put_bytes` meets its contract. The loop's invariant: the bytes before i are copied.
+-- The loop's invariant: the bytes before i are copied.
 use Prim.Native.Nat.{_-_}
 use lib.ListN.{length}
 use borrow.Author.Needs.{needs}

@@ -1,4 +1,4 @@
--- `report_text::put_digits` meets its contract. The loop's invariant: with the digits that are left stored at the place, the buffer is as it is to be.
+-- The loop's invariant: with the digits that are left stored at the place, the buffer is as it is to be.
 use Prim.Native.Nat.{_+_, _≤_}
 use mathlib.Core.Path.{_≡_}
 use native.Mathlib.Omega.{arith}

@@ -1,4 +1,4 @@
--- `report_text::put_report` meets its contract. The loop's invariant: with the lines that are left stored at the place reached, the buffer is as it is to be.
+-- The loop's invariant: with the lines that are left stored at the place reached, the buffer is as it is to be.
 use Prim.Native.Nat.{_-_}
 use native.Mathlib.Omega.{arith}
 use lib.ListN.{length}

@@ -1,4 +1,4 @@
--- `rounds::records` meets its contract. The loop's invariant: the place is within the records.
+-- The loop's invariant: the place is within the records.
 use Prim.Native.Nat.{_≤_, _-_}
 use denote.Ref.{now}
 use native.Mathlib.Omega.{arith}

@@ -1,4 +1,4 @@
--- `site_reader::curve_bit_stands` meets its contract. A bit of the curve that stands.
+-- A bit of the curve that stands.
 use borrow.Author.Needs.{needs}
 use Rattle.site_reader.proofs.curve_bit_stands.Statement.{statement}
 use Rattle.site_reader.proofs.curve_bit_stands.Tie as tie

@@ -1,4 +1,4 @@
--- `site_reader::does_stand` meets its contract. The bit is 1.
+-- The bit is 1.
 use mathlib.Core.Path.{ap}
 use Prim.Native.Nat.{ℕ}
 use lib.Dec.{eqb}

@@ -1,4 +1,4 @@
--- `site_reader::field_number` meets its contract. A field that stands has two bytes, which are there.
+-- A field that stands has two bytes, which are there.
 use mathlib.Core.Path.{sym, _∙_}
 use native.Mathlib.Omega.{arith}
 use borrow.Author.Tests.{eqb-true}

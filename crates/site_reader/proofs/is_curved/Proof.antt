@@ -1,4 +1,4 @@
--- `site_reader::is_curved` meets its contract. The loop's invariant: no bit of the curve before i stands, so the rest of the entries tells.
+-- The loop's invariant: no bit of the curve before i stands, so the rest of the entries tells.
 use borrow.Author.Needs.{needs}
 use native.Mathlib.Omega.{arith}
 use mathlib.Core.Path.{_≡_, ap, _∙_}

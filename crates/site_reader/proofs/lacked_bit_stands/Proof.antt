@@ -1,4 +1,4 @@
--- `site_reader::lacked_bit_stands` meets its contract. A bit that the kind lacks, and that stands.
+-- A bit that the kind lacks, and that stands.
 use borrow.Author.Needs.{needs}
 use Rattle.site_reader.proofs.lacked_bit_stands.Statement.{statement}
 use Rattle.site_reader.proofs.lacked_bit_stands.Tie as tie

@@ -1,4 +1,4 @@
--- `site_reader::map_number` meets its contract. The loop's invariant: no bit before i is one that the kind lacks, so the rest of the
+-- The loop's invariant: no bit before i is one that the kind lacks, so the rest of the
 -- rules tells; the number is 7 where a needed bit before i is absent, and where none is, the rest of the rules tells.
 use borrow.Author.Needs.{needs}
 use borrow.Author.Tests.{lt-ltb, le-ltb}

@@ -1,4 +1,4 @@
--- `site_reader::number_after` meets its contract. A bit that the kind needs, and that does not stand.
+-- A bit that the kind needs, and that does not stand.
 use borrow.Author.Needs.{needs}
 use Rattle.site_reader.proofs.number_after.Statement.{statement}
 use Rattle.site_reader.proofs.number_after.Tie as tie

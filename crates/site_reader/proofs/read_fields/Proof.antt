@@ -1,4 +1,4 @@
--- `site_reader::read_fields` meets its contract. Each test is one of the definition's, in its order.
+-- Each test is one of the definition's, in its order.
 use mathlib.Core.Path.{_≡_, sym, _∙_}
 use mathlib.Core.Bool.{Bool, true, false, cond}
 use mathlib.Core.List.{List}

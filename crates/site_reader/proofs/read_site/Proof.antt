@@ -1,4 +1,4 @@
--- `site_reader::read_site` meets its contract. Kind and map are there, then the fields are read by their rules.
+-- Kind and map are there, then the fields are read by their rules.
 use borrow.Author.Tests.{lt-ltb, le-ltb}
 use denote.Ref.{now}
 use Rattle.laws.specs.Walk.{part-from}

@@ -1,4 +1,4 @@
--- `site_reader::read_values` meets its contract. The loop's invariant: the fields before i are not refused, the bytes of the others
+-- The loop's invariant: the fields before i are not refused, the bytes of the others
 -- are there, and they tell; with the slots from i on filled in, the list is all the slots.
 use borrow.Author.Needs.{needs}
 use borrow.Author.Tests.{ne-eqb}

@@ -1,4 +1,4 @@
--- `site_reader::rules_read` meets its contract. The table's row, settled by the bits of the curve.
+-- The table's row, settled by the bits of the curve.
 use borrow.Author.Needs.{needs}
 use Rattle.site_reader.proofs.rules_read.Statement.{statement}
 use Rattle.site_reader.proofs.rules_read.Tie as tie

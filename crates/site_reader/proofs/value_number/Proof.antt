@@ -1,4 +1,4 @@
--- `site_reader::value_number` meets its contract. 8 where the rule does not take the value, 9 where it is the default.
+-- 8 where the rule does not take the value, 9 where it is the default.
 use borrow.Author.Needs.{needs}
 use Rattle.site_reader.proofs.value_number.Statement.{statement}
 use Rattle.site_reader.proofs.value_number.Tie as tie

@@ -1,4 +1,4 @@
--- `site_writer::do_all_fit` meets its contract. The loop's invariant: the slots before i are within their rules, so the others tell.
+-- The loop's invariant: the slots before i are within their rules, so the others tell.
 use borrow.Author.Needs.{needs}
 use native.Mathlib.Omega.{arith}
 use mathlib.Core.Path.{_≡_, sym, _∙_}

@@ -1,4 +1,4 @@
--- `site_writer::does_fit` meets its contract. A number is within the rule's range; an absent slot is one that the reader can leave so.
+-- A number is within the rule's range; an absent slot is one that the reader can leave so.
 use borrow.Author.Needs.{needs}
 use Rattle.site_writer.proofs.does_fit.Statement.{statement}
 use Rattle.site_writer.proofs.does_fit.Tie as tie

@@ -1,4 +1,4 @@
--- `site_writer::holds_curve` meets its contract. The loop's invariant: no slot of the curve before i holds a number, so the others tell.
+-- The loop's invariant: no slot of the curve before i holds a number, so the others tell.
 use borrow.Author.Needs.{needs}
 use native.Mathlib.Omega.{arith}
 use mathlib.Core.Path.{_≡_, sym, _∙_}

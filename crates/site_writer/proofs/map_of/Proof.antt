@@ -1,4 +1,4 @@
--- `site_writer::map_of` meets its contract. The loop's invariant: the map so far is that of the slots from i on, which stays below 2 to their bits.
+-- The loop's invariant: the map so far is that of the slots from i on, which stays below 2 to their bits.
 use native.Mathlib.Omega.{arith}
 use mathlib.Core.Path.{_≡_, sym}
 use Prim.Native.Nat.{_+_, _≤_, _-_}

@@ -1,4 +1,4 @@
--- `site_writer::map_with` meets its contract. The bit of one slot below the bits of the others.
+-- The bit of one slot below the bits of the others.
 use native.Mathlib.Omega.{arith}
 use native.Mathlib.Nat.{mul-le-mul-right}
 use Rattle.site.specs.WriteRead.{slot-bit-most}

@@ -1,4 +1,4 @@
--- `site_writer::put_field` meets its contract. Two bytes, high byte first, or none.
+-- Two bytes, high byte first, or none.
 use native.Mathlib.Omega.{arith}
 use mathlib.Core.Path.{_≡_, ap}
 use mathlib.Core.List.{[], _∷_}

@@ -1,4 +1,4 @@
--- `site_writer::put_fields` meets its contract. The loop's invariant: with the fields from i on laid at the place reached, the buffer is as it is to be.
+-- The loop's invariant: with the fields from i on laid at the place reached, the buffer is as it is to be.
 use borrow.Author.Needs.{needs}
 use native.Mathlib.Omega.{arith}
 use mathlib.Core.Path.{_≡_, _∙_}

@@ -1,4 +1,4 @@
--- `site_writer::rules_held` meets its contract. The table's row, settled by the slots of the curve.
+-- The table's row, settled by the slots of the curve.
 use borrow.Author.Needs.{needs}
 use Rattle.site_writer.proofs.rules_held.Statement.{statement}
 use Rattle.site_writer.proofs.rules_held.Tie as tie

@@ -1,4 +1,4 @@
--- `site_writer::slot_bit` meets its contract. A default is dropped.
+-- A default is dropped.
 use borrow.Author.Needs.{needs}
 use Rattle.site_writer.proofs.slot_bit.Statement.{statement}
 use Rattle.site_writer.proofs.slot_bit.Tie as tie

@@ -1,4 +1,4 @@
--- `site_writer::write_site` meets its contract. Each test is one of the definition's, in its order, and the stores lay the record.
+-- Each test is one of the definition's, in its order, and the stores lay the record.
 use borrow.Author.Needs.{needs}
 use native.Mathlib.Omega.{arith}
 use mathlib.Core.Path.{sym, _∙_}

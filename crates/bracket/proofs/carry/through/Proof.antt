@@ -1,4 +1,3 @@
--- `bracket::carry::through` meets its contract.
 use borrow.Author.Needs.{needs}
 use Rattle.bracket.proofs.carry.through.Statement.{statement}
 use Rattle.bracket.proofs.carry.through.Tie as tie

@@ -1,4 +1,3 @@
--- `bracket::carry::through_exact` meets its contract.
 use borrow.Author.Needs.{needs}
 use Rattle.bracket.proofs.carry.through_exact.Statement.{statement}
 use Rattle.bracket.proofs.carry.through_exact.Tie as tie

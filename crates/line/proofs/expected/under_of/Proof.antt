@@ -1,4 +1,3 @@
--- `line::expected::under_of` meets its contract.
 use native.Mathlib.Nat.{mul-le-mul}
 use native.Mathlib.Omega.{arith}
 use Prim.Native.Nat.{_*_, _≤_}

@@ -1,4 +1,3 @@
--- `line::expected::weigh` meets its contract.
 use borrow.Author.Needs.{needs}
 use Rattle.line.proofs.expected.weigh.Statement.{statement}
 use Rattle.line.proofs.expected.weigh.Tie as tie

@@ -1,4 +1,3 @@
--- `line::expected::weigh_high` meets its contract.
 use Rattle.line.specs.Weighing.{under-positive, high-fits}
 use borrow.Author.Needs.{needs}
 use Rattle.line.proofs.expected.weigh_high.Statement.{statement}

@@ -1,4 +1,4 @@
--- `line::expected::weigh_low` meets its contract. It fits, because it is at most the prediction or the history.
+-- It fits, because it is at most the prediction or the history.
 use Rattle.line.specs.Weighing.{under-positive, low-fits}
 use borrow.Author.Needs.{needs}
 use Rattle.line.proofs.expected.weigh_low.Statement.{statement}

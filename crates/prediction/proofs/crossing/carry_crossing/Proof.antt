@@ -1,4 +1,3 @@
--- `prediction::crossing::carry_crossing` meets its contract.
 use mathlib.Core.Path.{refl}
 use native.Mathlib.Omega.{arith}
 use native.Mathlib.Nat.{mul-le-mul}

@@ -1,4 +1,3 @@
--- `prediction::crossing::skew_factor` meets its contract.
 use native.Mathlib.Omega.{arith}
 use Prim.Native.Nat.{_*_, _≤_}
 use Rattle.prediction.specs.Kept.{skew-most}

@@ -1,4 +1,3 @@
--- `prediction::rounding::round_outward` meets its contract.
 use mathlib.Core.Path.{ap, sym}
 use Rattle.prediction.specs.Pair.{outward}
 use borrow.Author.Needs.{needs}

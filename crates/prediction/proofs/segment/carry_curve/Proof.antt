@@ -1,4 +1,3 @@
--- `prediction::segment::carry_curve` meets its contract.
 use mathlib.Core.Path.{refl}
 use Rattle.bracket.specs.CarryLaws.{further-exact}
 use Rattle.model.specs.Alignment.{curve, superelevation}

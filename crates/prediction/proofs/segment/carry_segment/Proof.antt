@@ -1,4 +1,3 @@
--- `prediction::segment::carry_segment` meets its contract.
 use Rattle.prediction.specs.Carrying.{straight-carried, curve-carried}
 use borrow.Author.Needs.{needs}
 use Rattle.prediction.proofs.segment.carry_segment.Statement.{statement}

@@ -1,4 +1,3 @@
--- `prediction::segment::carry_straight` meets its contract.
 use mathlib.Core.Path.{refl}
 use native.Mathlib.Omega.{arith}
 use Rattle.bracket.specs.CarryLaws.{further, further-exact}

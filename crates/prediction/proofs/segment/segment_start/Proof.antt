@@ -1,4 +1,3 @@
--- `prediction::segment::segment_start` meets its contract.
 use native.Mathlib.Omega.{arith}
 use Rattle.prediction.specs.Carrying.{StartRoom, start-room}
 use borrow.Author.Needs.{needs}

@@ -1,4 +1,4 @@
--- `report::fill::fill` meets its contract. What the header's reads answer is what the file's bytes say.
+-- What the header's reads answer is what the file's bytes say.
 use denote.Ref.{now}
 use Rattle.project.specs.SitesRead.{accepted-sites}
 use Rattle.report.specs.Accepted.{fillable, filled-meets}

@@ -1,4 +1,4 @@
--- `report::fill::fill_lines` meets its contract. The loop's invariant: the lines before record i stand in the report, and those from
+-- The loop's invariant: the lines before record i stand in the report, and those from
 -- its place on fill it to the whole. The measure is the number of records that are left.
 use Prim.Native.Nat.{_-_, _*_}
 use mathlib.Core.Path.{_∙_}

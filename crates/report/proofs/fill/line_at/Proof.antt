@@ -1,4 +1,4 @@
--- `report::fill::line_at` meets its contract. The line of the site that was read, or none.
+-- The line of the site that was read, or none.
 use denote.Ref.{now}
 use Rattle.model.specs.Coefficients.{editionOne}
 use Rattle.report.specs.Fill.{no-line, a-line}

@@ -1,4 +1,4 @@
--- `report::fill::put_line` meets its contract. Four stores, one after another.
+-- Four stores, one after another.
 use Prim.Native.Nat.{suc, _+_}
 use mathlib.Core.Path.{_≡_, refl}
 use native.Mathlib.Omega.{arith}

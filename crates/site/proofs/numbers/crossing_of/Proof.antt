@@ -1,4 +1,3 @@
--- `site::numbers::crossing_of` meets its contract.
 use borrow.Author.Needs.{needs}
 use Rattle.site.proofs.numbers.crossing_of.Statement.{statement}
 use Rattle.site.proofs.numbers.crossing_of.Tie as tie

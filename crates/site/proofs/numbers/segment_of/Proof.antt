@@ -1,4 +1,3 @@
--- `site::numbers::segment_of` meets its contract.
 use borrow.Author.Needs.{needs}
 use Rattle.site.proofs.numbers.segment_of.Statement.{statement}
 use Rattle.site.proofs.numbers.segment_of.Tie as tie

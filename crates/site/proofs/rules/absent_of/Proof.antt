@@ -1,4 +1,4 @@
--- `site::rules::absent_of` meets its contract. A default is what an absent field is read as.
+-- A default is what an absent field is read as.
 use mathlib.Core.Path.{ap, sym}
 use Rattle.site.specs.Rules.{absentOf}
 use borrow.Author.Needs.{needs}

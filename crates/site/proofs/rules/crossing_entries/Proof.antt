@@ -1,4 +1,4 @@
--- `site::rules::crossing_entries` meets its contract. The row of a crossing is the definition's, entry by entry.
+-- The row of a crossing is the definition's, entry by entry.
 use mathlib.Core.Path.{refl}
 use borrow.Author.Needs.{needs}
 use Rattle.site.proofs.rules.crossing_entries.Statement.{statement}

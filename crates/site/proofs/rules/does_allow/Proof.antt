@@ -1,4 +1,4 @@
--- `site::rules::does_allow` meets its contract. Each rule that takes numbers asks for its range.
+-- Each rule that takes numbers asks for its range.
 use borrow.Author.Needs.{needs}
 use Rattle.site.proofs.rules.does_allow.Statement.{statement}
 use Rattle.site.proofs.rules.does_allow.Tie as tie

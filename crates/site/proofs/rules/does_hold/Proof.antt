@@ -1,4 +1,4 @@
--- `site::rules::does_hold` meets its contract. A number is compared with the one that is held.
+-- A number is compared with the one that is held.
 use borrow.Author.Needs.{needs}
 use Rattle.site.proofs.rules.does_hold.Statement.{statement}
 use Rattle.site.proofs.rules.does_hold.Tie as tie

@@ -1,4 +1,4 @@
--- `site::rules::entries_of` meets its contract. Each kind has its row of the table.
+-- Each kind has its row of the table.
 use native.Mathlib.Omega.{arith}
 use mathlib.Core.Path.{_≡_, ap, sym, _∙_}
 use Rattle.site.specs.Rules.{entriesOf}

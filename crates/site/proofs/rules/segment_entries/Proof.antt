@@ -1,4 +1,4 @@
--- `site::rules::segment_entries` meets its contract. The row of a segment is the definition's, entry by entry.
+-- The row of a segment is the definition's, entry by entry.
 use mathlib.Core.Path.{refl}
 use Rattle.site.proofs.rules.segment_entries.Statement.{statement}
 use Rattle.site.proofs.rules.segment_entries.Tie as tie

@@ -1,4 +1,4 @@
--- `site::rules::settle_rules` meets its contract. The loop's invariant: with the rules from i on filled in, the list is the settled rules.
+-- The loop's invariant: with the rules from i on filled in, the list is the settled rules.
 use Rattle.site.specs.Rules.{settled, slotCount, settle}
 use borrow.Author.Needs.{needs}
 use native.Mathlib.Omega.{arith}

@@ -1,4 +1,4 @@
--- `site::words::bit_of` meets its contract. A remainder by one more than the field's bits.
+-- A remainder by one more than the field's bits.
 use mathlib.Core.Path.{ap}
 use native.Mathlib.Omega.{arith}
 use Prim.Native.Nat.{ℕ, _+_, _%_}

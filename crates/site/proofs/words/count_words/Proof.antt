@@ -1,4 +1,4 @@
--- `site::words::count_words` meets its contract. The loop's invariant: the count so far and the words of the rules from i on are the whole.
+-- The loop's invariant: the count so far and the words of the rules from i on are the whole.
 use borrow.Author.Needs.{needs}
 use native.Mathlib.Omega.{arith}
 use mathlib.Core.Path.{_≡_}

@@ -1,4 +1,4 @@
--- `site::words::rest_of` meets its contract. A quotient by one more than the field's bits.
+-- A quotient by one more than the field's bits.
 use mathlib.Core.Path.{ap}
 use Prim.Native.Nat.{ℕ, _+_, _/_}
 use borrow.Author.Needs.{needs}

@@ -1,4 +1,4 @@
--- `site::words::word_at` meets its contract. High byte first; both bytes are below 256, so the number fits.
+-- High byte first; both bytes are below 256, so the number fits.
 use Prim.Native.Nat.{_+_}
 use native.Mathlib.Omega.{arith}
 use lib.Seq.{getD-drop}

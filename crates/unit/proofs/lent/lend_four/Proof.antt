@@ -1,4 +1,4 @@
--- `unit::lent::lend_four` meets its contract. Four stores one after the other are the four values from the start.
+-- Four stores one after the other are the four values from the start.
 use native.Mathlib.Omega.{arith}
 use borrow.Author.Needs.{needs}
 use lib.ListN.{length-set}

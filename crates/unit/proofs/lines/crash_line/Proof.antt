@@ -1,4 +1,4 @@
--- `unit::lines::crash_line` meets its contract. The answer of the site's line, lent.
+-- The answer of the site's line, lent.
 use Rattle.unit.proofs.Lending.{refused}
 use Rattle.unit.proofs.LineSteps.{lined}
 use borrow.Author.Needs.{needs}

@@ -1,4 +1,4 @@
--- `unit::sites::code_of` meets its contract. An absent slot is 65,536.
+-- An absent slot is 65,536.
 use mathlib.Core.Path.{ap, sym}
 use Rattle.unit.specs.SiteNumbers.{code}
 use borrow.Author.Needs.{needs}

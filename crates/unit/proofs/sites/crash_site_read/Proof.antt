@@ -1,4 +1,4 @@
--- `unit::sites::crash_site_read` meets its contract. The reader's answer, told by its number and its values.
+-- The reader's answer, told by its number and its values.
 use Rattle.unit.proofs.Lending.{refused, no-space, lent}
 use borrow.Author.Needs.{needs}
 use Rattle.unit.proofs.sites.crash_site_read.Statement.{statement}

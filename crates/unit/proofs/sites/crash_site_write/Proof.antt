@@ -1,4 +1,4 @@
--- `unit::sites::crash_site_write` meets its contract. The writer's answer, told by its number and its length.
+-- The writer's answer, told by its number and its length.
 use Rattle.unit.proofs.NumberSteps.{written-numbers}
 use borrow.Author.Needs.{needs}
 use Rattle.unit.proofs.sites.crash_site_write.Statement.{statement}

@@ -1,4 +1,4 @@
--- `unit::sites::put_site` meets its contract. Kind, codes and length are the values of the answer.
+-- Kind, codes and length are the values of the answer.
 use denote.Ref.{now}
 use native.Mathlib.Omega.{arith}
 use mathlib.Core.Path.{_∙_}

@@ -1,4 +1,4 @@
--- `unit::sites::put_slots` meets its contract. The loop's invariant: with the codes from i on stored, the run is as it is to be.
+-- The loop's invariant: with the codes from i on stored, the run is as it is to be.
 use borrow.Author.Needs.{needs}
 use native.Mathlib.Omega.{arith}
 use mathlib.Core.Path.{_≡_}

@@ -1,4 +1,4 @@
--- `unit::sites::site_from` meets its contract. The kind and the slots that a run of numbers starts with.
+-- The kind and the slots that a run of numbers starts with.
 use mathlib.Core.Path.{_∙_}
 use denote.Ref.{now}
 use Rattle.unit.proofs.NumberSteps.{few-numbers, enough-numbers}

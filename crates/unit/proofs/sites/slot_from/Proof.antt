@@ -1,4 +1,4 @@
--- `unit::sites::slot_from` meets its contract. A code below 65,536 is a number, 65,536 is absent.
+-- A code below 65,536 is a number, 65,536 is absent.
 use borrow.Author.Tests.{lt-ltb, le-ltb, eq-eqb, ne-eqb}
 use borrow.Author.Needs.{needs}
 use Rattle.unit.proofs.sites.slot_from.Statement.{statement}

@@ -1,4 +1,4 @@
--- `unit::sites::slots_from` meets its contract. The loop's invariant: with the slots from i on filled in, the list is all the slots.
+-- The loop's invariant: with the slots from i on filled in, the list is all the slots.
 use borrow.Author.Needs.{needs}
 use native.Mathlib.Omega.{arith}
 use mathlib.Core.Path.{_≡_, refl}

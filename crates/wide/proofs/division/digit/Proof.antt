@@ -1,4 +1,4 @@
--- `wide::division::digit` meets its contract. The invariant: q and r divide rest by d's upper digit, and q is not too small.
+-- The invariant: q and r divide rest by d's upper digit, and q is not too small.
 use mathlib.Core.Path.{_≡_}
 use mathlib.Core.Logic.{⊎-elim}
 use Prim.Native.Nat.{_+_, _*_, _/_, _%_, _^_, _<_}

@@ -1,4 +1,4 @@
--- `wide::division::divide` meets its contract: two digit steps on the number and the divisor, both scaled by `norm`.
+-- Two digit steps on the number and the divisor, both scaled by `norm`.
 use borrow.Author.Needs.{needs}
 use Prim.Native.Nat.{_+_, _*_, _^_, _<_}
 use native.Mathlib.Nat.{lt-trans, lt-of-le-of-lt, le-of-lt, mul-le-mul-right}

@@ -1,4 +1,4 @@
--- `wide::division::divide_by` meets its contract: number and divisor without the divisor's twos.
+-- Number and divisor without the divisor's twos.
 use borrow.Author.Needs.{needs}
 use Prim.Native.Nat.{ℕ, zero, _+_, _*_, _/_, _^_, _<_}
 use mathlib.Core.Path.{_≡_, ap, sym, _∙_}

@@ -1,4 +1,4 @@
--- `wide::division::norm` meets its contract: with k its highest set bit, d's leading zeros make 63 with k.
+-- With k its highest set bit, d's leading zeros make 63 with k.
 use mathlib.Core.Path.{_≡_, _∙_, ap}
 use Prim.Native.Nat.{ℕ, suc, _+_, _*_, _%_, _^_, _≤_, _<_}
 use native.Mathlib.Nat.{mul-le-mul-right, mul-lt-mul-of-pos-right, one-mul, mod-eq-of-lt}

@@ -1,4 +1,4 @@
--- `wide::division::shift` meets its contract: the low word takes in the bits that the high one loses.
+-- The low word takes in the bits that the high one loses.
 use borrow.Author.Needs.{needs}
 use Prim.Native.Nat.{ℕ, _+_, _-_, _*_, _^_, _<_}
 use mathlib.Core.Path.{_≡_, refl, ap, sym, _∙_}

@@ -1,4 +1,4 @@
--- `wide::division::short` meets its contract: the number's high digits by d, then its last.
+-- The number's high digits by d, then its last.
 use borrow.Author.Needs.{needs}
 use Prim.Native.Nat.{ℕ, _+_, _*_, _/_, _%_, _^_, _<_}
 use mathlib.Core.Path.{_≡_, ap, _∙_}

@@ -1,4 +1,4 @@
--- `wide::division::twos` meets its contract: what its trailing zeros stand for divides a number.
+-- What its trailing zeros stand for divides a number.
 use Prim.Native.Nat.{ℕ, zero, suc, _*_, _/_, _%_, _^_, _≤_, _<_}
 use mathlib.Core.Path.{_≡_, ap, sym, refl, _∙_}
 use native.Mathlib.Nat.{div-one, mul-one, div-div-eq-div-mul, mul-left-comm, div-eq-of-lt, pow-succ'}

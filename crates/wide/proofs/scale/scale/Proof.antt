@@ -1,4 +1,4 @@
--- `wide::scale::scale` meets its contract: a factor of 1, or the product and what comes to it by d.
+-- A factor of 1, or the product and what comes to it by d.
 use borrow.Author.Needs.{needs}
 use native.Mathlib.Omega.{arith}
 use mathlib.Core.Path.{_≡_, ap, _∙_}

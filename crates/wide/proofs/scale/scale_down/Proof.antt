@@ -1,4 +1,3 @@
--- `wide::scale::scale_down` meets its contract.
 use borrow.Author.Needs.{needs}
 use native.Mathlib.Nat.{add-zero}
 use Rattle.wide.proofs.scale.scale_down.Statement.{statement}

@@ -1,4 +1,3 @@
--- `wide::scale::scale_up` meets its contract.
 use borrow.Author.Needs.{needs}
 use Rattle.wide.proofs.scale.scale_up.Statement.{statement}
 use Rattle.wide.proofs.scale.scale_up.Tie as tie
