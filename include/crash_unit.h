@@ -60,9 +60,9 @@ uint64_t crash_project(const uint8_t *file, size_t file_len, uint64_t *report, s
  * fields: traffic, length, minor traffic, observed, lane width, shoulder width, shoulder type, curve length, radius, spiral
  * ends, deficiency, grade, driveways, two-way lane, passing, hazard rating, skew, left lanes, right lanes, limited sight. A
  * field that holds no number is CRASH_ABSENT: an absent history, the four fields of a curve on a straight road, and the fields
- * of other kinds. Any other field holds its number, its default too. A call that takes a site reads the first CRASH_SITE_NUMBERS numbers of values and
- * nothing of what follows, so that the CRASH_READ_NUMBERS numbers that crash_site_read leaves are handed on as they are; fewer
- * numbers are a site outside its range. */
+ * of other kinds. Any other field holds its number, its default too. A call that takes a site reads the first
+ * CRASH_SITE_NUMBERS numbers of values and nothing of what follows, so that the CRASH_READ_NUMBERS numbers that
+ * crash_site_read leaves are handed on as they are; fewer numbers are a site outside its range. */
 #define CRASH_ABSENT 65536
 
 /* Reads the record that part starts with.
@@ -74,6 +74,17 @@ uint64_t crash_site_read(const uint8_t *part, size_t part_len, uint64_t *values,
  * CRASH_OK: *written is the record's length. CRASH_OUTSIDE_RANGE: the site is outside its range. CRASH_TOO_SHORT, tried after
  * that: buffer is too short. On any refusal *written is as it was. */
 uint64_t crash_site_write(const uint64_t *values, size_t values_len, uint8_t *buffer, size_t buffer_len, uint64_t *written);
+
+/* Writes the whole project file of a list of sites from the start of buffer; the rest of buffer is as it was. sites has the
+ * CRASH_SITE_NUMBERS numbers of each site in turn, without the record's length that crash_site_read leaves after them, and the
+ * file has the sites in this order. Their count is sites_len / CRASH_SITE_NUMBERS, rounded up: fewer numbers left at the end
+ * are a site outside its range. Calibrations are in thousandths.
+ * CRASH_OK: *value is the file's length in bytes; crash_project accepts the file.
+ * CRASH_OUTSIDE_LIMITS, tried first: years (1 to 10), a calibration (1 to 9,999) or the count of sites (0 to CRASH_MOST_SITES)
+ * is outside its limits; *value is 0. CRASH_OUTSIDE_RANGE, tried next: *value is the index, from 0, of the first site that is
+ * outside its range. CRASH_TOO_SHORT, tried last: buffer is shorter than the file; *value is 0. */
+uint64_t crash_project_write(uint64_t years, uint64_t segment_calibration, uint64_t crossing_calibration, const uint64_t *sites,
+                             size_t sites_len, uint8_t *buffer, size_t buffer_len, uint64_t *value);
 
 /* The four numbers of one site, in line[0] to line[3]; the rest of line is as it was. Calibrations are in thousandths.
  * CRASH_OUTSIDE_LIMITS, tried first: years (1 to 10) or a calibration (1 to 9,999) is outside its limits.

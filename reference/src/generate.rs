@@ -1,10 +1,11 @@
-//! Seeded projects, plain and extreme, and damaged files made from them.
+//! Seeded projects, plain and extreme, and damaged sites and files made from
+//! them.
 
 use crate::project::{encode_header, write_project, Header, Project};
 use crate::record::{encode_record, write_site, Site, RECORD_HEAD};
 use crate::rules::{
     rules, Field, Presence, Rule, EDITION, FIELD_NAMES, KIND_NAMES, MOST_CALIBRATION, MOST_SITES,
-    MOST_YEARS,
+    MOST_YEARS, SEGMENT,
 };
 
 /// A small generator of numbers (splitmix64): the same seed, the same run.
@@ -68,8 +69,13 @@ fn value(random: &mut Random, rule: &Rule) -> u16 {
 /// A site that the writer accepts.
 pub fn site(random: &mut Random) -> Site {
     let kind = random.below(KIND_NAMES.len()) as u8;
-    let mut site = Site::empty(kind);
     let curve = random.once_in(2);
+    site_of(random, kind, curve)
+}
+
+/// A site of a kind, on a curve or straight.
+fn site_of(random: &mut Random, kind: u8, curve: bool) -> Site {
+    let mut site = Site::empty(kind);
     let history = random.once_in(2);
     // Some sites are plain, some have every field, most are mixed.
     let share = random.pick(&[1, 2, 2, 3, 1_000]);
@@ -107,6 +113,85 @@ pub fn disturbed_site(random: &mut Random) -> Site {
         site.kind = random.next() as u8;
     }
     site
+}
+
+/// The ways in which the writer finds one thing of a site outside its range.
+#[derive(Clone, Copy, Debug, PartialEq, Eq)]
+pub enum Damage {
+    Kind,
+    /// A value outside its field's range.
+    Value,
+    /// A field of the kind without its value.
+    Missing,
+    HalfCurve,
+    /// A spiral or a deficiency on a straight road.
+    PartOfCurve,
+    /// A value that the kind lacks.
+    Foreign,
+}
+
+pub const DAMAGES: [Damage; 6] = [
+    Damage::Kind,
+    Damage::Value,
+    Damage::Missing,
+    Damage::HalfCurve,
+    Damage::PartOfCurve,
+    Damage::Foreign,
+];
+
+/// Kinds that there are not.
+const NO_KINDS: [u8; 5] = [4, 5, 6, 128, 255];
+
+/// A site that the writer refuses for this damage alone.
+pub fn damaged_site(random: &mut Random, damage: Damage) -> Site {
+    let mut site = match damage {
+        Damage::HalfCurve => site_of(random, SEGMENT, true),
+        Damage::PartOfCurve => site_of(random, SEGMENT, false),
+        _ => site(random),
+    };
+    damage_site(random, &mut site, damage);
+    site
+}
+
+fn damage_site(random: &mut Random, site: &mut Site, damage: Damage) {
+    let table = rules(site.kind).unwrap_or(&[]);
+    let curve = site.is_curve();
+    let is_asked = |rule: &Rule| curve || !rule.is_of_curve();
+    let may_lack = |rule: &Rule| matches!(rule.presence, Presence::History | Presence::Curve);
+    let is_part = |rule: &Rule| matches!(rule.presence, Presence::CurveDefault(_));
+    match damage {
+        Damage::Kind => site.kind = random.pick(&NO_KINDS),
+        Damage::Value => {
+            let rule = pick_rule(random, table, is_asked);
+            site.set(rule.field, Some(outside(random, &rule)));
+        }
+        Damage::Missing => {
+            let rule = pick_rule(random, table, |rule| is_asked(rule) && !may_lack(rule));
+            site.set(rule.field, None);
+        }
+        Damage::HalfCurve => site.set(random.pick(&[Field::CurveLength, Field::Radius]), None),
+        Damage::PartOfCurve => {
+            let rule = pick_rule(random, table, is_part);
+            site.set(rule.field, Some(value(random, &rule)));
+        }
+        Damage::Foreign => {
+            let field = foreign_field(random, table);
+            site.set(field, Some(random.between(0, 20)));
+        }
+    }
+}
+
+/// One of the rules that a test chooses, of which there are some.
+fn pick_rule(random: &mut Random, table: &[Rule], is_chosen: impl Fn(&Rule) -> bool) -> Rule {
+    let chosen: Vec<Rule> = table.iter().copied().filter(is_chosen).collect();
+    random.pick(&chosen)
+}
+
+/// A field that a kind's rules lack.
+fn foreign_field(random: &mut Random, table: &[Rule]) -> Field {
+    let is_foreign = |field: &Field| table.iter().all(|rule| rule.field != *field);
+    let fields = FIELD_NAMES.iter().map(|(field, _)| *field);
+    random.pick(&fields.filter(is_foreign).collect::<Vec<_>>())
 }
 
 /// A header within the limits, often at an edge.
@@ -221,7 +306,7 @@ fn damage_record(random: &mut Random, record: &[u8]) -> Vec<u8> {
     let rules = rules(raw.kind).unwrap_or(&[]);
     let rule = random.pick(rules);
     match random.below(8) {
-        0 => raw.kind = random.pick(&[4, 5, 6, 128, 255]),
+        0 => raw.kind = random.pick(&NO_KINDS),
         1 => raw.kind = random.below(4) as u8,
         2 => {
             let drawn = random.next() as u16;

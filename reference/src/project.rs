@@ -1,5 +1,5 @@
 //! The project file: header and records, with document 01's refusals in
-//! their order.
+//! their order, and those of document 02's writer.
 
 use crate::record::{cause, read_site, write_site, Refusal, Site};
 use crate::rules::{EDITION, MOST_CALIBRATION, MOST_SITES, MOST_YEARS};
@@ -18,6 +18,18 @@ pub struct Header {
     /// Calibrations in thousandths.
     pub segment_calibration: u16,
     pub crossing_calibration: u16,
+}
+
+impl Header {
+    /// Years, segment calibration and crossing calibration, as a writer takes
+    /// them.
+    pub fn numbers(&self) -> [u64; 3] {
+        [
+            self.years.into(),
+            self.segment_calibration.into(),
+            self.crossing_calibration.into(),
+        ]
+    }
 }
 
 #[derive(Clone, Debug, PartialEq, Eq)]
@@ -107,23 +119,44 @@ pub fn encode_header(header: &Header, sites: u16) -> Vec<u8> {
     file
 }
 
-/// Writes a project file. A header outside the limits is 3 or 4 at place 0; a
-/// site that the site writer refuses is 8 at its index.
-pub fn write_project(project: &Project) -> Result<Vec<u8>, Refusal> {
-    let header = &project.header;
-    if header.edition != EDITION {
-        return refuse(cause::EDITION, 0);
-    }
-    if !limits_kept(header, project.sites.len()) {
+/// The header of these numbers, where it and so many sites keep the limits.
+fn header_within(numbers: [u64; 3], sites: usize) -> Option<Header> {
+    let [years, segments, crossings] = numbers;
+    let header = Header {
+        edition: EDITION,
+        years: years.try_into().ok()?,
+        segment_calibration: segments.try_into().ok()?,
+        crossing_calibration: crossings.try_into().ok()?,
+    };
+    limits_kept(&header, sites).then_some(header)
+}
+
+/// Writes the file of a header's numbers and a list of sites, for a buffer of
+/// `room` bytes: 4 at place 0 for the header and the count of sites, then 8 at
+/// the index of the first site that the site writer refuses, then 10 at 0.
+pub fn write_file(header: [u64; 3], sites: &[Site], room: usize) -> Result<Vec<u8>, Refusal> {
+    let Some(header) = header_within(header, sites.len()) else {
         return refuse(cause::HEADER_LIMITS, 0);
-    }
-    let mut file = encode_header(header, project.sites.len() as u16);
-    for (index, site) in project.sites.iter().enumerate() {
+    };
+    let mut file = encode_header(&header, sites.len() as u16);
+    for (index, site) in sites.iter().enumerate() {
         let record = write_site(site, usize::MAX).map_err(|number| Refusal {
             number,
             place: index,
         })?;
         file.extend(record);
     }
+    if room < file.len() {
+        return refuse(cause::TOO_SHORT, 0);
+    }
     Ok(file)
+}
+
+/// Writes a project's file with the room that it needs; an edition that is not
+/// 1 is 3 at place 0, tried first.
+pub fn write_project(project: &Project) -> Result<Vec<u8>, Refusal> {
+    if project.header.edition != EDITION {
+        return refuse(cause::EDITION, 0);
+    }
+    write_file(project.header.numbers(), &project.sites, usize::MAX)
 }

@@ -1,11 +1,12 @@
 -- The header of a project file: its values, their limits, and its refusals.
 use Prim.Native.Nat.{ℕ}
 use mathlib.Core.Bool.{Bool, cond, _&&_}
-use mathlib.Core.List.{List}
+use mathlib.Core.List.{List, _∷_, _++_}
 use lib.ListN.{length, getD, drop}
 use lib.Dec.{ltb, leb, eqb}
 use Rattle.site.specs.Rules.{inside}
 use Rattle.site.specs.Record.{word}
+use Rattle.site.specs.Writing.{twoBytes}
 use Rattle.header.specs.declared.Header.{Header}
 
 -- "Byte 0: edition, 1. Byte 1: years Y .. Bytes 2-3: segment calibration .. Bytes 4-5: the same for crossings. Bytes 6-7: sites"
@@ -45,10 +46,18 @@ mostSites = 1900
 unfoldable pub inLimits : Header → Bool
 inLimits header = inside 1 mostYears (header .years) && (inside 1 mostCalibration (header .segments) && inside 1 mostCalibration (header .crossings))
 
+-- and the count of sites
+abbrev pub admits : Header → (sites : ℕ) → Bool
+admits header sites = inLimits header && leb sites mostSites
+
+-- what is written of a header's values and the count of sites
+abbrev pub headerBytes : Header → (sites : ℕ) → List ℕ
+headerBytes header sites = firstEdition ∷ header .years ∷ (twoBytes (header .segments) ++ twoBytes (header .crossings) ++ twoBytes sites)
+
 -- "header 1, 3, 4": the first refusal of the header, or 0
 unfoldable pub headerNumber : List ℕ → ℕ
 headerNumber s =
     cond (ltb (length s) headerLength) 1
     (cond (eqb (editionIn s) firstEdition)
-    (cond (inLimits (headerIn s) && leb (countIn s) mostSites) 0 4)
+    (cond (admits (headerIn s) (countIn s)) 0 4)
     3)

@@ -6,11 +6,12 @@ use Prim.Native.Nat.{ℕ, _≤_}
 use native.Mathlib.Omega.{arith}
 use lib.ListN.{length}
 use lib.Dec.{ltb, leb, eqb}
-use borrow.Author.Tests.{ltb-true, ltb-false, lt-ltb, le-ltb, eqb-true, eqb-false, eq-eqb, ne-eqb, leb-true, leb-false, le-leb}
-use Rattle.laws.specs.Truth.{and-left, and-right, passed}
+use borrow.Author.Tests.{ltb-true, ltb-false, lt-ltb, le-ltb, eqb-true, eqb-false, eq-eqb, ne-eqb, leb-true, le-leb}
+use Rattle.laws.specs.Truth.{and-left, and-right, passed, never-so}
 use Rattle.site.specs.Rules.{inside}
 use Rattle.header.specs.declared.Header.{Header}
-use Rattle.header.specs.Header.{headerLength, editionIn, headerIn, countIn, firstEdition, mostYears, mostCalibration, mostSites, inLimits, headerNumber}
+use Rattle.header.specs.Header.{headerLength, editionIn, headerIn, countIn, firstEdition, mostYears, mostCalibration, mostSites}
+use Rattle.header.specs.Header.{inLimits, admits, headerNumber}
 use Rattle.header.specs.Causes.{HeaderCause, header-cut, header-edition, header-limits, HeaderAccepted}
 
 -- THE LIMITS of a header's values
@@ -47,42 +48,50 @@ limits-of header e =
     most : (high n : ℕ) → inside 1 high n ≡ true → n ≤ high
     most high n e = leb-true n high (and-right (leb 1 n) (leb n high) e)
 
+-- and of the count with them
+pub record Admitted (header : Header) (sites : ℕ) : Type 0 where
+  pub limits : inLimits header ≡ true
+  pub within : HeaderWithin header
+  pub few : sites ≤ mostSites
+
+module _ (header : Header) (sites : ℕ) where
+  pub admitted : admits header sites ≡ true → Admitted header sites
+  admitted e =
+      let limits-in = and-left (inLimits header) (leb sites mostSites) e in
+      record {
+        limits = limits-in;
+        within = limits-of header limits-in;
+        few = leb-true sites mostSites (and-right (inLimits header) (leb sites mostSites) e);
+      }
+
+  pub admits-both : (inLimits header ≡ true) × (sites ≤ mostSites) → admits header sites ≡ true
+  admits-both h = rw (h .0, le-leb sites mostSites (h .1))
+
 module _ (s : List ℕ) where
   -- A NUMBER by the causes
-  by-tests : (short known limits few : Bool) → ltb (length s) headerLength ≡ short → eqb (editionIn s) firstEdition ≡ known
-      → inLimits (headerIn s) ≡ limits → leb (countIn s) mostSites ≡ few
-      → (headerNumber s ≡ 0 → ⊥) → HeaderCause s (headerNumber s)
+  by-tests : (short known admit : Bool) → ltb (length s) headerLength ≡ short → eqb (editionIn s) firstEdition ≡ known
+      → admits (headerIn s) (countIn s) ≡ admit → (headerNumber s ≡ 0 → ⊥) → HeaderCause s (headerNumber s)
   unfolding headerNumber
-  by-tests true known limits few a b c d ne = rw a (header-cut (ltb-true (length s) headerLength a))
-  by-tests false false limits few a b c d ne =
+  by-tests true known admit a b c ne = rw a (header-cut (ltb-true (length s) headerLength a))
+  by-tests false false admit a b c ne =
       let l = ltb-false (length s) headerLength a in
       rw (a, b) (header-edition l (record { place-is = refl; there = omega arith; other = eqb-false (editionIn s) firstEdition b }))
-  by-tests false true false few a b c d ne =
+  by-tests false true false a b c ne =
+      let l = ltb-false (length s) headerLength a in
       rw (a, b, c) (header-limits (eqb-true (editionIn s) firstEdition b)
-      (record { place-is = refl; there = ltb-false (length s) headerLength a; outside = λ h. true≢false (sym (h .0) ∙ c) }))
-  by-tests false true true false a b c d ne =
-      let w = leb-false (countIn s) mostSites d in
-      rw (a, b, c, d) (header-limits (eqb-true (editionIn s) firstEdition b)
-      (record { place-is = refl; there = ltb-false (length s) headerLength a; outside = λ h. let q = h .1 in omega arith }))
-  by-tests false true true true a b c d ne = absurd (ne (rw (a, b, c, d)))
+      (record { place-is = refl; there = l; outside = λ h. true≢false (sym (admits-both (headerIn s) (countIn s) h) ∙ c) }))
+  by-tests false true true a b c ne = absurd (ne (rw (a, b, c)))
 
   pub header-cause : (headerNumber s ≡ 0 → ⊥) → HeaderCause s (headerNumber s)
-  header-cause =
-      by-tests (ltb (length s) headerLength) (eqb (editionIn s) firstEdition) (inLimits (headerIn s)) (leb (countIn s) mostSites) refl refl refl refl
-
-  limits-by : (limits few : Bool) → inLimits (headerIn s) ≡ limits → leb (countIn s) mostSites ≡ few
-      → ((inLimits (headerIn s) ≡ true) × (countIn s ≤ mostSites) → ⊥) → _≡_ {A = ℕ} (cond (limits && few) 0 4) 4
-  limits-by true true a b out = absurd (out (a, leb-true (countIn s) mostSites b))
-  limits-by true false a b out = refl
-  limits-by false few a b out = refl
+  header-cause = by-tests (ltb (length s) headerLength) (eqb (editionIn s) firstEdition) (admits (headerIn s) (countIn s)) refl refl refl
 
   pub cause-header : {number : ℕ} → HeaderCause s number → headerNumber s ≡ number
   unfolding headerNumber
   cause-header (header-cut h) = rw (lt-ltb (length s) headerLength h)
   cause-header (header-edition l h) = rw (le-ltb (length s) headerLength l, ne-eqb (editionIn s) firstEdition (h .other))
   cause-header (header-limits e h) =
-      rw (le-ltb (length s) headerLength (h .there), eq-eqb (editionIn s) firstEdition e)
-      (limits-by (inLimits (headerIn s)) (leb (countIn s) mostSites) refl refl (h .outside))
+      let refused = never-so (admits (headerIn s) (countIn s)) (λ t. let a = admitted (headerIn s) (countIn s) t in h .outside (a .limits, a .few)) in
+      rw (le-ltb (length s) headerLength (h .there), eq-eqb (editionIn s) firstEdition e, refused)
 
   pub header-not-zero : {number : ℕ} → HeaderCause s number → number ≡ 0 → ⊥
   header-not-zero (header-cut h) e = omega arith
@@ -93,25 +102,18 @@ module _ (s : List ℕ) where
   pub header-accepted : headerNumber s ≡ 0 → HeaderAccepted s
   unfolding headerNumber
   header-accepted e =
-      by (eqb (editionIn s) firstEdition) (inLimits (headerIn s) && leb (countIn s) mostSites) refl refl (passed (ltb (length s) headerLength) 0 _ e)
+      by (eqb (editionIn s) firstEdition) (admits (headerIn s) (countIn s)) refl refl (passed (ltb (length s) headerLength) 0 _ e)
     where
-      by : (a b : Bool) → eqb (editionIn s) firstEdition ≡ a → (inLimits (headerIn s) && leb (countIn s) mostSites) ≡ b
+      by : (a b : Bool) → eqb (editionIn s) firstEdition ≡ a → admits (headerIn s) (countIn s) ≡ b
           → (ltb (length s) headerLength ≡ false) × (_≡_ {A = ℕ} (cond a (cond b 0 4) 3) 0) → HeaderAccepted s
       by true true p q h =
-          record {
-            long = ltb-false (length s) headerLength (h .0);
-            edition = eqb-true (editionIn s) firstEdition p;
-            limits = and-left (inLimits (headerIn s)) (leb (countIn s) mostSites) q;
-            few = leb-true (countIn s) mostSites (and-right (inLimits (headerIn s)) (leb (countIn s) mostSites) q);
-          }
+          let a = admitted (headerIn s) (countIn s) q in
+          record { long = ltb-false (length s) headerLength (h .0); edition = eqb-true (editionIn s) firstEdition p; limits = a .limits; few = a .few }
       by true false p q h = let z : ⊥ = omega arith in absurd z
       by false b p q h = let z : ⊥ = omega arith in absurd z
 
   pub accepted-header : HeaderAccepted s → headerNumber s ≡ 0
   unfolding headerNumber
-  accepted-header h = rw (
-    le-ltb (length s) headerLength (h .long),
-    eq-eqb (editionIn s) firstEdition (h .edition),
-    h .limits,
-    le-leb (countIn s) mostSites (h .few),
-  )
+  accepted-header h =
+      let both = admits-both (headerIn s) (countIn s) (h .limits, h .few) in
+      rw (le-ltb (length s) headerLength (h .long), eq-eqb (editionIn s) firstEdition (h .edition), both)

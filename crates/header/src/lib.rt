@@ -1,9 +1,12 @@
 // The header of a project file: what it says of every site, the count of sites, their limits, and the first cause to refuse it.
 ghost use mathlib.Core.Path.{_≡_};
 ghost use Prim.Native.Nat.{_≤_};
+ghost use mathlib.Core.Bool.{true};
 ghost use lib.ListN.{length};
+ghost use lib.Seq.{sets};
 ghost use Rattle.site.specs.Rules.{inside};
-ghost use Rattle.header.specs.Header.{headerLength, headerIn, countIn, inLimits, headerNumber};
+ghost use Rattle.header.specs.Header.{headerLength, headerIn, countIn, inLimits, admits, headerBytes, headerNumber};
+use site::words::put_word;
 use site::words::word_at;
 
 // What holds for every site: the years, and the calibrations in thousandths.
@@ -73,6 +76,28 @@ pub fn is_in_limits(header: Header) -> bool
     is_up_to(MOST_CALIBRATION, header.crossings)
 }
 
+// Whether the count of sites is too.
+pub fn does_admit(header: Header, sites: usize) -> bool
+    ensures { λ r. ⌜ r ≡ admits header sites ⌝ }
+{
+    if !is_in_limits(header) {
+        return false;
+    }
+    sites <= MOST_SITES
+}
+
+// Writes a header within its limits at the start of a buffer that has space for it.
+pub fn put_header(header: Header, sites: usize, buffer: &mut [u8])
+    requires { ⌜ (admits header sites ≡ true) × (headerLength ≤ length (now buffer)) ⌝ }
+    ensures { λ r. ⌜ now (buffer .exit) ≡ sets (now (buffer .entry)) 0 (headerBytes header sites) ⌝ }
+{
+    buffer[0] = EDITION;
+    buffer[1] = header.years as u8;
+    put_word(header.segments as u16, buffer, 2);
+    put_word(header.crossings as u16, buffer, 4);
+    put_word(sites as u16, buffer, 6);
+}
+
 // The header's refusal, 1, 3 or 4, or 0.
 pub fn header_number(file: &[u8]) -> u8
     ensures { λ r. ⌜ r ≡ headerNumber (now (file .entry)) ⌝ }
@@ -83,8 +108,8 @@ pub fn header_number(file: &[u8]) -> u8
     if file[0] != EDITION {
         return 3;
     }
-    if !is_in_limits(header_in(file)) {
+    if !does_admit(header_in(file), count_in(file)) {
         return 4;
     }
-    if count_in(file) <= MOST_SITES { 0 } else { 4 }
+    0
 }

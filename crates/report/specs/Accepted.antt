@@ -3,9 +3,9 @@ use Prim.Native.Nat.{ℕ, _*_, _≤_}
 use mathlib.Core.Path.{_≡_, refl, sym, ap, _∙_}
 use mathlib.Core.List.{List, [], _∷_, _++_, List·Memᴰ, List·Memᴰ·head, List·Memᴰ·tail, append-assoc}
 use lib.ListN.{length, drop, length-append}
-use lib.Seq.{sets, sets-eq}
-use native.Mathlib.Nat.{zero-add}
+use lib.Seq.{sets}
 use native.Mathlib.Omega.{arith}
+use Rattle.laws.specs.Stores.{sets-laid}
 use Rattle.site.specs.declared.values.Site.{Site}
 use Rattle.site.specs.Writing.{Valid}
 use Rattle.header.specs.declared.Header.{Header}
@@ -53,7 +53,7 @@ module _ (s : List ℕ) (n : ℕ) (accepted : scanFile s ≡ Accepted n) where
 
   report-fits : (before : List ℕ) → reportLength n ≤ length before
       → sets before 0 (reportNumbers (linesIn s)) ≡ reportNumbers (linesIn s) ++ drop (length (reportNumbers (linesIn s))) before
-  report-fits before h = sets-eq (reportNumbers (linesIn s)) before 0 (omega (arith, length-report (linesIn s), count-lines)) ∙ rw zero-add refl
+  report-fits before h = sets-laid (reportNumbers (linesIn s)) before (omega (arith, length-report (linesIn s), count-lines))
 
   -- THE DEMAND
   pub demand-met : (rest : List ℕ) → Demand s (reportNumbers (linesIn s) ++ rest)

@@ -49,7 +49,7 @@ map-small rules slots i h = by (bitCount (drop i rules)) (map-below (drop i rule
     by : (n : ℕ) → mapOf (drop i rules) (drop i slots) < 2 ^ n → n ≤ 15 → mapOf (drop i rules) (drop i slots) < 32768
     by n l k = let two : 0 < 2 = omega arith in lt-of-lt-of-le l (pow-le-pow-right two k)
 
-bytes-cons : (x : ℕ) (s : List ℕ) → x < 256 → Bytes s → (i : ℕ) → getD (x ∷ s) i 0 < 256
+pub bytes-cons : (x : ℕ) (s : List ℕ) → x < 256 → Bytes s → (i : ℕ) → getD (x ∷ s) i 0 < 256
 bytes-cons x s h bytes zero = h
 bytes-cons x s h bytes (suc i) = bytes i
 
@@ -61,7 +61,7 @@ bytes-append (x ∷ s) t bytes later (suc i) = bytes-append s t (λ j. bytes (su
 pub bytes-nil : Bytes []
 bytes-nil i = omega arith
 
-two-bytes-of : (value : ℕ) → value < 65536 → Bytes (value / 256 ∷ value % 256 ∷ [])
+pub two-bytes-of : (value : ℕ) → value < 65536 → Bytes (value / 256 ∷ value % 256 ∷ [])
 two-bytes-of value h = bytes-cons (value / 256) (value % 256 ∷ []) (omega arith) (bytes-cons (value % 256) [] (omega arith) bytes-nil)
 
 field-bytes : (rule : Rule) (slot : Slot) → fits rule slot ≡ true → top rule < 65535 → Bytes (fieldBytes rule slot)

@@ -3,7 +3,7 @@
 -- on an answer.
 use mathlib.Core.Path.{_≡_, refl, ap, _∙_}
 use mathlib.Core.Bool.{Bool, true, false, cond, _||_, not, true≢false}
-use mathlib.Core.List.{List, [], _∷_, _++_}
+use mathlib.Core.List.{List, [], _∷_, _++_, append-nil}
 use mathlib.Core.Logic.{_↔_}
 use Prim.Native.Nat.{ℕ, _+_, _/_, _%_, _<_, _≤_}
 use native.Mathlib.Omega.{arith}
@@ -14,12 +14,13 @@ use borrow.Author.Tests.{leb-true, leb-false, le-leb, lt-leb, eqb-true}
 use Rattle.site.specs.declared.rules.Rule.{Rule}
 use Rattle.site.specs.declared.values.Site.{Site}
 use Rattle.site.specs.declared.values.SiteAnswer.the-variants.{Read}
+use Rattle.site.specs.declared.values.Measure.the-variants.{Length, OutsideRange}
 use Rattle.site.specs.declared.values.WriteAnswer.the-variants.{Written, Unwritten}
 use Rattle.site.specs.Rules.{entriesOf, lastKind, bits}
 use Rattle.site.specs.Record.{anyField, misses, curved, rulesRead, restOf, words, kindIn, mapIn, rulesIn, readSite}
-use Rattle.site.specs.Writing.{recordOf, sound, Valid, writeRefusal, writeAnswer, writeInto}
+use Rattle.site.specs.Writing.{recordOf, sound, Valid, measureOf, writeRefusal, writeAnswer, writeInto}
 use Rattle.site.specs.Digits.{Bytes, digit-most}
-use Rattle.laws.specs.Truth.{never-so}
+use Rattle.laws.specs.Truth.{chosen, never-so}
 use Rattle.site.specs.Tested.{bitCount, by-kind, tested-rules}
 use Rattle.site.specs.Accepted.{reading}
 use Rattle.site.specs.WriteRead.{write-read}
@@ -72,6 +73,21 @@ read-length s site n e =
       at-most = omega (arith, r .length-is);
       within = omega (arith, r .length-is, a .full);
     }
+
+-- the length of a valid site's record: it reads back
+pub record-length : (site : Site) → Valid site → RecordLength (recordOf site) (length (recordOf site))
+record-length site v = read-length (recordOf site) site (length (recordOf site)) (rw append-nil at (write-read site [] v))
+
+-- a length is measured of a valid site alone, and is its record's
+pub measured-length : (site : Site) (n : ℕ) → measureOf site ≡ Length n → Valid site × (n ≡ length (recordOf site))
+unfolding measureOf
+measured-length site n e =
+    let w = chosen (sound site) (Length (length (recordOf site))) OutsideRange (Length n) (λ q. let z : _≡_ {A = ℕ} 0 1 = cc in omega arith) e in
+    (record { is-sound = w .0 }, cc)
+
+pub measured-outside : (site : Site) → measureOf site ≡ OutsideRange → sound site ≡ false
+unfolding measureOf
+measured-outside site e = never-so (sound site) (λ q. let l = rw q at e in let z : _≡_ {A = ℕ} 0 1 = cc in omega arith)
 
 -- the writer refuses with 8 the sites that are not valid, and these are the sites that no record reads as
 module _ (site : Site) where

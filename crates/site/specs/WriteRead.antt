@@ -137,11 +137,6 @@ length-bytes (rule ∷ rules) (slot ∷ slots) l =
     )
     (omega (arith, length-append (fieldBytes rule slot) (bytesOf rules slots), length-field rule slot, length-bytes rules slots (omega arith)))
 
-pub length-record : (rules : List Rule) (kind : ℕ) (slots : List Slot) → length slots ≡ length rules
-    → length (recordBy rules kind slots) ≡ 3 + 2 * words rules (mapOf rules slots)
-unfolding recordBy
-length-record rules kind slots l = omega (arith, length-bytes rules slots l)
-
 -- a site without a curve is written with no bit of it
 straight-written : (entries : List Entry) (slots : List Slot) → every entryRight entries ≡ true
     → length slots ≡ length entries → curveHeld entries slots ≡ false

@@ -10,6 +10,8 @@ use Rattle.site.specs.declared.rules.Entry.{Entry}
 use Rattle.site.specs.declared.values.Slot.{Slot}
 use Rattle.site.specs.declared.values.Slot.the-variants.{Absent, Number}
 use Rattle.site.specs.declared.values.Site.{Site}
+use Rattle.site.specs.declared.values.Measure.{Measure}
+use Rattle.site.specs.declared.values.Measure.the-variants.{Length, OutsideRange}
 use Rattle.site.specs.declared.values.WriteAnswer.{WriteAnswer}
 use Rattle.site.specs.Rules.{entriesOf, lastKind, allows, absentOf, needed, bits, onCurve, settle, absent, holds}
 use Rattle.site.specs.Answers.{wroteAnswer}
@@ -69,10 +71,14 @@ mapOf [] slots = 0
 mapOf (rule ∷ rules) [] = 0
 mapOf (rule ∷ rules) (slot ∷ slots) = slotBit rule slot + (1 + bits rule) * mapOf rules slots
 
--- "two bytes for each bit that stands, in rising order"; "high byte first"
+-- "Two-byte numbers are unsigned, high byte first"
+abbrev pub twoBytes : ℕ → List ℕ
+twoBytes value = value / 256 ∷ value % 256 ∷ []
+
+-- "two bytes for each bit that stands, in rising order"
 abbrev pub slotBytes : Slot → List ℕ
 slotBytes Absent = []
-slotBytes (Number value) = value / 256 ∷ value % 256 ∷ []
+slotBytes (Number value) = twoBytes value
 
 abbrev pub fieldBytes : Rule → Slot → List ℕ
 fieldBytes rule slot = cond (eqb (slotBit rule slot) 1) (slotBytes slot) []
@@ -97,6 +103,10 @@ sound site = leb (site .kind) lastKind && allFit (rulesHeld (site .kind) (slotsO
 -- a site that the writer takes, and a record can be read as
 pub record Valid (site : Site) : Type 0 where
   pub is-sound : sound site ≡ true
+
+-- what a site measures: the length of its record
+unfoldable pub measureOf : Site → Measure
+measureOf site = cond (sound site) (Length (length (recordOf site))) OutsideRange
 
 -- "It refuses only with 8, then 10": the writer's number where the buffer has so much room
 unfoldable pub writeRefusal : Site → ℕ → ℕ

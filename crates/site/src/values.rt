@@ -121,6 +121,12 @@ pub enum SiteAnswer {
     Refused(u8),
 }
 
+// What a site's record measures, before any of it is written.
+pub enum Measure {
+    Length(usize),
+    OutsideRange,
+}
+
 // The length of the record that was written, or document 01's number, at place 0.
 pub enum WriteAnswer {
     Written(usize),

@@ -2,8 +2,10 @@
 ghost use mathlib.Core.Path.{_≡_};
 ghost use Prim.Native.Nat.{_+_, _≤_, _<_};
 ghost use lib.ListN.{length, drop};
+ghost use lib.Seq.{sets};
 ghost use Rattle.site.specs.Rules.{slotCount};
 ghost use Rattle.site.specs.Record.{word, bitOf, restOf, fieldWords, words};
+ghost use Rattle.site.specs.Writing.{twoBytes};
 use crate::rules::Rule;
 use crate::rules::SLOTS;
 use crate::rules::bits_of;
@@ -22,6 +24,15 @@ pub fn word_at(s: &[u8], at: usize) -> u16
 {
     let low = at + 1;
     wide(s[at]) * 256 + wide(s[low])
+}
+
+// Writes a two-byte number at a place.
+pub fn put_word(value: u16, buffer: &mut [u8], at: usize)
+    requires { ⌜ at + 2 ≤ length (now buffer) ⌝ }
+    ensures { λ r. ⌜ now (buffer .exit) ≡ sets (now (buffer .entry)) at (twoBytes value) ⌝ }
+{
+    buffer[at] = (value / 256) as u8;
+    buffer[at + 1] = (value % 256) as u8;
 }
 
 // The bit of the next field.

@@ -2,11 +2,10 @@
 use mathlib.Core.Path.{_≡_, refl, ap, sym, _∙_}
 use mathlib.Core.Bool.{false}
 use mathlib.Core.List.{List, [], _∷_, _++_}
-use Prim.Native.Nat.{ℕ, _+_, _*_, _/_, _%_, _<_, _≤_}
+use Prim.Native.Nat.{ℕ, _+_, _*_, _<_, _≤_}
 use native.Mathlib.Nat.{add-zero}
-use native.Mathlib.Numerals.{add-one}
 use native.Mathlib.Omega.{arith}
-use lib.ListN.{length, getD, drop, set, length-append}
+use lib.ListN.{length, getD, drop, length-append}
 use lib.Dec.{eqb}
 use borrow.Author.Tests.{ne-eqb}
 use lib.Seq.{sets}
@@ -14,7 +13,7 @@ use Rattle.site.specs.declared.rules.Rule.{Rule}
 use Rattle.site.specs.declared.values.Slot.{Slot}
 use Rattle.site.specs.declared.values.Slot.the-variants.{Number}
 use Rattle.site.specs.Rules.{slotCount, bits}
-use Rattle.site.specs.Writing.{slotBit, mapOf, slotBytes, fieldBytes, bytesOf}
+use Rattle.site.specs.Writing.{slotBit, mapOf, twoBytes, slotBytes, fieldBytes, bytesOf}
 use Rattle.laws.specs.Walk.{next, at-end}
 use Rattle.laws.specs.Stores.{sets-more}
 
@@ -60,14 +59,16 @@ module _ (rules : List Rule) (slots : List Slot) (i : ℕ) (count : length rules
       ((sets-more buffer at (fieldBytes (getD rules i d) (getD slots i e)) (bytesOf (drop (i + 1) rules) (drop (i + 1) slots)))
       ∙ ap (sets buffer at) (sym (bytes-next d e h)) ∙ inv)
 
-  pub put-end : (buffer whole : List ℕ) (at : ℕ) → slotCount ≤ i
-      → sets buffer at (bytesOf (drop i rules) (drop i slots)) ≡ whole → buffer ≡ whole
+  pub put-end : (buffer whole : List ℕ) (at end : ℕ) → slotCount ≤ i → at + length (bytesOf (drop i rules) (drop i slots)) ≡ end
+      → sets buffer at (bytesOf (drop i rules) (drop i slots)) ≡ whole → (at ≡ end) × (buffer ≡ whole)
   unfolding bytesOf
-  put-end buffer whole at h inv = rw (walk-end bytesOf rules slots i count count′ h) at inv
+  put-end buffer whole at end h place inv =
+      let e = walk-end bytesOf rules slots i count count′ h in
+      (omega (arith, ap length e), rw e at inv)
 
 -- the bytes of one field, as they are written
 pub field-is : (rule : Rule) (slot : Slot) (value b : ℕ) → slot ≡ Number value → b ≡ slotBit rule slot → b ≡ 1
-    → fieldBytes rule slot ≡ value / 256 ∷ value % 256 ∷ []
+    → fieldBytes rule slot ≡ twoBytes value
 field-is rule slot value b ev eb e1 = let e : slotBit rule slot ≡ 1 = sym eb ∙ e1 in rw e (ap slotBytes ev)
 
 pub field-none : (rule : Rule) (slot : Slot) (b : ℕ) → b ≡ slotBit rule slot → (b ≡ 1 → ⊥) → fieldBytes rule slot ≡ []
@@ -78,7 +79,3 @@ field-none rule slot b eb ne =
 pub put-none : (l : List ℕ) (at : ℕ) (rule : Rule) (slot : Slot) → fieldBytes rule slot ≡ []
     → (at ≡ at + length (fieldBytes rule slot)) × (l ≡ sets l at (fieldBytes rule slot))
 put-none l at rule slot e = rw e (sym (add-zero at), refl)
-
-pub put-two : (l : List ℕ) (at : ℕ) (rule : Rule) (slot : Slot) (x y : ℕ) → fieldBytes rule slot ≡ x ∷ y ∷ []
-    → (at + 2 ≡ at + length (fieldBytes rule slot)) × (set (set l at x) (at + 1) y ≡ sets l at (fieldBytes rule slot))
-put-two l at rule slot x y e = rw e (refl, ap (λ (j : ℕ). set (set l at x) j y) (add-one at))

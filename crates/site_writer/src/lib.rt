@@ -3,9 +3,10 @@ ghost use mathlib.Core.Path.{_≡_};
 ghost use Prim.Native.Nat.{_+_, _*_, _≤_, _<_};
 ghost use lib.ListN.{length};
 ghost use lib.Seq.{sets};
-ghost use mathlib.Core.Bool.{_&&_, not};
+ghost use mathlib.Core.Bool.{cond, _&&_, not};
+ghost use Rattle.site.specs.declared.values.Measure.the-variants.{Length, OutsideRange};
 ghost use Rattle.site.specs.Rules.{lastKind, slotCount, bits, onCurve, absent};
-ghost use Rattle.site.specs.Writing.{curveHeld, rulesHeld, fits, allFit, slotBit, mapOf, fieldBytes, bytesOf, sound};
+ghost use Rattle.site.specs.Writing.{curveHeld, rulesHeld, fits, allFit, slotBit, mapOf, fieldBytes, bytesOf, recordBy, recordOf, sound, Valid, measureOf};
 ghost use Rattle.site.specs.Tested.{bitCount};
 ghost use Rattle.site.specs.Promises.{WritesSite};
 use site::rules;
@@ -14,10 +15,11 @@ use site::rules::LAST_KIND;
 use site::rules::Rule;
 use site::rules::SLOTS;
 use site::values;
+use site::values::Measure;
 use site::values::Site;
 use site::values::Slot;
 use site::values::WriteAnswer;
-use site::words::count_words;
+use site::words::put_word;
 
 fn is_held(entry: Entry, slot: Slot) -> bool
     ensures { λ r. ⌜ r ≡ (onCurve entry && not (absent slot)) ⌝ }
@@ -69,32 +71,6 @@ fn does_fit(rule: Rule, slot: Slot) -> bool
     }
 }
 
-fn do_all_fit(rules: [Rule; SLOTS], slots: [Slot; SLOTS]) -> bool
-    requires { ⌜ (length rules ≡ slotCount) × (length slots ≡ slotCount) ⌝ }
-    ensures { λ r. ⌜ r ≡ allFit rules slots ⌝ }
-{
-    let mut i = 0;
-    while i < SLOTS {
-        if !does_fit(rules[i], slots[i]) {
-            return false;
-        }
-        i += 1;
-    }
-    true
-}
-
-// Whether nothing of a site is outside its range.
-pub fn is_sound(site: Site) -> bool
-    ensures { λ r. ⌜ r ≡ sound site ⌝ }
-{
-    let kind = site.kind;
-    if LAST_KIND < kind {
-        return false;
-    }
-    let slots = values::slots_of(site);
-    do_all_fit(rules_held(kind, slots), slots)
-}
-
 // The bit of a slot: 0 where it is absent or its rule's default.
 fn slot_bit(rule: Rule, slot: Slot) -> u16
     ensures { λ r. ⌜ r ≡ slotBit rule slot ⌝ }
@@ -141,8 +117,7 @@ fn put_field(rule: Rule, slot: Slot, buffer: &mut [u8], at: usize) -> usize
         match slot {
             Slot::Absent => at,
             Slot::Number(value) => {
-                buffer[at] = (value / 256) as u8;
-                buffer[at + 1] = (value % 256) as u8;
+                put_word(value, buffer, at);
                 at + 2
             }
         }
@@ -151,10 +126,10 @@ fn put_field(rule: Rule, slot: Slot, buffer: &mut [u8], at: usize) -> usize
     }
 }
 
-// Writes the fields, in rising order, after the kind and the map.
-fn put_fields(rules: [Rule; SLOTS], slots: [Slot; SLOTS], buffer: &mut [u8])
+// Writes the fields, in rising order, after the kind and the map, and answers the place after them.
+fn put_fields(rules: [Rule; SLOTS], slots: [Slot; SLOTS], buffer: &mut [u8]) -> usize
     requires { ⌜ (length rules ≡ slotCount) × (length slots ≡ slotCount) × (3 + length (bytesOf rules slots) ≤ length (now buffer)) ⌝ }
-    ensures { λ r. ⌜ now (buffer .exit) ≡ sets (now (buffer .entry)) 3 (bytesOf rules slots) ⌝ }
+    ensures { λ r. ⌜ (r ≡ 3 + length (bytesOf rules slots)) × (now (buffer .exit) ≡ sets (now (buffer .entry)) 3 (bytesOf rules slots)) ⌝ }
 {
     let mut at = 3;
     let mut i = 0;
@@ -162,6 +137,75 @@ fn put_fields(rules: [Rule; SLOTS], slots: [Slot; SLOTS], buffer: &mut [u8])
         at = put_field(rules[i], slots[i], buffer, at);
         i += 1;
     }
+    at
+}
+
+// How many bytes a slot takes in the record.
+fn field_length(rule: Rule, slot: Slot) -> usize
+    ensures { λ r. ⌜ (r ≡ length (fieldBytes rule slot)) × (r ≤ 2) ⌝ }
+{
+    2 * slot_bit(rule, slot) as usize
+}
+
+// The length of the record, where every slot is within its rule.
+fn measure_slots(rules: [Rule; SLOTS], slots: [Slot; SLOTS]) -> Measure
+    requires { ⌜ (length rules ≡ slotCount) × (length slots ≡ slotCount) ⌝ }
+    ensures { λ r. ⌜ r ≡ cond (allFit rules slots) (Length (3 + length (bytesOf rules slots))) OutsideRange ⌝ }
+{
+    let mut n = 3;
+    let mut i = 0;
+    while i < SLOTS {
+        if !does_fit(rules[i], slots[i]) {
+            return Measure::OutsideRange;
+        }
+        n += field_length(rules[i], slots[i]);
+        i += 1;
+    }
+    Measure::Length(n)
+}
+
+// The length of a site's record, where nothing of it is outside its range.
+pub fn measure_site(site: Site) -> Measure
+    ensures { λ r. ⌜ r ≡ measureOf site ⌝ }
+{
+    let kind = site.kind;
+    if LAST_KIND < kind {
+        return Measure::OutsideRange;
+    }
+    let slots = values::slots_of(site);
+    measure_slots(rules_held(kind, slots), slots)
+}
+
+// Whether nothing of a site is outside its range.
+pub fn is_sound(site: Site) -> bool
+    ensures { λ r. ⌜ r ≡ sound site ⌝ }
+{
+    let measure = measure_site(site);
+    match measure {
+        Measure::OutsideRange => false,
+        Measure::Length(_) => true,
+    }
+}
+
+// Writes the record of slots by their rules from the start of a buffer that has space for it, and answers its length.
+fn put_slots(rules: [Rule; SLOTS], kind: u8, slots: [Slot; SLOTS], buffer: &mut [u8]) -> usize
+    requires { ⌜ (length rules ≡ slotCount) × (length slots ≡ slotCount) × (bitCount rules ≤ 15) × (length (recordBy rules kind slots) ≤ length (now buffer)) ⌝ }
+    ensures { λ r. ⌜ (r ≡ length (recordBy rules kind slots)) × (now (buffer .exit) ≡ sets (now (buffer .entry)) 0 (recordBy rules kind slots)) ⌝ }
+{
+    let map = map_of(rules, slots);
+    buffer[0] = kind;
+    put_word(map, buffer, 1);
+    put_fields(rules, slots, buffer)
+}
+
+// Writes the record of a valid site from the start of a buffer that has space for it, and answers its length.
+pub fn put_record(site: Site, buffer: &mut [u8]) -> usize
+    requires { ⌜ Valid site × (length (recordOf site) ≤ length (now buffer)) ⌝ }
+    ensures { λ r. ⌜ (r ≡ length (recordOf site)) × (now (buffer .exit) ≡ sets (now (buffer .entry)) 0 (recordOf site)) ⌝ }
+{
+    let kind = site.kind;
+    let slots = values::slots_of(site);
+    put_slots(rules_held(kind, slots), kind, slots, buffer)
 }
 
 // Writes the record of a site from the start of the buffer: its length, or document 01's 8 or 10.
@@ -174,17 +218,14 @@ pub fn write_site(site: Site, buffer: &mut [u8]) -> WriteAnswer
     }
     let slots = values::slots_of(site);
     let rules = rules_held(kind, slots);
-    if !do_all_fit(rules, slots) {
-        return WriteAnswer::Unwritten(8);
+    let measure = measure_slots(rules, slots);
+    match measure {
+        Measure::OutsideRange => WriteAnswer::Unwritten(8),
+        Measure::Length(n) => {
+            if buffer.len() < n {
+                return WriteAnswer::Unwritten(10);
+            }
+            WriteAnswer::Written(put_slots(rules, kind, slots, buffer))
+        }
     }
-    let map = map_of(rules, slots);
-    let n = 3 + 2 * count_words(rules, map);
-    if buffer.len() < n {
-        return WriteAnswer::Unwritten(10);
-    }
-    buffer[0] = kind;
-    buffer[1] = (map / 256) as u8;
-    buffer[2] = (map % 256) as u8;
-    put_fields(rules, slots, buffer);
-    WriteAnswer::Written(n)
 }

@@ -1,11 +1,11 @@
 -- What is left in a lent run: nothing of a refusal, nor of values that do not fit, or all of them at its start.
-use Prim.Native.Nat.{ℕ, _+_, _≤_, _<_}
-use mathlib.Core.Path.{_≡_}
+use Prim.Native.Nat.{ℕ, _≤_, _<_}
 use mathlib.Core.List.{List, []}
 use native.Mathlib.Omega.{arith}
 use lib.ListN.{length}
-use lib.Seq.{sets, sets-eq}
+use lib.Seq.{sets}
 use borrow.Author.Tests.{lt-leb, le-leb}
+use Rattle.laws.specs.Stores.{sets-laid}
 use Rattle.unit.specs.Lent.{LendsValues}
 
 module _ (run : List ℕ) (number : ℕ) where
@@ -19,5 +19,4 @@ module _ (run : List ℕ) (number : ℕ) where
     pub lent : length values ≤ length run → LendsValues number values run (sets run 0 values) number
     lent h =
         let l = le-leb (length values) (length run) h in
-        let z : 0 + length values ≡ length values = omega arith in
-        record { number-is = rw l; run-is = rw l (rw z at (sets-eq values run 0 (omega arith))) }
+        record { number-is = rw l; run-is = rw l (sets-laid values run h) }

@@ -2,19 +2,26 @@
 use mathlib.Core.Path.{_≡_, refl, _∙_}
 use mathlib.Core.Bool.{true, false}
 use mathlib.Core.List.{List}
-use Prim.Native.Nat.{ℕ, _+_, _<_}
-use native.Mathlib.Omega.{arith}
+use Prim.Native.Nat.{ℕ, _+_, _*_, _<_, _≤_}
+use native.Mathlib.Omega.{arith, by-contra}
 use lib.ListN.{length, getD, drop}
 use lib.Seq.{getD-take, getD-drop}
+use Rattle.site.specs.declared.values.Site.{Site}
 use Rattle.site.specs.Rules.{slotCount}
-use Rattle.site.specs.Writing.{sound, writeRefusal}
-use Rattle.laws.specs.Truth.{never-so}
+use Rattle.site.specs.Writing.{sound, writeRefusal, Valid}
+use Rattle.laws.specs.Truth.{not-both, never-so}
 use Rattle.site.specs.Promises.{number-written}
 use Rattle.header.specs.declared.Header.{Header}
 use Rattle.header.specs.Header.{inLimits}
+use Rattle.project_writer.specs.declared.course.FileAnswer.{FileAnswer}
+use Rattle.project_writer.specs.declared.course.FileAnswer.the-variants.{Written, OutsideLimits, OutsideRange, TooShort}
+use Rattle.project_writer.specs.ProjectFile.{fileAnswer, fileNumber, fileValue}
+use Rattle.project_writer.specs.Causes.{LimitsKept, FileTells}
 use Rattle.unit.specs.SiteNumbers.{slotNumbers, siteFrom, siteNumbers, WritesNumbers}
 use Rattle.unit.specs.LineNumbers.{lineOrder, LinesNumbers}
+use Rattle.unit.specs.FileNumbers.{siteCount, sitesGiven, WritesFile}
 use Rattle.unit.specs.Coding.{enough, kind-small, slots-small}
+use Rattle.unit.specs.Given.{given-count, given-at}
 
 module _ (numbers : List ℕ) where
   -- fewer numbers than a kind and twenty slots
@@ -46,3 +53,21 @@ module _ (numbers : List ℕ) where
         → LinesNumbers header numbers before afterwards number → number ≡ 8
     unfolding lineOrder
     eight-lined header e f l = l .in-order ∙ rw (e, f) refl
+
+    -- of a file after the header's 4, with the index of the first such site
+    module _ (header : Header) (value : ℕ) (kept : LimitsKept header (sitesGiven numbers)) (i : ℕ) (h : i < siteCount (length numbers))
+        (f : sound (siteFrom (drop (siteNumbers * i) numbers)) ≡ false) where
+      not-valid : ((d : Site) → Valid (getD (sitesGiven numbers) i d)) → ⊥
+      not-valid valid =
+          let site = siteFrom (drop (siteNumbers * i) numbers) in
+          not-both (sound site) (rw (given-at numbers i h site) at (valid site .is-sound)) f
+
+      pub eight-filed : WritesFile header numbers before afterwards value number → (number ≡ 8) × (value ≤ i)
+      eight-filed w = by (fileAnswer header (sitesGiven numbers) (length before)) (w .tells) (w .number-is) (w .value-is)
+        where
+          by : (answer : FileAnswer) → FileTells header (sitesGiven numbers) (length before) answer → number ≡ fileNumber answer → value ≡ fileValue answer
+              → (number ≡ 8) × (value ≤ i)
+          by (Written n) t e v = absurd (not-valid (λ d. t .0 .valid i d (rw given-count h)))
+          by OutsideLimits t e v = absurd (t kept)
+          by (OutsideRange index) t e v = (e, by-contra value i (λ g. not-valid (λ d. t .1 .earlier i d (omega arith))))
+          by TooShort t e v = absurd (not-valid (λ d. t .0 .valid i d (rw given-count h)))

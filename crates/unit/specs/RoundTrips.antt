@@ -1,5 +1,5 @@
--- BOTH ROUND TRIPS of the exported calls: what one of them leaves, the other takes as it is. The run that the reader leaves is
--- longer than a site's numbers, and what follows these bears on no call (`siteFrom`).
+-- BOTH ROUND TRIPS of a site by the exported calls: what one of them leaves, the other takes as it is. The run that the reader leaves
+-- is longer than a site's numbers, and what follows these bears on neither (`siteFrom`).
 use mathlib.Core.Path.{_≡_, refl, ap, sym, _∙_}
 use mathlib.Core.List.{List, _∷_, _++_}
 use Prim.Native.Nat.{ℕ, _≤_}

@@ -4,3 +4,4 @@ mod lent;
 pub mod lines;
 pub mod projects;
 pub mod sites;
+pub mod writing;

@@ -19,7 +19,7 @@ use site::values::WriteAnswer;
 
 const ABSENT: u64 = 65536;
 
-const SITE_NUMBERS: usize = SLOTS + 1;
+pub(crate) const SITE_NUMBERS: usize = SLOTS + 1;
 
 const ANSWER_NUMBERS: usize = SLOTS + 2;
 

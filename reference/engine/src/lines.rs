@@ -35,24 +35,24 @@ pub fn line_into(header: [u64; 3], values: &[u64], line: &mut [u64]) -> u64 {
     }
 }
 
-/// The header's numbers as the call takes them.
-pub fn numbers_of_header(header: &Header) -> [u64; 3] {
-    [
-        header.years.into(),
-        header.segment_calibration.into(),
-        header.crossing_calibration.into(),
-    ]
-}
-
 /// The four numbers of a site, or the number of the refusal.
 pub fn line(header: &Header, site: &Site) -> Result<[u64; 4], u64> {
     const UNTOUCHED: u64 = 0xA5A5;
     let mut run = [UNTOUCHED; 6];
-    let number = line_into(numbers_of_header(header), &numbers_of(site), &mut run);
+    let number = line_into(header.numbers(), &numbers_of(site), &mut run);
     let kept = if number == 0 { 4 } else { 0 };
     assert!(run[kept..].iter().all(|left| *left == UNTOUCHED));
     match number {
         0 => Ok([run[0], run[1], run[2], run[3]]),
         refused => Err(refused),
     }
+}
+
+/// The lines of sites and their sums, which the report of their project is.
+pub fn report(header: &Header, sites: &[Site]) -> Vec<u64> {
+    let each = sites.iter().map(|site| line(header, site));
+    let lines: Vec<[u64; 4]> = each.map(|line| line.expect("a line")).collect();
+    let total = |at: usize| lines.iter().map(|line| line[at]).sum();
+    let totals: [u64; 4] = [total(0), total(1), total(2), total(3)];
+    lines.iter().chain([&totals]).flatten().copied().collect()
 }

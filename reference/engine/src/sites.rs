@@ -43,6 +43,9 @@ const SLOTS: [Field; 20] = [
     Field::LimitedQuadrants,
 ];
 
+/// The numbers of a site.
+pub const SITE_NUMBERS: usize = SLOTS.len() + 1;
+
 /// What an absent slot is coded as.
 const ABSENT: u64 = 65_536;
 
@@ -50,12 +53,17 @@ const ABSENT: u64 = 65_536;
 const UNTOUCHED: u8 = 0xA5;
 
 /// A site as the engine's run of numbers: the kind, then its slots.
-pub fn numbers_of(site: &Site) -> [u64; 21] {
-    let mut numbers = [u64::from(site.kind); 21];
+pub fn numbers_of(site: &Site) -> [u64; SITE_NUMBERS] {
+    let mut numbers = [u64::from(site.kind); SITE_NUMBERS];
     for (number, field) in numbers[1..].iter_mut().zip(SLOTS) {
         *number = site.get(field).map_or(ABSENT, u64::from);
     }
     numbers
+}
+
+/// A list of sites as one run of numbers.
+pub fn run_of(sites: &[Site]) -> Vec<u64> {
+    sites.iter().flat_map(numbers_of).collect()
 }
 
 fn site_of(numbers: &[u64]) -> Site {

@@ -1,6 +1,10 @@
 //! The C example, compiled against the header and the archive, prints the demo
-//! corridor's report, and refusals as the program does.
+//! corridor's report, and refusals as the program does, and finds each file
+//! again that it writes from a file's sites.
 
+use engine::program::full_project;
+use engine::projects::project_into;
+use reference::report::print_report;
 use std::fs;
 use std::path::{Path, PathBuf};
 use std::process::Command;
@@ -53,9 +57,27 @@ fn demo_corridor() {
     );
 }
 
+/// A project file of the tests' own.
+fn stored(name: &str, bytes: &[u8]) -> PathBuf {
+    let path = Path::new(env!("CARGO_TARGET_TMPDIR")).join(name);
+    fs::write(&path, bytes).expect("a file to write");
+    path
+}
+
 #[test]
 fn refused_file() {
-    let project = Path::new(env!("CARGO_TARGET_TMPDIR")).join("refused.project");
-    fs::write(&project, [2, 1, 0, 1, 0, 1, 0, 0]).expect("a file to write");
+    let project = stored("refused.project", &[2, 1, 0, 1, 0, 1, 0, 0]);
     assert_eq!(printed(&compiled("refused"), &project), "refused 3 at 0\n");
+}
+
+#[test]
+fn surveys_of_no_site_and_of_the_most() {
+    let program = compiled("surveys");
+    for sites in [0, 1, 1_900] {
+        let file = full_project(sites);
+        let mut report = vec![0; 4 * (sites + 1)];
+        assert_eq!(project_into(&file, &mut report), Ok(report.len()));
+        let project = stored("survey.project", &file);
+        assert_eq!(printed(&program, &project), print_report(&report));
+    }
 }

@@ -1,7 +1,7 @@
 //! The engine's line of a site against the reference's own estimates at five
 //! depths, on random and extreme sites, and its refusals.
 
-use engine::lines::{line, line_into, numbers_of_header};
+use engine::lines::{line, line_into};
 use engine::sites::{numbers_of, read_into};
 use engine::{DONE, OUTSIDE_LIMITS, OUT_OF_RANGE, TOO_SHORT};
 use reference::checker::{site_line_faults, site_standing_faults, Wrong};
@@ -285,7 +285,7 @@ fn sites_that_the_writer_refuses() {
             made += 1;
         } else {
             let values = numbers_of(&site);
-            let header = numbers_of_header(&header);
+            let header = header.numbers();
             for room in [0, 3, 4, 5] {
                 assert_eq!(refusal(header, &values, room), OUT_OF_RANGE, "{site:?}");
             }
@@ -327,7 +327,7 @@ fn a_read_site_is_handed_on_as_it_was_left() {
         let expected = made(&header, &site);
         for count in 21..=25 {
             let mut line = [0; 4];
-            let number = line_into(numbers_of_header(&header), &values[..count], &mut line);
+            let number = line_into(header.numbers(), &values[..count], &mut line);
             assert_eq!((number, line), (DONE, expected), "{count} {site:?}");
         }
     }

@@ -1,18 +1,14 @@
-use mathlib.Core.Path.{sym}
+use mathlib.Core.Path.{sym, _∙_}
 use borrow.Author.Needs.{needs}
-use Rattle.site_writer.proofs.WriteWhole.{kind-outside, slots-tell}
+use Rattle.site.specs.Theorems.{measured-length, measured-outside}
 use Rattle.site_writer.proofs.is_sound.Statement.{statement}
 use Rattle.site_writer.proofs.is_sound.Tie as tie
 
 returns : tie.Need-returns
-returns c = sym (kind-outside (c .before .args .site) (c .if1 .taken))
+returns c = sym (measured-outside _ (sym (c .before .before .measure-site .ensures) ∙ c .enum-told .given .1))
 
 returns-2 : tie.Need-returns-2
-returns-2 c =
-    let rules = c .before in
-    sym (slots-tell _ (rules .before .before .if1 .left) _ (rules .before .slots-of .ensures) _ (rules .rules-held .ensures) _ (c .do-all-fit .ensures))
+returns-2 c = sym (measured-length _ _ (sym (c .before .before .measure-site .ensures) ∙ c .enum-told2 .given .1) .0 .is-sound)
 
 pub is-sound-spec : {M : Type 1} → statement M
-is-sound-spec =
-    tie.close
-    (tie.spec returns (λ c κs. search needs) (λ c κs. search needs) (λ c κs. search needs) returns-2)
+is-sound-spec = tie.close (tie.spec (λ c κs. search needs) (λ c. search needs) (λ c. search needs) returns returns-2)

@@ -1,27 +1,22 @@
--- Two bytes, high byte first, or none.
-use native.Mathlib.Omega.{arith}
-use mathlib.Core.Path.{_≡_, ap}
-use mathlib.Core.List.{[], _∷_}
-use Prim.Native.Nat.{_/_, _%_}
-use lib.ListN.{length, length-set}
-use Rattle.site.specs.Writing.{fieldBytes}
-use Rattle.site_writer.proofs.WriteSteps.{field-is, field-none, put-none, put-two}
+-- Two bytes, or none.
 use borrow.Author.Needs.{needs}
+use native.Mathlib.Omega.{arith}
+use mathlib.Core.Path.{_≡_, refl, ap}
+use lib.ListN.{length}
+use Rattle.site.specs.Writing.{twoBytes, fieldBytes}
+use Rattle.site_writer.proofs.WriteSteps.{field-is, field-none, put-none}
 use Rattle.site_writer.proofs.put_field.Statement.{statement}
 use Rattle.site_writer.proofs.put_field.Tie as tie
 
 -- a bit that stands, of a slot that holds a number
 bytes-are : (c : tie.After-slot) → let bit = c .before .before .before in let a = bit .before .before .args in
-    fieldBytes (a .rule) (a .slot) ≡ c .slot .given .0 .0 / 256 ∷ c .slot .given .0 .0 % 256 ∷ []
+    fieldBytes (a .rule) (a .slot) ≡ twoBytes (c .slot .given .0 .0)
 bytes-are c =
     let bit = c .before .before .before in
     field-is _ _ _ _ (c .slot .given .1) (bit .slot-bit .ensures) (c .before .before .if1 .taken)
 
-slice-write-buffer : tie.Need-slice-write-buffer
-slice-write-buffer c = omega (arith, ap length (bytes-are (c .before)))
-
-slice-write-buffer-2 : tie.Need-slice-write-buffer-2
-slice-write-buffer-2 c = simp length-set (omega (arith, ap length (bytes-are (c .before))))
+put-word-requires : tie.Need-put-word-requires
+put-word-requires c κs = omega (arith, ap length (bytes-are (c .before .before)))
 
 returns : tie.Need-returns
 returns c =
@@ -31,9 +26,8 @@ returns c =
 
 returns-2 : tie.Need-returns-2
 returns-2 c =
-    let bit = c .before .before .before .before in
-    let a = bit .before .before .args in
-    put-two _ _ (a .rule) (a .slot) _ _ (bytes-are (c .before))
+    let put = c .before .before in
+    rw (bytes-are (put .before .before .before)) (refl, put .put-word .ensures)
 
 returns-3 : tie.Need-returns-3
 returns-3 c =
@@ -44,10 +38,8 @@ pub put-field-spec : {M : Type 1} → statement M
 put-field-spec =
     tie.close
     (tie.spec
-    (λ c κs. search needs) (λ c. search needs) (λ c. search needs) (λ c. search needs)
-    slice-write-buffer
-    (λ c. search needs) (λ c. search needs)
-    slice-write-buffer-2
+    (λ c κs. search needs) (λ c. search needs) (λ c. search needs)
+    put-word-requires
     (λ c. search needs)
     returns
     (λ c. search needs)

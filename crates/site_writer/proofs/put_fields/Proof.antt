@@ -1,4 +1,4 @@
--- The loop's invariant: with the fields from i on laid at the place reached, the buffer is as it is to be.
+-- The loop's invariant: the fields from i on, laid at the place reached, make the buffer and the place that are to be.
 use borrow.Author.Needs.{needs}
 use native.Mathlib.Omega.{arith}
 use mathlib.Core.Path.{_≡_, _∙_}
@@ -16,7 +16,8 @@ use Rattle.site_writer.proofs.put_fields.Tie as tie
 abbrev Inv-loop : tie.InvT-loop
 Inv-loop buffer₀ rules slots at₀ i₀ buffer at i =
     let left = bytesOf (drop i rules) (drop i slots) in
-    (i ≤ slotCount) × (length buffer ≡ length buffer₀) × (at + length left ≤ length buffer) × (sets buffer at left ≡ sets buffer₀ 3 (bytesOf rules slots))
+    let all = bytesOf rules slots in
+    (i ≤ slotCount) × (length buffer ≡ length buffer₀) × (at + length left ≡ 3 + length all) × (sets buffer at left ≡ sets buffer₀ 3 all)
 
 abbrev μ-loop : tie.MeasureT-loop
 μ-loop buffer₀ rules slots at₀ i₀ buffer at i = slotCount - i
@@ -40,12 +41,15 @@ loop-again c =
     let more = turn .loop-test .taken in (
       omega arith,
       put .kept .1 .1 .0 ∙ loop .inv .1,
-      omega (arith, bytes-length (start .args .t1) (start .args .t2) (loop .i) count count′ Foreign Absent more, put .ensures .0, put .kept .1 .1 .0),
+      omega (arith, bytes-length (start .args .t1) (start .args .t2) (loop .i) count count′ Foreign Absent more, put .ensures .0),
       put-more _ _ _ count count′ _ _ _ _ _ _ _ more (loop .inv .3) (put .ensures .0) (put .ensures .1),
     )
 
 returns : tie.Need-returns Inv-loop μ-loop
-returns c = put-end _ _ _ (c .before .before .before .pre .0) (c .before .before .before .pre .1) _ _ _ (c .loop-test .left) (c .before .loop .inv .3)
+returns c =
+    let loop = c .before .loop in
+    let start = c .before .before .before in
+    put-end _ _ _ (start .pre .0) (start .pre .1) _ _ _ _ (c .loop-test .left) (loop .inv .2) (loop .inv .3)
 
 pub put-fields-spec : {M : Type 1} → statement M
 put-fields-spec =

@@ -1,78 +1,62 @@
--- Each test is one of the definition's, in its order, and the stores lay the record.
+-- The kind and the measure tell 8, the space 10, and else the record is put.
 use borrow.Author.Needs.{needs}
 use native.Mathlib.Omega.{arith}
-use mathlib.Core.Path.{sym, _∙_}
-use borrow.Author.Tests.{not-true, not-false}
-use mathlib.Core.List.{[]}
-use lib.ListN.{length-set}
-use Rattle.site.specs.Tested.{tested-rules}
-use Rattle.site_writer.proofs.WriteWhole.{kind-outside, slots-tell, outside, Found, fields-long, room-refused, all-written}
+use mathlib.Core.Path.{_≡_, sym, _∙_}
+use lib.ListN.{length}
+use Rattle.site.specs.Writing.{recordOf, Valid, measureOf}
+use Rattle.site.specs.Theorems.{measured-length, measured-outside}
+use Rattle.site_writer.proofs.WriteWhole.{kind-outside, Found, found, bits-few, record-is, measured-by, outside, room-refused, all-written}
 use Rattle.site_writer.proofs.write_site.Statement.{statement}
 use Rattle.site_writer.proofs.write_site.Tie as tie
 
-abbrev found : (c : tie.After-count-words) → let fit = c .before .before .before in let known = fit .before .before .before in
-    Found (known .before .before .args .site)
-found c =
-    let fit = c .before .before .before in
-    record {
-      kind-known = fit .before .before .before .if1 .left;
-      slots = fit .before .before .slots-of .result;
-      slots-are = fit .before .before .slots-of .ensures;
-      rules = fit .before .rules-held .result;
-      rules-are = fit .before .rules-held .ensures;
-      fits = sym (fit .do-all-fit .ensures) ∙ not-false (fit .do-all-fit .result) (c .before .before .if2 .left);
-      map = c .before .map-of .result;
-      map-is = c .before .map-of .ensures;
-      n = c .count-words .result;
-      n-is = c .count-words .ensures .0;
-    }
+held : (c : tie.After-rules-held) → let slots = c .before in let known = slots .before in
+    Found (known .before .before .args .site) (slots .slots-of .result) (c .rules-held .result)
+held c = let slots = c .before in found _ _ _ (slots .before .if1 .left) (slots .slots-of .ensures) (c .rules-held .ensures)
+
+-- what a measure of the slots tells of the site
+measure-is : (c : tie.After-measure-slots) → let slots = c .before .before in let known = slots .before in
+    measureOf (known .before .before .args .site) ≡ c .measure-slots .result
+measure-is c = measured-by (held (c .before)) ∙ sym (c .measure-slots .ensures)
+
+measured : (c : tie.After-measure) → let slots = c .before .before .before .before in let known = slots .before in let site = known .before .before .args .site in
+    Valid site × (c .measure .given .0 .0 ≡ length (recordOf site))
+measured c = measured-length _ _ (measure-is (c .before .before) ∙ c .measure .given .1)
 
 returns : tie.Need-returns
 returns c = let start = c .before .before in outside (start .args .site) _ (kind-outside (start .args .site) (c .if1 .taken))
 
 returns-2 : tie.Need-returns-2
 returns-2 c =
-    let fit = c .before in
-    let slots = fit .before .before in
-    let known = slots .before in
-    let tell = slots-tell _ (known .if1 .left) _ (slots .slots-of .ensures) _ (fit .before .rules-held .ensures) _ (fit .do-all-fit .ensures) in
-    outside (known .before .before .args .site) _ (tell ∙ not-true (fit .do-all-fit .result) (c .if2 .taken))
+    let m = measured (c .before .before) in
+    room-refused _ _ (m .0) (omega arith)
 
-map-of-requires : tie.Need-map-of-requires
-map-of-requires c κs =
-    let rules = c .before .before in
-    (search needs, search needs, rw (rules .rules-held .ensures) (tested-rules _ _ (rules .before .before .if1 .left) .few))
+put-slots-requires : tie.Need-put-slots-requires
+put-slots-requires c κs =
+    let measure = c .before .before .before in
+    let f = held (measure .before .before .before) in
+    let m = measured measure in
+    (search needs, search needs, bits-few f, rw (← record-is f) (omega arith))
 
 returns-3 : tie.Need-returns-3
-returns-3 c = room-refused _ _ (found (c .before)) (c .if3 .taken)
-
-put-fields-requires : tie.Need-put-fields-requires
-put-fields-requires c κs =
-    (search needs, search needs, simp length-set (omega (arith, fields-long _ [] (found (c .before .before)))))
-
-same-length : tie.Need-same-length
-same-length c = c .before .before .put-fields .kept .1 .1 .0 ∙ simp length-set
+returns-3 c = outside _ _ (measured-outside _ (measure-is (c .before .before) ∙ c .enum-told .given .1))
 
 returns-4 : tie.Need-returns-4
 returns-4 c =
     let put = c .before .before in
     let room = put .before .before in
-    all-written _ _ (found (room .before)) (room .if3 .left) _ (put .put-fields .ensures)
+    let measure = room .before .before in
+    let f = held (measure .before .before .before) in
+    let m = measured measure in
+    rw (put .put-slots .ensures .0, put .put-slots .ensures .1, ← record-is f) (all-written _ _ (m .0) (omega arith))
 
 pub write-site-spec : {M : Type 1} → statement M
 write-site-spec =
     tie.close
     (tie.spec
     returns
-    (λ c κs. search needs) (λ c κs. search needs) (λ c κs. search needs)
+    (λ c κs. search needs) (λ c κs. search needs) (λ c κs. search needs) (λ c. search needs) (λ c. search needs)
     returns-2
-    map-of-requires
-    (λ c κs. search needs) (λ c. search needs) (λ c. search needs)
+    put-slots-requires
     returns-3
-    (λ c. search needs) (λ c. search needs)
-    (λ c. simp length-set (omega arith))
     (λ c. search needs)
-    (λ c. simp length-set (omega arith))
-    put-fields-requires
-    same-length
     returns-4)

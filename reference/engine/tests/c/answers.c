@@ -1,4 +1,5 @@
-/* The header's words on what each call of a site answers, tried one by one. Prints the lines that do not hold. */
+/* The header's words on what each call of a site or of a list of sites answers, tried one by one. Prints the lines that do not
+ * hold. */
 #include "crash_unit.h"
 #include <stdio.h>
 #include <string.h>
@@ -22,6 +23,8 @@ static uint64_t values[CRASH_READ_NUMBERS + 2];
 static uint8_t buffer[CRASH_LONGEST_RECORD];
 static uint64_t line[CRASH_LINE_NUMBERS];
 static uint64_t written;
+static uint64_t sites[(CRASH_MOST_SITES + 1) * CRASH_SITE_NUMBERS];
+static uint8_t file[CRASH_LONGEST_FILE];
 
 static uint64_t record_of(size_t numbers, size_t room)
 {
@@ -33,6 +36,13 @@ static uint64_t line_of(uint64_t years, uint64_t segments, uint64_t crossings, s
 {
     memset(line, 0, sizeof line);
     return crash_line(years, segments, crossings, values, numbers, line, room);
+}
+
+static uint64_t file_of(uint64_t years, size_t numbers, size_t room)
+{
+    written = 7;
+    memset(file, 7, sizeof file);
+    return crash_project_write(years, 1000, 1000, sites, numbers, file, room, &written);
 }
 
 /* The 22 numbers that were read, and more, are handed on; fewer than 21 are no site. */
@@ -49,6 +59,41 @@ static void handed_on(void)
         HOLDS(line_of(1, 1000, 1000, numbers, CRASH_LINE_NUMBERS) == answer);
         HOLDS((line[1] > 0) == (answer == CRASH_OK));
     }
+}
+
+/* The same site twice is a header and its record twice, and the most sites are written. */
+static void listed(void)
+{
+    static const uint8_t header[CRASH_HEADER_BYTES] = {1, 5, 0x03, 0xE8, 0x03, 0xE8, 0, 2};
+    size_t length = sizeof header + 2 * sizeof part;
+
+    for (size_t i = 0; i < sizeof sites / sizeof sites[0]; i++)
+        sites[i] = values[i % CRASH_SITE_NUMBERS];
+    HOLDS(file_of(5, 2 * CRASH_SITE_NUMBERS, length) == CRASH_OK && written == length);
+    HOLDS(file_of(5, 2 * CRASH_SITE_NUMBERS, length + 1) == CRASH_OK && written == length);
+    HOLDS(memcmp(file, header, sizeof header) == 0);
+    HOLDS(memcmp(file + sizeof header, part, sizeof part) == 0);
+    HOLDS(memcmp(file + sizeof header + sizeof part, part, sizeof part) == 0);
+    HOLDS(file[length] == 7);
+    HOLDS(file_of(5, 0, sizeof header) == CRASH_OK && written == sizeof header);
+    HOLDS(file_of(5, CRASH_MOST_SITES * CRASH_SITE_NUMBERS, sizeof file) == CRASH_OK);
+    HOLDS(written == sizeof header + CRASH_MOST_SITES * sizeof part);
+}
+
+/* 4 for the header or the count of sites, then 8 for the first site, then 10 for the space. */
+static void listed_in_order(void)
+{
+    HOLDS(file_of(5, CRASH_SITE_NUMBERS, CRASH_HEADER_BYTES + sizeof part - 1) == CRASH_TOO_SHORT);
+    HOLDS(written == 0 && file[0] == 7);
+    HOLDS(file_of(5, CRASH_SITE_NUMBERS + 1, 0) == CRASH_OUTSIDE_RANGE && written == 1);
+    HOLDS(file_of(5, CRASH_MOST_SITES * CRASH_SITE_NUMBERS + 1, 0) == CRASH_OUTSIDE_LIMITS && written == 0);
+    sites[2 * CRASH_SITE_NUMBERS + 1] = 20001;
+    HOLDS(file_of(5, 3 * CRASH_SITE_NUMBERS + 1, 0) == CRASH_OUTSIDE_RANGE && written == 2);
+    HOLDS(file_of(5, 3 * CRASH_SITE_NUMBERS, sizeof file) == CRASH_OUTSIDE_RANGE && written == 2);
+    HOLDS(file[0] == 7 && file[CRASH_HEADER_BYTES] == 7);
+    HOLDS(file_of(11, 3 * CRASH_SITE_NUMBERS + 1, 0) == CRASH_OUTSIDE_LIMITS && written == 0);
+    HOLDS(file_of(5, sizeof sites / sizeof sites[0], sizeof file) == CRASH_OUTSIDE_LIMITS && written == 0);
+    HOLDS(file[0] == 7 && file[CRASH_HEADER_BYTES] == 7);
 }
 
 /* 4 for the header, then 8 for the site, then 10 for the space. */
@@ -73,6 +118,8 @@ static void in_order(void)
 int main(void)
 {
     handed_on();
+    listed();
+    listed_in_order();
     in_order();
     return wrong;
 }

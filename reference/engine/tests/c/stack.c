@@ -17,6 +17,9 @@ static size_t length;
 static uint64_t report[CRASH_LONGEST_REPORT];
 static uint64_t site[CRASH_READ_NUMBERS];
 static uint8_t record[CRASH_LONGEST_RECORD];
+static uint64_t sites[CRASH_MOST_SITES * CRASH_SITE_NUMBERS + 1];
+static size_t numbers;
+static uint8_t written[CRASH_LONGEST_FILE];
 static uint64_t line[CRASH_LINE_NUMBERS];
 static uint64_t ends[CRASH_BRACKET_NUMBERS];
 static uint64_t value, argument;
@@ -28,11 +31,26 @@ static void site_read(void)
     crash_site_read(file + CRASH_HEADER_BYTES, length - CRASH_HEADER_BYTES, site, CRASH_READ_NUMBERS);
 }
 static void site_write(void) { crash_site_write(site, CRASH_SITE_NUMBERS, record, CRASH_LONGEST_RECORD, &value); }
+static void project_write(void)
+{
+    crash_project_write(10, 9999, 9999, sites, numbers, written, CRASH_LONGEST_FILE, &value);
+}
 static void line_of(void) { crash_line(10, 9999, 9999, site, CRASH_SITE_NUMBERS, line, CRASH_LINE_NUMBERS); }
 static void power(void) { crash_power(argument, 79, 100, ends, CRASH_BRACKET_NUMBERS); }
 static void logarithm(void) { crash_logarithm(argument, ends, CRASH_BRACKET_NUMBERS); }
 static void exponential(void) { crash_exponential(argument, ends, CRASH_BRACKET_NUMBERS); }
 static void negative(void) { crash_exponential_negative(argument, ends, CRASH_BRACKET_NUMBERS); }
+
+/* The sites of the file, each read over the length that the one before left. */
+static void gather(void)
+{
+    numbers = 0;
+    for (size_t at = CRASH_HEADER_BYTES; at < length; at += sites[numbers]) {
+        if (crash_site_read(file + at, length - at, sites + numbers, CRASH_READ_NUMBERS) != CRASH_OK)
+            break;
+        numbers += CRASH_SITE_NUMBERS;
+    }
+}
 
 static size_t used(void (*call)(void))
 {
@@ -68,6 +86,10 @@ int main(int argc, char **argv)
         show("crash_project", project);
         show("crash_site_read", site_read);
         show("crash_site_write", site_write);
+        gather();
+        show("crash_project_write", project_write);
+        if (value != length)
+            return 1;
         show("crash_line", line_of);
     }
     for (size_t i = 0; i < sizeof arguments / sizeof arguments[0]; i++) {

@@ -1,6 +1,5 @@
 //! Sites as intervals of Arb and of MPFI, where `build.rs` found them.
 
-use engine::lines::numbers_of_header;
 use engine::sites::numbers_of;
 use reference::project::Header;
 use reference::record::Site;
@@ -71,7 +70,7 @@ impl Library {
 
     fn lines(&self, header: &Header, sites: &[Numbers], ends: *mut Ends) {
         let call = self.call.expect("an installed library");
-        let header = numbers_of_header(header);
+        let header = header.numbers();
         // SAFETY: the pointer and the length are those of one slice, and `ends`
         // is null or has as many items.
         unsafe { call(&header, sites.as_ptr(), sites.len(), ends) }

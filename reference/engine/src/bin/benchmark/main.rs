@@ -1,15 +1,16 @@
 //! Times of the engine's brackets, of its line of a site and of whole projects,
-//! with the stored numbers lent, beside plain doubles and, where they are
+//! read and written, with the stored numbers lent, beside plain doubles and, where they are
 //! installed, two interval libraries, in one run. For brackets and lines the
 //! engine's program `rounds` is run with few and with many rounds, and the
 //! difference is divided by what was made.
 
 mod intervals;
 
+use engine::sites::run_of;
 use engine::{doubles, lines, projects};
 use intervals::{numbers_of_sites, Library, LIBRARIES};
 use reference::generate::{self, Random};
-use reference::project::{write_project, Header, Project};
+use reference::project::{write_project, Header, Project, LONGEST_FILE};
 use reference::record::{write_site, Site};
 use reference::rules::{EDITION, KIND_NAMES};
 use std::hint::black_box;
@@ -303,47 +304,72 @@ fn print_lines(mixed: &[Site]) {
 const SIZES: [usize; 4] = [10, 100, 1_000, 1_900];
 const SITES_OF_PROJECTS: usize = 19_000;
 
-/// The report of a project's file is the lines of its sites and their sums.
-fn assert_report(project: &Project, report: &[u64]) {
-    let each = project.sites.iter().map(|site| lines::line(&HEADER, site));
-    let lines: Vec<[u64; 4]> = each.map(|line| line.expect("a line")).collect();
-    let total = |at: usize| lines.iter().map(|line| line[at]).sum();
-    let totals: [u64; 4] = [total(0), total(1), total(2), total(3)];
-    let expected: Vec<u64> = lines.iter().copied().chain([totals]).flatten().collect();
-    assert_eq!(report, expected);
-}
-
 fn report_into(file: &[u8], report: &mut [u64]) -> usize {
     projects::project_into(file, report).expect("a project that the reader takes")
 }
 
-fn print_projects(sites: &[Site], size: usize) {
-    let of_sites = |sites: &[Site]| Project {
+/// A project, its file and its sites' numbers.
+struct Survey {
+    project: Project,
+    file: Vec<u8>,
+    run: Vec<u64>,
+}
+
+fn survey_of(sites: &[Site]) -> Survey {
+    let project = Project {
         header: HEADER,
         sites: sites.to_vec(),
     };
-    let projects: Vec<Project> = sites.chunks_exact(size).map(of_sites).collect();
-    assert_eq!(projects.len() * size, sites.len());
-    let file = |project| write_project(project).expect("a project that the writer takes");
-    let files: Vec<Vec<u8>> = projects.iter().map(file).collect();
+    let file = write_project(&project).expect("a project that the writer takes");
+    let run = run_of(sites);
+    Survey { project, file, run }
+}
+
+fn file_into(run: &[u64], file: &mut [u8]) -> usize {
+    let written = projects::file_into(HEADER.numbers(), run, file);
+    written.expect("sites that the writer takes")
+}
+
+/// The report of a project's file is the lines of its sites and their sums, and
+/// the file is written from the sites.
+fn assert_survey(survey: &Survey, report: &mut [u64], buffer: &mut [u8]) {
+    let Survey { project, file, run } = survey;
+    assert_eq!(report_into(file, report), report.len());
+    assert_eq!(report, lines::report(&HEADER, &project.sites));
+    let written = file_into(run, buffer);
+    assert_eq!(&buffer[..written], file);
+}
+
+fn print_projects(sites: &[Site], size: usize) {
+    let surveys: Vec<Survey> = sites.chunks_exact(size).map(survey_of).collect();
+    assert_eq!(surveys.len() * size, sites.len());
     let mut report = vec![0; 4 * (size + 1)];
-    for (project, file) in projects.iter().zip(&files) {
-        assert_eq!(report_into(file, &mut report), report.len());
-        assert_report(project, &report);
+    let mut buffer = vec![0; LONGEST_FILE];
+    for survey in &surveys {
+        assert_survey(survey, &mut report, &mut buffer);
     }
     let count = sites.len() as f64;
-    let engine = time_here(count, || {
-        for file in &files {
-            black_box(report_into(black_box(file), &mut report));
+    let read = time_here(count, || {
+        for survey in &surveys {
+            black_box(report_into(black_box(&survey.file), &mut report));
         }
     });
     let doubles = time_here(count, || {
-        for project in &projects {
-            in_doubles(&project.header, &project.sites);
+        for survey in &surveys {
+            in_doubles(&survey.project.header, &survey.project.sites);
         }
     });
-    let microseconds = engine * size as f64 / 1e3;
-    println!("| {size} | {microseconds:.1} | {engine:.0} | {doubles:.0} |");
+    let written = time_here(count, || {
+        for survey in &surveys {
+            black_box(file_into(black_box(&survey.run), &mut buffer));
+        }
+    });
+    let microseconds = |site: f64| site * size as f64 / 1e3;
+    println!(
+        "| {size} | {:.1} | {read:.0} | {doubles:.0} | {:.1} | {written:.0} |",
+        microseconds(read),
+        microseconds(written)
+    );
 }
 
 fn random_sites(random: &mut Random, count: usize) -> Vec<Site> {
@@ -361,8 +387,11 @@ fn main() {
     let mut random = Random::new(41);
     print_lines(&random_sites(&mut random, SITES));
     println!();
-    println!("| Sites | Engine, a project, µs | Engine, a site, ns | Doubles, a site, ns |");
-    println!("|---|---|---|---|");
+    println!(
+        "| Sites | Engine, a project, µs | Engine, a site, ns | Doubles, a site, ns \
+        | Written, a project, µs | Written, a site, ns |"
+    );
+    println!("|---|---|---|---|---|---|");
     let sites = random_sites(&mut random, SITES_OF_PROJECTS);
     assert_same_figures(&sites);
     for size in SIZES {

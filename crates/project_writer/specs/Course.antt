@@ -1,0 +1,67 @@
+-- The steps of the code: what a walk over the sites makes of its course and of the buffer.
+use Prim.Native.Nat.{ℕ, _+_, _*_, _≤_}
+use mathlib.Core.Path.{_≡_}
+use mathlib.Core.Bool.{true, cond}
+use mathlib.Core.List.{List, [], _∷_}
+use lib.ListN.{length}
+use lib.Seq.{sets}
+use lib.Dec.{leb}
+use Rattle.site.specs.declared.values.Site.{Site}
+use Rattle.site.specs.Writing.{recordOf, sound}
+use Rattle.site.specs.Theorems.{longest}
+use Rattle.header.specs.declared.Header.{Header}
+use Rattle.header.specs.Header.{headerLength, headerBytes, admits, mostSites}
+use Rattle.project_writer.specs.declared.course.FileAnswer.{FileAnswer}
+use Rattle.project_writer.specs.declared.course.FileAnswer.the-variants.{Written, OutsideRange, TooShort}
+use Rattle.project_writer.specs.declared.course.Course.{Course}
+use Rattle.project_writer.specs.declared.course.Course.the-variants.{Measured, Placed, Stopped}
+use Rattle.project_writer.specs.ProjectFile.{recordsOf, soundSites}
+
+-- one site more
+abbrev pub stepCourse : Site → Course → Course
+stepCourse site (Measured sites n) = cond (sound site) (Measured (sites + 1) (n + length (recordOf site))) (Stopped (OutsideRange sites))
+stepCourse site (Placed at) = Placed (at + length (recordOf site))
+stepCourse site (Stopped answer) = Stopped answer
+
+abbrev pub stepBuffer : Site → Course → List ℕ → List ℕ
+stepBuffer site (Measured sites n) buffer = buffer
+stepBuffer site (Placed at) buffer = sets buffer at (recordOf site)
+stepBuffer site (Stopped answer) buffer = buffer
+
+-- all of them, in their order
+unfoldable pub walkCourse : List Site → Course → Course
+walkCourse [] course = course
+walkCourse (site ∷ sites) course = walkCourse sites (stepCourse site course)
+
+unfoldable pub walkBuffer : List Site → Course → List ℕ → List ℕ
+walkBuffer [] course buffer = buffer
+walkBuffer (site ∷ sites) course buffer = walkBuffer sites (stepCourse site course) (stepBuffer site course buffer)
+
+-- the space test, and the header
+abbrev pub openCourse : Course → (room : ℕ) → Course
+openCourse (Measured sites n) room = cond (leb n room) (Placed headerLength) (Stopped TooShort)
+openCourse (Placed at) room = Placed at
+openCourse (Stopped answer) room = Stopped answer
+
+abbrev pub openBuffer : Header → (sites : ℕ) → Course → List ℕ → List ℕ
+openBuffer header count (Measured sites n) buffer = cond (leb n (length buffer)) (sets buffer 0 (headerBytes header count)) buffer
+openBuffer header count (Placed at) buffer = buffer
+openBuffer header count (Stopped answer) buffer = buffer
+
+abbrev pub courseAnswer : Course → FileAnswer
+courseAnswer (Measured sites n) = TooShort
+courseAnswer (Placed n) = Written n
+courseAnswer (Stopped answer) = answer
+
+-- what a walk over so many sites needs: a file within the limits of length where it is measured, and valid sites whose records
+-- fit the buffer where it is written
+abbrev pub Walks : List Site → Course → (room : ℕ) → Type 0
+Walks sites (Measured count n) room = (count + length sites ≤ mostSites) × (n ≤ headerLength + longest * count)
+Walks sites (Placed at) room = (soundSites sites ≡ length sites) × (at + length (recordsOf sites) ≤ room)
+Walks sites (Stopped answer) room = Unit
+
+-- what the space test needs: a header within its limits, and a measure that counts it
+abbrev pub Opens : Header → (sites : ℕ) → Course → Type 0
+Opens header count (Measured sites n) = (admits header count ≡ true) × (headerLength ≤ n)
+Opens header count (Placed at) = Unit
+Opens header count (Stopped answer) = Unit

@@ -1,0 +1,124 @@
+-- The whole course, from the first site measured to the last written, comes to the file, the answer and the buffer of ProjectFile.
+use mathlib.Core.Path.{_≡_, refl, sym, _∙_}
+use mathlib.Core.Bool.{Bool, true, false, cond}
+use mathlib.Core.List.{List, _++_}
+use Prim.Native.Nat.{ℕ, _+_, _<_, _≤_}
+use native.Mathlib.Nat.{zero-add}
+use native.Mathlib.Omega.{arith}
+use lib.ListN.{length}
+use lib.Seq.{sets, length-sets}
+use lib.Dec.{leb, ltb}
+use borrow.Author.Tests.{ltb-true, leb-true, leb-false}
+use Rattle.laws.specs.Lent.{laidOver}
+use Rattle.laws.specs.Truth.{not-both}
+use Rattle.laws.specs.Stores.{sets-more, sets-laid}
+use Rattle.site.specs.declared.values.Site.{Site}
+use Rattle.header.specs.declared.Header.{Header}
+use Rattle.header.specs.Header.{headerLength, headerBytes, admits}
+use Rattle.header.specs.HeaderLaws.{admits-both}
+use Rattle.project_writer.specs.declared.course.FileAnswer.{FileAnswer}
+use Rattle.project_writer.specs.declared.course.FileAnswer.the-variants.{Written, OutsideLimits, OutsideRange, TooShort}
+use Rattle.project_writer.specs.declared.course.Course.{Course}
+use Rattle.project_writer.specs.declared.course.Course.the-variants.{Measured, Placed, Stopped}
+use Rattle.project_writer.specs.ProjectFile.{recordsOf, fileOf, soundSites, leaves, bufferAfter}
+use Rattle.project_writer.specs.Course.{walkCourse, walkBuffer, openCourse, openBuffer, courseAnswer, Walks, Opens}
+use Rattle.project_writer.specs.Sound.{none-outside, first-outside}
+use Rattle.project_writer.specs.Causes.{FileTells}
+use Rattle.project_writer.specs.Walks.{walk-stopped, walk-stopped-buffer, walk-sound, walk-outside, walk-measured-buffer}
+use Rattle.project_writer.specs.Walks.{walk-placed, walk-placed-buffer}
+use Rattle.project_writer.specs.Exactly.{file-length, limits-kept, writable, writable-sound, answer-exactly}
+use Rattle.project_writer.specs.Promise.{WritesProject, writes-project}
+
+-- where the sites are measured: at the first outside its range, or after them all with the length of the file
+data MeasuredTo (sites : List Site) : Course → Type 0 where
+  at-outside : soundSites sites < length sites → MeasuredTo sites (Stopped (OutsideRange (soundSites sites)))
+  after-all : soundSites sites ≡ length sites → MeasuredTo sites (Measured (length sites) (headerLength + length (recordsOf sites)))
+
+measured-to : (sites : List Site) → MeasuredTo sites (walkCourse sites (Measured 0 headerLength))
+measured-to sites = by (ltb (soundSites sites) (length sites)) refl
+  where
+    by : (b : Bool) → ltb (soundSites sites) (length sites) ≡ b → MeasuredTo sites (walkCourse sites (Measured 0 headerLength))
+    by true q =
+        let h = ltb-true (soundSites sites) (length sites) q in
+        rw (walk-outside sites 0 headerLength h, zero-add (soundSites sites)) (at-outside h)
+    by false q =
+        let all = none-outside sites q in
+        rw (walk-sound sites 0 headerLength all, zero-add (length sites)) (after-all all)
+
+-- a text stored behind another from the start of a buffer that has space for both
+laid-over : (front back before : List ℕ) → length (front ++ back) ≤ length before
+    → sets (sets before 0 front) (length front) back ≡ laidOver (front ++ back) before
+laid-over front back before fits =
+    (rw zero-add at (sets-more before 0 front back)) ∙ sets-laid (front ++ back) before fits
+
+module _ (header : Header) (sites : List Site) (before : List ℕ) where
+  told : (afterwards : List ℕ) (answer : FileAnswer) → FileTells header sites (length before) answer
+      → afterwards ≡ leaves answer (fileOf header sites) before → WritesProject header sites before afterwards answer
+  unfolding bufferAfter
+  told afterwards answer tells left =
+      let is = answer-exactly header sites (length before) answer .1 tells in
+      writes-project header sites before afterwards answer (sym is) (rw is left)
+
+  -- where the space is tried: the course has stopped, or the file has its space and the header is written
+  data OpenedTo : Course → List ℕ → Type 0 where
+    stopped-with : (answer : FileAnswer) → FileTells header sites (length before) answer → before ≡ leaves answer (fileOf header sites) before
+        → OpenedTo (Stopped answer) before
+    with-space : FileTells header sites (length before) (Written (length (fileOf header sites)))
+        → OpenedTo (Placed headerLength) (sets before 0 (headerBytes header (length sites)))
+
+  walks-opened : {course : Course} {buffer : List ℕ} → OpenedTo course buffer → Walks sites course (length buffer)
+  walks-opened (stopped-with answer tells left) = tt
+  walks-opened (with-space tells) =
+      (writable-sound header sites (tells .0), rw (length-sets before 0 (headerBytes header (length sites)), ← file-length header sites) (tells .1))
+
+  written : {course : Course} {buffer : List ℕ} → OpenedTo course buffer
+      → WritesProject header sites before (walkBuffer sites course buffer) (courseAnswer (walkCourse sites course))
+  unfolding fileOf
+  written (stopped-with answer tells left) = rw (walk-stopped sites answer, walk-stopped-buffer sites answer before) (told before answer tells left)
+  written (with-space tells) =
+      let front = headerBytes header (length sites) in
+      let course-is = walk-placed sites headerLength in
+      let buffer-is = walk-placed-buffer sites headerLength (sets before 0 front) in
+      rw (course-is, ← file-length header sites, buffer-is, laid-over front (recordsOf sites) before (tells .1)) (told _ _ tells refl)
+
+  -- "Header limits are tried first"
+  pub limits-refused : admits header (length sites) ≡ false → WritesProject header sites before before OutsideLimits
+  limits-refused e = told before OutsideLimits (λ kept. not-both _ (admits-both header (length sites) kept) e) refl
+
+  module _ (e : admits header (length sites) ≡ true) where
+    opens : {course : Course} → MeasuredTo sites course → Opens header (length sites) course
+    opens (at-outside h) = tt
+    opens (after-all all) = (e, omega arith)
+
+    opened-to : {course : Course} → MeasuredTo sites course → OpenedTo (openCourse course (length before)) (openBuffer header (length sites) course before)
+    opened-to (at-outside h) = stopped-with (OutsideRange (soundSites sites)) (limits-kept header sites e, first-outside sites h) refl
+    opened-to (after-all all) = by (leb (headerLength + length (recordsOf sites)) (length before)) refl
+      where
+        by : (b : Bool) → leb (headerLength + length (recordsOf sites)) (length before) ≡ b
+            → OpenedTo (cond b (Placed headerLength) (Stopped TooShort)) (cond b (sets before 0 (headerBytes header (length sites))) before)
+        by true q = with-space (writable header sites e all, rw (file-length header sites) (leb-true _ (length before) q), refl)
+        by false q = stopped-with TooShort (writable header sites e all, rw (file-length header sites) (leb-false _ (length before) q)) refl
+
+    -- "then each site": they are measured
+    pub measuring : Walks sites (Measured 0 headerLength) (length before)
+    measuring = (omega (arith, limits-kept header sites e .1), omega arith)
+
+    module _ (measured : Course) (between : List ℕ)
+        (walked : (measured ≡ walkCourse sites (Measured 0 headerLength)) × (between ≡ walkBuffer sites (Measured 0 headerLength) before)) where
+      -- "then the space"
+      pub opening : Opens header (length sites) measured
+      opening = rw (walked .0) (opens (measured-to sites))
+
+      module _ (opened : Course) (buffer : List ℕ)
+          (tried : (opened ≡ openCourse measured (length between)) × (buffer ≡ openBuffer header (length sites) measured between)) where
+        opened-is : OpenedTo opened buffer
+        opened-is = rw (tried .0, tried .1, walked .1, walk-measured-buffer sites 0 headerLength before, walked .0) (opened-to (measured-to sites))
+
+        -- and the sites are written
+        pub writing : Walks sites opened (length buffer)
+        writing = walks-opened opened-is
+
+        pub whole-course : (last : Course) (afterwards : List ℕ) (answer : FileAnswer)
+            → (last ≡ walkCourse sites opened) × (afterwards ≡ walkBuffer sites opened buffer) → answer ≡ courseAnswer last
+            → WritesProject header sites before afterwards answer
+        whole-course last afterwards answer put is = rw (is, put .0, put .1) (written opened-is)

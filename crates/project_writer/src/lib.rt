@@ -1,0 +1,56 @@
+// The writer of a whole project file from a lent list of sites.
+pub mod course;
+
+ghost use mathlib.Core.Path.{_≡_};
+ghost use lib.ListN.{length};
+ghost use Rattle.header.specs.Header.{headerOf};
+ghost use Rattle.project_writer.specs.Course.{walkCourse, walkBuffer, Walks};
+ghost use Rattle.project_writer.specs.Promise.{WritesProject};
+use crate::course::Course;
+use crate::course::FileAnswer;
+use crate::course::answer_of;
+use crate::course::open;
+use crate::course::step;
+use header::HEADER_LENGTH;
+use header::Header;
+use header::does_admit;
+use site::values::Site;
+
+// The one walk over the sites: each is taken out, and the course goes on with it.
+fn walk(sites: &[Site], buffer: &mut [u8], start: Course) -> Course
+    requires { ⌜ Walks (now sites) start (length (now buffer)) ⌝ }
+    ensures { λ r. ⌜ (r ≡ walkCourse (now (sites .entry)) start) × (now (buffer .exit) ≡ walkBuffer (now (sites .entry)) start (now (buffer .entry))) ⌝ }
+{
+    let mut course = start;
+    let mut i: usize = 0;
+    while i < sites.len() {
+        let site = sites[i];
+        course = step(site, buffer, course);
+        i = i + 1;
+    }
+    course
+}
+
+// Writes the project file of a header's values and a list of sites from the start of the buffer: the count of its bytes. The
+// rest of the buffer, and all of it where the file is refused, stays as it was.
+pub fn write_project(
+    years: u64,
+    segments: u64,
+    crossings: u64,
+    sites: &[Site],
+    buffer: &mut [u8],
+) -> FileAnswer
+    ensures { λ r. ⌜ WritesProject (headerOf years segments crossings) (now (sites .entry)) (now (buffer .entry)) (now (buffer .exit)) r ⌝ }
+{
+    let header = Header {
+        years,
+        segments,
+        crossings,
+    };
+    if !does_admit(header, sites.len()) {
+        return FileAnswer::OutsideLimits;
+    }
+    let measured = walk(sites, buffer, Course::Measured(0, HEADER_LENGTH));
+    let opened = open(header, sites.len(), buffer, measured);
+    answer_of(walk(sites, buffer, opened))
+}

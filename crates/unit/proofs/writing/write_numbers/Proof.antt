@@ -1,0 +1,69 @@
+-- The limits, then the whole course.
+use borrow.Author.Needs.{needs}
+use borrow.Author.Tests.{not-true, not-false}
+use mathlib.Core.Path.{_≡_, sym, _∙_}
+use mathlib.Core.Bool.{true}
+use lib.ListN.{length}
+use Rattle.header.specs.Header.{admits}
+use Rattle.project_writer.specs.WholeCourse.{limits-refused, measuring, opening, writing, whole-course}
+use Rattle.unit.specs.FileNumbers.{sitesGiven}
+use Rattle.unit.specs.Given.{given-count}
+use Rattle.unit.proofs.writing.write_numbers.Statement.{statement}
+use Rattle.unit.proofs.writing.write_numbers.Tie as tie
+
+-- the count is that of the sites, and the header admits it
+counted : (c : tie.After-count-sites) → let args = c .before .before .before .args in
+    c .count-sites .result ≡ length (sitesGiven (args .numbers .now))
+counted c = c .count-sites .ensures ∙ sym (given-count _)
+
+admitted : (c : tie.After-does-admit) → let args = c .before .before .before .before .args in
+    c .does-admit .result ≡ admits (args .header) (length (sitesGiven (args .numbers .now)))
+admitted c = rw (counted (c .before)) at (c .does-admit .ensures)
+
+within : (c : tie.Else1) → let admit = c .before in let args = admit .before .before .before .before .args in
+    admits (args .header) (length (sitesGiven (args .numbers .now))) ≡ true
+within c = sym (admitted (c .before)) ∙ not-false (c .before .does-admit .result) (c .if1 .left)
+
+returns : tie.Need-returns
+returns c = limits-refused _ _ _ (sym (admitted (c .before)) ∙ not-true (c .before .does-admit .result) (c .if1 .taken))
+
+walk-numbers-requires : tie.Need-walk-numbers-requires
+walk-numbers-requires c κs =
+    let admit = c .before .before in
+    let args = admit .before .before .before .before .args in
+    measuring (args .header) (sitesGiven (args .numbers .now)) (args .buffer .now) (within (c .before))
+
+open-requires : tie.Need-open-requires
+open-requires c κs =
+    let walk = c .before .before .before in
+    let limits = walk .before .before in
+    rw (counted (limits .before .before)) (opening _ _ _ (within limits) _ _ (walk .walk-numbers .ensures))
+
+walk-numbers-requires-2 : tie.Need-walk-numbers-requires-2
+walk-numbers-requires-2 c κs =
+    let tried = c .before .before .before in
+    let walk = tried .before .before .before .before in
+    let limits = walk .before .before in
+    let opened = rw (counted (limits .before .before)) at (tried .«open» .ensures) in
+    writing _ _ _ (within limits) _ _ (walk .walk-numbers .ensures) _ _ opened
+
+returns-2 : tie.Need-returns-2
+returns-2 c =
+    let put = c .before .before .before in
+    let tried = put .before .before .before .before in
+    let walk = tried .before .before .before .before in
+    let limits = walk .before .before in
+    let opened = rw (counted (limits .before .before)) at (tried .«open» .ensures) in
+    whole-course _ _ _ (within limits) _ _ (walk .walk-numbers .ensures) _ _ opened _ _ _ (put .walk-numbers2 .ensures) (c .answer-of .ensures)
+
+pub write-numbers-spec : {M : Type 1} → statement M
+write-numbers-spec =
+    tie.close
+    (tie.spec
+    (λ c κs. search needs) (λ c κs. search needs)
+    returns
+    walk-numbers-requires
+    open-requires
+    walk-numbers-requires-2
+    (λ c κs. search needs) (λ c. search needs)
+    returns-2)

@@ -1,0 +1,102 @@
+// The project writer for programs in other languages. The sites are one run of numbers, each site's 21 behind the last's, as
+// crash_site_write takes them.
+ghost use mathlib.Core.Path.{_≡_};
+ghost use lib.ListN.{length};
+ghost use Rattle.header.specs.Header.{headerOf};
+ghost use Rattle.project_writer.specs.Course.{walkCourse, walkBuffer, Walks};
+ghost use Rattle.project_writer.specs.Promise.{WritesProject};
+ghost use Rattle.unit.specs.FileNumbers.{siteCount, sitesGiven, WritesFile};
+use crate::sites::SITE_NUMBERS;
+use crate::sites::site_from;
+use header::HEADER_LENGTH;
+use header::Header;
+use header::does_admit;
+use project_writer::course::Course;
+use project_writer::course::FileAnswer;
+use project_writer::course::answer_of;
+use project_writer::course::open;
+use project_writer::course::step;
+
+// A site for each 21 numbers, and one for a rest of fewer.
+fn count_sites(numbers: usize) -> usize
+    ensures { λ r. ⌜ r ≡ siteCount numbers ⌝ }
+{
+    let whole = numbers / SITE_NUMBERS;
+    if whole * SITE_NUMBERS < numbers {
+        return whole + 1;
+    }
+    whole
+}
+
+// The one walk over the sites: each is taken out of the numbers, and the course goes on with it.
+fn walk_numbers(numbers: &[u64], buffer: &mut [u8], start: Course) -> Course
+    requires { ⌜ Walks (sitesGiven (now numbers)) start (length (now buffer)) ⌝ }
+    ensures { λ r. ⌜ r ≡ walkCourse (sitesGiven (now (numbers .entry))) start ⌝ }
+    ensures { λ r. ⌜ now (buffer .exit) ≡ walkBuffer (sitesGiven (now (numbers .entry))) start (now (buffer .entry)) ⌝ }
+{
+    let sites = count_sites(numbers.len());
+    let mut course = start;
+    let mut i: usize = 0;
+    while i < sites {
+        let at = SITE_NUMBERS * i;
+        let site = site_from(&numbers[at..]);
+        course = step(site, buffer, course);
+        i += 1;
+    }
+    course
+}
+
+// Header limits, then each site, then the space; then the file is written.
+fn write_numbers(header: Header, numbers: &[u64], buffer: &mut [u8]) -> FileAnswer
+    ensures { λ r. ⌜ WritesProject header (sitesGiven (now (numbers .entry))) (now (buffer .entry)) (now (buffer .exit)) r ⌝ }
+{
+    let sites = count_sites(numbers.len());
+    if !does_admit(header, sites) {
+        return FileAnswer::OutsideLimits;
+    }
+    let measured = walk_numbers(numbers, buffer, Course::Measured(0, HEADER_LENGTH));
+    let opened = open(header, sites, buffer, measured);
+    answer_of(walk_numbers(numbers, buffer, opened))
+}
+
+// Writes the project file of a header's values and a run of sites from the start of the buffer: 0, with the count of its bytes
+// in value and the rest of the buffer as it was; or 4 where years, a calibration or the count of sites is outside its limits,
+// then 8 where a site is outside its range, with the index of the first such site in value, then 10 where the buffer is shorter
+// than the file, and the buffer as it was. With 4 and 10 value is 0. A site is 21 numbers of sites, as crash_site_write takes
+// it, and a rest of fewer is a site outside its range.
+#[no_mangle]
+pub extern "C" fn crash_project_write(
+    years: u64,
+    segments: u64,
+    crossings: u64,
+    sites: &[u64],
+    buffer: &mut [u8],
+    value: &mut u64,
+) -> u64
+    ensures { λ r. ⌜ WritesFile (headerOf years segments crossings) (now (sites .entry)) (now (buffer .entry)) (now (buffer .exit)) (now (value .exit)) r ⌝ }
+{
+    let header = Header {
+        years,
+        segments,
+        crossings,
+    };
+    let answer = write_numbers(header, sites, buffer);
+    match answer {
+        FileAnswer::Written(n) => {
+            *value = n as u64;
+            0
+        }
+        FileAnswer::OutsideLimits => {
+            *value = 0;
+            4
+        }
+        FileAnswer::OutsideRange(index) => {
+            *value = index as u64;
+            8
+        }
+        FileAnswer::TooShort => {
+            *value = 0;
+            10
+        }
+    }
+}

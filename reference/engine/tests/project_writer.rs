@@ -1,0 +1,396 @@
+//! The exported project writer against the reference: files byte for byte, what
+//! the reader makes of them, refusals in their order, and what a call leaves as
+//! it was.
+
+use engine::lines;
+use engine::program::full_project;
+use engine::projects::{project_into, write_file};
+use engine::sites::{numbers_of, read_into, run_of, SITE_NUMBERS};
+use reference::generate::{
+    damaged_file, damaged_site, header, largest_project, project, site, Random, DAMAGES,
+};
+use reference::project::{self, parse_project, write_project, Header, HEADER, LONGEST_FILE};
+use reference::record::{Refusal, Site};
+use reference::rules::KIND_NAMES;
+use std::fs;
+use std::path::Path;
+
+/// Random lists that are written and read back.
+const LISTS: usize = 5_000;
+
+const MOST_SITES: usize = 1_900;
+
+/// Years and calibrations within their limits, and their greatest numbers.
+const WITHIN: [u64; 3] = [5, 1_100, 900];
+const MOST: [u64; 3] = [10, 9_999, 9_999];
+
+/// More room than any file needs.
+const AMPLE: usize = LONGEST_FILE + 100;
+
+const OUTSIDE_LIMITS: Refusal = Refusal {
+    number: 4,
+    place: 0,
+};
+const TOO_SHORT: Refusal = Refusal {
+    number: 10,
+    place: 0,
+};
+
+fn outside_range(index: usize) -> Refusal {
+    Refusal {
+        number: 8,
+        place: index,
+    }
+}
+
+fn sites(random: &mut Random, count: usize) -> Vec<Site> {
+    (0..count).map(|_| site(random)).collect()
+}
+
+/// Some dozens of sites at most, and now and then up to the most.
+fn list(random: &mut Random) -> Vec<Site> {
+    let count = match random.below(250) {
+        0 => random.below(MOST_SITES + 1),
+        _ => random.below(50),
+    };
+    sites(random, count)
+}
+
+/// The reference's file of a list, which it takes.
+fn file_of(header: [u64; 3], sites: &[Site]) -> Vec<u8> {
+    project::write_file(header, sites, usize::MAX).expect("a list that the reference takes")
+}
+
+/// The header's numbers and the sites' numbers of an accepted file, each site
+/// read by the engine.
+fn read_back(file: &[u8]) -> ([u64; 3], Vec<u64>) {
+    let number = |at: usize| u64::from(u16::from_be_bytes([file[at], file[at + 1]]));
+    let mut run = Vec::new();
+    let mut at = HEADER;
+    while at < file.len() {
+        let mut values = [0; SITE_NUMBERS + 1];
+        assert_eq!(read_into(&file[at..], &mut values), 0);
+        run.extend(&values[..SITE_NUMBERS]);
+        at += values[SITE_NUMBERS] as usize;
+    }
+    assert_eq!(number(6) as usize, run.len() / SITE_NUMBERS);
+    ([file[1].into(), number(2), number(4)], run)
+}
+
+/// The engine's report of a file of so many sites.
+fn report_of(file: &[u8], sites: usize) -> Vec<u64> {
+    let mut report = vec![0; 4 * (sites + 1)];
+    assert_eq!(project_into(file, &mut report), Ok(report.len()));
+    report
+}
+
+/// A list is written as the reference writes it, and the reader takes the file
+/// with the same header, the same sites and the lines of those sites.
+fn assert_written_and_read(header: &Header, sites: &[Site]) {
+    let (numbers, run) = (header.numbers(), run_of(sites));
+    let wanted = file_of(numbers, sites);
+    let file = write_file(numbers, &run, wanted.len() + 9).expect("a list that the engine takes");
+    assert_eq!(file, wanted);
+    assert_eq!(read_back(&file), (numbers, run));
+    let report = report_of(&file, sites.len());
+    assert_eq!(report, report_of(&wanted, sites.len()));
+    assert_eq!(report, lines::report(header, sites));
+}
+
+#[test]
+fn random_lists_are_written_and_read_back() {
+    let mut random = Random::new(61);
+    let mut kinds = [0; KIND_NAMES.len()];
+    let (mut empty, mut longest) = (0, 0);
+    for _ in 0..LISTS {
+        let (header, sites) = (header(&mut random), list(&mut random));
+        assert_written_and_read(&header, &sites);
+        for site in &sites {
+            kinds[usize::from(site.kind)] += 1;
+        }
+        empty += u32::from(sites.is_empty());
+        longest = longest.max(sites.len());
+    }
+    assert!(kinds.iter().all(|count| *count > 20_000), "{kinds:?}");
+    assert!(empty > 20 && longest > 1_000, "{empty} {longest}");
+}
+
+/// An accepted file comes back from its header and its sites in just its room.
+fn assert_reproduced(file: &[u8]) {
+    let (header, run) = read_back(file);
+    let again = write_file(header, &run, file.len());
+    assert!(again.as_deref() == Ok(file), "{file:02x?}");
+}
+
+#[test]
+fn stored_files_are_reproduced() {
+    let root = Path::new(env!("CARGO_MANIFEST_DIR")).join("../..");
+    for path in ["demo/corridor.project", "crates/crash_report/stdin"] {
+        let file = fs::read(root.join(path)).expect("a stored file");
+        assert_eq!(
+            parse_project(&file).map(|project| project.sites.len()),
+            Ok(12)
+        );
+        assert_reproduced(&file);
+    }
+    // Document 01's files of no site and of a signal.
+    let signal = [
+        1, 5, 3, 0xE8, 3, 0xE8, 0, 1, 3, 0, 7, 0x27, 0x10, 3, 0xE8, 0, 5,
+    ];
+    assert_reproduced(&signal);
+    assert_reproduced(&[1, 5, 3, 0xE8, 3, 0xE8, 0, 0]);
+    for sites in [1, 2, MOST_SITES] {
+        assert_reproduced(&full_project(sites));
+    }
+}
+
+#[test]
+fn accepted_files_are_reproduced() {
+    let mut random = Random::new(62);
+    let mut files = vec![write_project(&largest_project(&mut random)).expect("a valid project")];
+    for _ in 0..3_000 {
+        files.push(write_project(&project(&mut random)).expect("a valid project"));
+        files.push(damaged_file(&mut random));
+    }
+    let (valid, all) = (3_001, files.len());
+    files.retain(|file| parse_project(file).is_ok());
+    assert!((valid + 1..all).contains(&files.len()), "{}", files.len());
+    files.iter().for_each(|file| assert_reproduced(file));
+}
+
+/// The ways in which a site's numbers are outside their range: those of a site,
+/// a slot above 65,536, and a kind that is no byte.
+const WAYS: usize = DAMAGES.len() + 2;
+
+/// A number above 65,536 that a number of 16 or of 32 bits would be taken for.
+fn too_large(random: &mut Random, number: u64) -> u64 {
+    let high = random.pick(&[1 << 17, 1 << 32, 1 << 63]);
+    random.pick(&[65_537, high + number, u64::MAX])
+}
+
+/// The numbers of a site that is outside its range in one of the ways.
+fn damaged_numbers(random: &mut Random, way: usize) -> [u64; SITE_NUMBERS] {
+    if let Some(damage) = DAMAGES.get(way) {
+        return numbers_of(&damaged_site(random, *damage));
+    }
+    let mut numbers = numbers_of(&site(random));
+    if way == DAMAGES.len() {
+        let slot = 1 + random.below(SITE_NUMBERS - 1);
+        numbers[slot] = too_large(random, numbers[slot]);
+    } else {
+        numbers[0] += random.pick(&[1 << 8, 1 << 16, 1 << 32, 1 << 63]);
+    }
+    numbers
+}
+
+fn put(run: &mut [u64], index: usize, numbers: &[u64; SITE_NUMBERS]) {
+    run[SITE_NUMBERS * index..][..SITE_NUMBERS].copy_from_slice(numbers);
+}
+
+/// A refusal of sites, whatever room there is.
+fn assert_refused(header: [u64; 3], run: &[u64], refusal: Refusal) {
+    for room in [0, HEADER - 1, HEADER, 200, AMPLE] {
+        let answer = write_file(header, run, room);
+        assert_eq!(answer.err(), Some(refusal), "in {room}");
+    }
+}
+
+#[test]
+fn one_damaged_site_has_its_index() {
+    let mut random = Random::new(63);
+    for way in 0..WAYS {
+        for _ in 0..300 {
+            let count = 1 + random.below(40);
+            let anywhere = random.below(count);
+            let index = random.pick(&[0, count - 1, anywhere]);
+            let mut run = run_of(&sites(&mut random, count));
+            put(&mut run, index, &damaged_numbers(&mut random, way));
+            assert_refused(WITHIN, &run, outside_range(index));
+        }
+    }
+}
+
+#[test]
+fn the_first_of_two_damaged_sites_has_its_index() {
+    let mut random = Random::new(64);
+    for way in 0..WAYS {
+        for later_way in 0..WAYS {
+            for _ in 0..30 {
+                let count = 2 + random.below(40);
+                let first = random.below(count - 1);
+                let later = first + 1 + random.below(count - 1 - first);
+                let mut run = run_of(&sites(&mut random, count));
+                put(&mut run, first, &damaged_numbers(&mut random, way));
+                put(&mut run, later, &damaged_numbers(&mut random, later_way));
+                assert_refused(WITHIN, &run, outside_range(first));
+            }
+        }
+    }
+}
+
+/// Every number of a site, of every kind, set to what no field allows.
+#[test]
+fn every_number_of_a_site_is_tried() {
+    for kind in 0..KIND_NAMES.len() as u8 {
+        let plain = Site::plain(kind, 1_000, 500);
+        for place in 0..SITE_NUMBERS {
+            for wrong in [65_535, 65_537, u64::MAX] {
+                let mut run = run_of(&[plain; 3]);
+                run[SITE_NUMBERS + place] = wrong;
+                assert_refused(WITHIN, &run, outside_range(1));
+            }
+        }
+    }
+}
+
+/// A file is written in its length and in more, and in nothing less.
+fn assert_space(header: [u64; 3], sites: &[Site]) {
+    let (file, run) = (file_of(header, sites), run_of(sites));
+    let length = file.len();
+    for room in [0, 7, 8, length - 2, length - 1] {
+        let wanted = if room < length {
+            Err(TOO_SHORT)
+        } else {
+            Ok(file.clone())
+        };
+        assert_eq!(write_file(header, &run, room), wanted, "{room} of {length}");
+    }
+    for room in [length, length + 1, length + 40] {
+        assert!(write_file(header, &run, room).as_ref() == Ok(&file));
+    }
+}
+
+#[test]
+fn space_of_a_file() {
+    let mut random = Random::new(65);
+    for count in (0..60).chain([500, MOST_SITES]) {
+        for _ in 0..5 {
+            let header = header(&mut random).numbers();
+            assert_space(header, &sites(&mut random, count));
+        }
+    }
+}
+
+#[test]
+fn a_project_of_no_site() {
+    let file = [1, 5, 0x04, 0x4C, 0x03, 0x84, 0, 0];
+    assert_eq!(write_file(WITHIN, &[], HEADER), Ok(file.to_vec()));
+    assert_eq!(write_file(WITHIN, &[], AMPLE), Ok(file.to_vec()));
+    for room in 0..HEADER {
+        assert_eq!(write_file(WITHIN, &[], room), Err(TOO_SHORT));
+    }
+    assert_eq!(report_of(&file, 0), [0; 4]);
+}
+
+#[test]
+fn the_most_sites_and_one_more() {
+    let mut random = Random::new(66);
+    let header = header(&mut random);
+    let many = sites(&mut random, MOST_SITES + 1);
+    assert_written_and_read(&header, &many[..MOST_SITES]);
+    let mut run = run_of(&many);
+    assert_refused(WITHIN, &run, OUTSIDE_LIMITS);
+    for index in [0, MOST_SITES / 2, MOST_SITES - 1, MOST_SITES] {
+        put(&mut run, index, &numbers_of(&Site::empty(0)));
+    }
+    assert_refused(WITHIN, &run, OUTSIDE_LIMITS);
+    assert_refused(WITHIN, &[7; 100 * MOST_SITES], OUTSIDE_LIMITS);
+}
+
+#[test]
+fn a_damaged_site_among_the_most() {
+    let mut random = Random::new(67);
+    for index in [0, 1, MOST_SITES / 2, MOST_SITES - 2, MOST_SITES - 1] {
+        let mut run = run_of(&sites(&mut random, MOST_SITES));
+        put(&mut run, index, &damaged_numbers(&mut random, index % WAYS));
+        assert_refused(WITHIN, &run, outside_range(index));
+    }
+}
+
+/// Numbers at a limit and beyond, also those that a shorter number would be
+/// taken for.
+fn edges(most: u64) -> Vec<u64> {
+    let wide = [1 << 8, 1 << 16, 1 << 32, 1 << 63].map(|high| high + 1);
+    let near = [0, 1, 2, most - 1, most, most + 1, 65_535, u64::MAX];
+    near.into_iter().chain(wide).collect()
+}
+
+#[test]
+fn limits_of_the_header() {
+    let mut random = Random::new(68);
+    let sites = sites(&mut random, 3);
+    let run = run_of(&sites);
+    for (at, most) in MOST.into_iter().enumerate() {
+        for number in edges(most) {
+            let mut header = WITHIN;
+            header[at] = number;
+            if (1..=most).contains(&number) {
+                assert_space(header, &sites);
+            } else {
+                assert_refused(header, &run, OUTSIDE_LIMITS);
+            }
+        }
+    }
+}
+
+/// Of a header outside its limits or too many sites, a damaged site and too
+/// little room, whichever there are, the first is told.
+#[test]
+fn limits_then_sites_then_space() {
+    let mut random = Random::new(69);
+    let sites = sites(&mut random, 20);
+    let (run, length) = (run_of(&sites), file_of(WITHIN, &sites).len());
+    for way in 0..WAYS {
+        let mut damaged = run.clone();
+        put(&mut damaged, 11, &damaged_numbers(&mut random, way));
+        let too_many = damaged.repeat(96);
+        for (run, of_sites) in [
+            (&run, None),
+            (&damaged, Some(outside_range(11))),
+            (&too_many, Some(OUTSIDE_LIMITS)),
+        ] {
+            for header in [WITHIN, [0, 1, 1], [11, 1, 1], [1, 0, 1], [1, 1, 10_000]] {
+                for room in [length, length - 1, 0] {
+                    let of_header = (header != WITHIN).then_some(OUTSIDE_LIMITS);
+                    let of_space = (room < length).then_some(TOO_SHORT);
+                    let wanted = of_header.or(of_sites).or(of_space);
+                    assert_eq!(write_file(header, run, room).err(), wanted);
+                }
+            }
+        }
+    }
+}
+
+/// Fewer numbers than a site's at the end are a site outside its range.
+#[test]
+fn numbers_left_at_the_end() {
+    let mut random = Random::new(70);
+    for whole in [0, 1, 2, 30, MOST_SITES - 1] {
+        let sites = sites(&mut random, whole + 1);
+        let run = run_of(&sites);
+        for rest in 1..SITE_NUMBERS {
+            let mut left = run[..SITE_NUMBERS * whole + rest].to_vec();
+            assert_refused(WITHIN, &left, outside_range(whole));
+            assert_refused([11, 1, 1], &left, OUTSIDE_LIMITS);
+            if whole > 0 {
+                let index = random.below(whole);
+                put(&mut left, index, &damaged_numbers(&mut random, rest % WAYS));
+                assert_refused(WITHIN, &left, outside_range(index));
+            }
+        }
+        assert_space(WITHIN, &sites);
+    }
+}
+
+/// The count of sites is rounded up before its limit is tried.
+#[test]
+fn numbers_left_after_the_most_sites() {
+    let mut random = Random::new(71);
+    let run = run_of(&sites(&mut random, MOST_SITES + 1));
+    for rest in 1..=SITE_NUMBERS {
+        let left = &run[..SITE_NUMBERS * MOST_SITES + rest];
+        assert_refused(WITHIN, left, OUTSIDE_LIMITS);
+    }
+    let most = &run[..SITE_NUMBERS * MOST_SITES];
+    assert!(write_file(WITHIN, most, AMPLE).is_ok());
+}

@@ -1,0 +1,189 @@
+//! The writer of whole project files: accepted files come back from their
+//! header and sites, what is written is read as the same sites, and refusals
+//! come in their order with their places.
+
+use reference::generate::{
+    damaged_file, damaged_site, header, largest_project, project, project_of, site, Random, DAMAGES,
+};
+use reference::project::{parse_project, write_file, write_project, HEADER, LONGEST_FILE};
+use reference::record::{write_site, Refusal, Site};
+use reference::rules::{EDITION, KIND_NAMES, MOST_SITES};
+
+/// Years and calibrations within their limits, and their greatest numbers.
+const WITHIN: [u64; 3] = [5, 1_100, 900];
+const MOST: [u64; 3] = [10, 9_999, 9_999];
+
+const OUTSIDE_LIMITS: Refusal = Refusal {
+    number: 4,
+    place: 0,
+};
+const TOO_SHORT: Refusal = Refusal {
+    number: 10,
+    place: 0,
+};
+
+fn outside_range(index: usize) -> Refusal {
+    Refusal {
+        number: 8,
+        place: index,
+    }
+}
+
+fn sites(random: &mut Random, count: usize) -> Vec<Site> {
+    (0..count).map(|_| site(random)).collect()
+}
+
+/// The file of header numbers and sites, which there is space for.
+fn written(header: [u64; 3], sites: &[Site]) -> Vec<u8> {
+    write_file(header, sites, LONGEST_FILE).expect("a project that the writer takes")
+}
+
+#[test]
+fn accepted_files_come_back_from_their_header_and_sites() {
+    let mut random = Random::new(51);
+    let mut files = vec![write_project(&largest_project(&mut random)).expect("a valid project")];
+    for _ in 0..1_000 {
+        files.push(write_project(&project(&mut random)).expect("a valid project"));
+        files.push(damaged_file(&mut random));
+    }
+    let mut accepted = 0;
+    for file in files {
+        if let Ok(project) = parse_project(&file) {
+            let again = write_file(project.header.numbers(), &project.sites, file.len());
+            assert_eq!(again, Ok(file));
+            accepted += 1;
+        }
+    }
+    assert!(accepted > 1_000);
+}
+
+#[test]
+fn what_is_written_is_read_as_the_same_sites() {
+    let mut random = Random::new(52);
+    let mut kinds = [0; KIND_NAMES.len()];
+    for count in (0..200).chain([usize::from(MOST_SITES)]) {
+        let given = project_of(&mut random, count);
+        let file = written(given.header.numbers(), &given.sites);
+        for site in &given.sites {
+            kinds[usize::from(site.kind)] += 1;
+        }
+        assert_eq!(parse_project(&file), Ok(given));
+    }
+    assert!(kinds.iter().all(|count| *count > 1_000), "{kinds:?}");
+}
+
+/// The header as document 01 lays it out, and the records of the site writer.
+#[test]
+fn a_file_is_its_header_and_its_records() {
+    let mut random = Random::new(53);
+    let sites = sites(&mut random, 300);
+    let mut wanted = vec![1, 5, 0x04, 0x4C, 0x03, 0x84, 0x01, 0x2C];
+    for site in &sites {
+        wanted.extend(write_site(site, usize::MAX).expect("a site that the writer takes"));
+    }
+    assert_eq!(written(WITHIN, &sites), wanted);
+    assert_eq!(written(WITHIN, &[]), [1, 5, 0x04, 0x4C, 0x03, 0x84, 0, 0]);
+}
+
+#[test]
+fn limits_of_the_header() {
+    for (at, most) in MOST.into_iter().enumerate() {
+        let wide = [1 << 8, 1 << 16, 1 << 32, 1 << 63].map(|high| high + 1);
+        let edges = [0, 1, most, most + 1, u64::MAX];
+        for number in edges.into_iter().chain(wide) {
+            let mut header = WITHIN;
+            header[at] = number;
+            let answer = write_file(header, &[], HEADER);
+            let is_within = (1..=most).contains(&number);
+            let wanted = is_within.then(|| written(header, &[]));
+            assert_eq!(answer, wanted.ok_or(OUTSIDE_LIMITS), "{header:?}");
+        }
+    }
+}
+
+#[test]
+fn limit_of_the_count_of_sites() {
+    let sites = vec![Site::plain(0, 1_000, 500); 1_901];
+    assert_eq!(
+        write_file(WITHIN, &sites[..1_900], LONGEST_FILE).map(|file| file.len()),
+        Ok(8 + 1_900 * 7)
+    );
+    for room in [0, LONGEST_FILE] {
+        assert_eq!(write_file(WITHIN, &sites, room), Err(OUTSIDE_LIMITS));
+    }
+}
+
+#[test]
+fn every_damage_is_outside_its_range() {
+    let mut random = Random::new(54);
+    for damage in DAMAGES {
+        for _ in 0..2_000 {
+            let site = damaged_site(&mut random, damage);
+            assert_eq!(write_site(&site, 0), Err(8), "{damage:?} {site:?}");
+        }
+    }
+}
+
+/// The first damaged site counts, whatever follows it and however little space
+/// there is.
+#[test]
+fn the_first_damaged_site_has_its_index() {
+    let mut random = Random::new(55);
+    for damage in DAMAGES {
+        for _ in 0..200 {
+            let count = 1 + random.below(30);
+            let mut sites = sites(&mut random, count);
+            let first = random.below(count);
+            let later = first + random.below(count - first);
+            sites[later] = damaged_site(&mut random, damage);
+            sites[first] = damaged_site(&mut random, damage);
+            for room in [0, HEADER, LONGEST_FILE] {
+                let answer = write_file(WITHIN, &sites, room);
+                assert_eq!(answer, Err(outside_range(first)), "{damage:?}");
+            }
+        }
+    }
+}
+
+#[test]
+fn a_file_needs_just_its_length() {
+    let mut random = Random::new(56);
+    for count in 0..60 {
+        let sites = sites(&mut random, count);
+        let header = header(&mut random).numbers();
+        let file = written(header, &sites);
+        for room in [0, HEADER - 1, file.len() - 2, file.len() - 1] {
+            assert_eq!(write_file(header, &sites, room), Err(TOO_SHORT));
+        }
+        assert_eq!(write_file(header, &sites, file.len()), Ok(file));
+    }
+}
+
+#[test]
+fn limits_then_sites_then_space() {
+    let good = Site::plain(0, 1_000, 500);
+    let bad = Site::empty(0);
+    let (outside, few) = ([0, 1_100, 900], [good, bad, bad]);
+    let many = vec![bad; 1_901];
+    assert_eq!(write_file(outside, &few, 0), Err(OUTSIDE_LIMITS));
+    assert_eq!(write_file(outside, &few[..1], 0), Err(OUTSIDE_LIMITS));
+    assert_eq!(write_file(WITHIN, &many, 0), Err(OUTSIDE_LIMITS));
+    assert_eq!(write_file(WITHIN, &many[1..], 0), Err(outside_range(0)));
+    assert_eq!(write_file(WITHIN, &few, 0), Err(outside_range(1)));
+    assert_eq!(write_file(WITHIN, &few[..1], 0), Err(TOO_SHORT));
+}
+
+/// The edition is tried before all else where a project has one.
+#[test]
+fn another_edition_is_not_written() {
+    let mut random = Random::new(57);
+    let mut project = project_of(&mut random, 3);
+    assert_eq!(project.header.edition, EDITION);
+    project.header.edition = 2;
+    project.header.years = 0;
+    let refusal = Refusal {
+        number: 3,
+        place: 0,
+    };
+    assert_eq!(write_project(&project), Err(refusal));
+}
