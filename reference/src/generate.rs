@@ -73,6 +73,10 @@ pub fn site(random: &mut Random) -> Site {
     site_of(random, kind, curve)
 }
 
+pub fn sites(random: &mut Random, count: usize) -> Vec<Site> {
+    (0..count).map(|_| site(random)).collect()
+}
+
 /// A site of a kind, on a curve or straight.
 fn site_of(random: &mut Random, kind: u8, curve: bool) -> Site {
     let mut site = Site::empty(kind);
@@ -208,11 +212,19 @@ pub fn header(random: &mut Random) -> Header {
     }
 }
 
+/// Numbers at a limit and beyond, also those that a shorter number would be
+/// taken for.
+pub fn edges(most: u64) -> Vec<u64> {
+    let wide = [1 << 8, 1 << 16, 1 << 32, 1 << 63].map(|high| high + 1);
+    let near = [0, 1, 2, most - 1, most, most + 1, 65_535, u64::MAX];
+    near.into_iter().chain(wide).collect()
+}
+
 /// A project with this many sites.
-pub fn project_of(random: &mut Random, sites: usize) -> Project {
+pub fn project_of(random: &mut Random, count: usize) -> Project {
     Project {
         header: header(random),
-        sites: (0..sites).map(|_| site(random)).collect(),
+        sites: sites(random, count),
     }
 }
 

@@ -21,6 +21,13 @@ pub struct Header {
 }
 
 impl Header {
+    /// The greatest of a header's numbers; the least are 1.
+    pub const MOST: [u64; 3] = [
+        MOST_YEARS as u64,
+        MOST_CALIBRATION as u64,
+        MOST_CALIBRATION as u64,
+    ];
+
     /// Years, segment calibration and crossing calibration, as a writer takes
     /// them.
     pub fn numbers(&self) -> [u64; 3] {
@@ -51,7 +58,7 @@ impl Project {
 }
 
 fn refuse<T>(number: u8, place: usize) -> Result<T, Refusal> {
-    Err(Refusal { number, place })
+    Err(Refusal::of(number, place))
 }
 
 fn limits_kept(header: &Header, sites: usize) -> bool {
@@ -90,8 +97,7 @@ pub fn parse_project(file: &[u8]) -> Result<Project, Refusal> {
     let mut sites = Vec::with_capacity(count);
     let mut at = HEADER;
     for _ in 0..count {
-        let (site, length) =
-            read_site(&file[at..]).map_err(|number| Refusal { number, place: at })?;
+        let (site, length) = read_site(&file[at..]).map_err(|number| Refusal::of(number, at))?;
         sites.push(site);
         at += length;
     }
@@ -140,10 +146,7 @@ pub fn write_file(header: [u64; 3], sites: &[Site], room: usize) -> Result<Vec<u
     };
     let mut file = encode_header(&header, sites.len() as u16);
     for (index, site) in sites.iter().enumerate() {
-        let record = write_site(site, usize::MAX).map_err(|number| Refusal {
-            number,
-            place: index,
-        })?;
+        let record = write_site(site, usize::MAX).map_err(|number| Refusal::of(number, index))?;
         file.extend(record);
     }
     if room < file.len() {

@@ -17,6 +17,10 @@ impl fmt::Display for Refusal {
 }
 
 impl Refusal {
+    pub const fn of(number: u8, place: usize) -> Refusal {
+        Refusal { number, place }
+    }
+
     /// The refusal as a command tells it: the place is a byte of the file.
     pub fn in_words(&self) -> String {
         let cause = CAUSES.iter().find(|(number, _)| *number == self.number);

@@ -85,13 +85,7 @@ fn the_empty_project_has_four_totals() {
     let project = parse_project(&EMPTY).expect("document 01 accepts it");
     assert_eq!(project.report_length(), 4);
     assert!(read_project(&EMPTY, 4).is_ok());
-    assert_eq!(
-        read_project(&EMPTY, 3),
-        Err(Refusal {
-            number: 10,
-            place: 0
-        })
-    );
+    assert_eq!(read_project(&EMPTY, 3), Err(Refusal::of(10, 0)));
 }
 
 #[test]
@@ -105,13 +99,7 @@ fn the_signal_is_accepted_and_its_spelled_default_is_not() {
     assert_eq!(project.sites, [wanted]);
     file[head + 2] = 0x17;
     file.extend([0, 0]);
-    assert_eq!(
-        parse_project(&file),
-        Err(Refusal {
-            number: 9,
-            place: 8
-        })
-    );
+    assert_eq!(parse_project(&file), Err(Refusal::of(9, 8)));
 }
 
 #[test]

@@ -3,35 +3,18 @@
 //! come in their order with their places.
 
 use reference::generate::{
-    damaged_file, damaged_site, header, largest_project, project, project_of, site, Random, DAMAGES,
+    damaged_file, damaged_site, edges, header, largest_project, project, project_of, sites, Random,
+    DAMAGES,
 };
-use reference::project::{parse_project, write_file, write_project, HEADER, LONGEST_FILE};
+use reference::project::{parse_project, write_file, write_project, Header, HEADER, LONGEST_FILE};
 use reference::record::{write_site, Refusal, Site};
 use reference::rules::{EDITION, KIND_NAMES, MOST_SITES};
 
-/// Years and calibrations within their limits, and their greatest numbers.
+/// Years and calibrations within their limits.
 const WITHIN: [u64; 3] = [5, 1_100, 900];
-const MOST: [u64; 3] = [10, 9_999, 9_999];
 
-const OUTSIDE_LIMITS: Refusal = Refusal {
-    number: 4,
-    place: 0,
-};
-const TOO_SHORT: Refusal = Refusal {
-    number: 10,
-    place: 0,
-};
-
-fn outside_range(index: usize) -> Refusal {
-    Refusal {
-        number: 8,
-        place: index,
-    }
-}
-
-fn sites(random: &mut Random, count: usize) -> Vec<Site> {
-    (0..count).map(|_| site(random)).collect()
-}
+const OUTSIDE_LIMITS: Refusal = Refusal::of(4, 0);
+const TOO_SHORT: Refusal = Refusal::of(10, 0);
 
 /// The file of header numbers and sites, which there is space for.
 fn written(header: [u64; 3], sites: &[Site]) -> Vec<u8> {
@@ -87,10 +70,8 @@ fn a_file_is_its_header_and_its_records() {
 
 #[test]
 fn limits_of_the_header() {
-    for (at, most) in MOST.into_iter().enumerate() {
-        let wide = [1 << 8, 1 << 16, 1 << 32, 1 << 63].map(|high| high + 1);
-        let edges = [0, 1, most, most + 1, u64::MAX];
-        for number in edges.into_iter().chain(wide) {
+    for (at, most) in Header::MOST.into_iter().enumerate() {
+        for number in edges(most) {
             let mut header = WITHIN;
             header[at] = number;
             let answer = write_file(header, &[], HEADER);
@@ -139,7 +120,7 @@ fn the_first_damaged_site_has_its_index() {
             sites[first] = damaged_site(&mut random, damage);
             for room in [0, HEADER, LONGEST_FILE] {
                 let answer = write_file(WITHIN, &sites, room);
-                assert_eq!(answer, Err(outside_range(first)), "{damage:?}");
+                assert_eq!(answer, Err(Refusal::of(8, first)), "{damage:?}");
             }
         }
     }
@@ -168,8 +149,8 @@ fn limits_then_sites_then_space() {
     assert_eq!(write_file(outside, &few, 0), Err(OUTSIDE_LIMITS));
     assert_eq!(write_file(outside, &few[..1], 0), Err(OUTSIDE_LIMITS));
     assert_eq!(write_file(WITHIN, &many, 0), Err(OUTSIDE_LIMITS));
-    assert_eq!(write_file(WITHIN, &many[1..], 0), Err(outside_range(0)));
-    assert_eq!(write_file(WITHIN, &few, 0), Err(outside_range(1)));
+    assert_eq!(write_file(WITHIN, &many[1..], 0), Err(Refusal::of(8, 0)));
+    assert_eq!(write_file(WITHIN, &few, 0), Err(Refusal::of(8, 1)));
     assert_eq!(write_file(WITHIN, &few[..1], 0), Err(TOO_SHORT));
 }
 
@@ -181,9 +162,5 @@ fn another_edition_is_not_written() {
     assert_eq!(project.header.edition, EDITION);
     project.header.edition = 2;
     project.header.years = 0;
-    let refusal = Refusal {
-        number: 3,
-        place: 0,
-    };
-    assert_eq!(write_project(&project), Err(refusal));
+    assert_eq!(write_project(&project), Err(Refusal::of(3, 0)));
 }

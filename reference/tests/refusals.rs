@@ -31,7 +31,7 @@ fn after_segment(sites: u16, rest: &[u8]) -> Vec<u8> {
 const SECOND: usize = 8 + 7;
 
 fn refused(file: &[u8], number: u8, place: usize) {
-    assert_eq!(parse_project(file), Err(Refusal { number, place }));
+    assert_eq!(parse_project(file), Err(Refusal::of(number, place)));
 }
 
 /// The second record of a file and the record alone are refused alike.
@@ -211,17 +211,9 @@ fn fields_are_tried_in_rising_order() {
 fn ten_comes_last() {
     let file = after_segment(1, &[]);
     assert!(read_project(&file, 8).is_ok());
-    let short = Refusal {
-        number: 10,
-        place: 0,
-    };
-    assert_eq!(read_project(&file, 7), Err(short));
+    assert_eq!(read_project(&file, 7), Err(Refusal::of(10, 0)));
     let extra = after_segment(1, &[0]);
-    let after = Refusal {
-        number: 2,
-        place: SECOND,
-    };
-    assert_eq!(read_project(&extra, 0), Err(after));
+    assert_eq!(read_project(&extra, 0), Err(Refusal::of(2, SECOND)));
 }
 
 #[test]

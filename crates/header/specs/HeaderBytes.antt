@@ -21,35 +21,31 @@ pub record HeaderRead (header : Header) (sites : ℕ) (s : List ℕ) : Type 0 wh
   pub count-is : countIn s ≡ sites
   pub accepted : HeaderAccepted s
 
-module _ (header : Header) (sites : ℕ) where
-  pub header-length : length (headerBytes header sites) ≡ headerLength
-  header-length = refl
+module _ (header : Header) (sites : ℕ) (e : admits header sites ≡ true) where
+  -- values within their limits are read as they were written, whatever follows them
+  pub written-header : (rest : List ℕ) → HeaderRead header sites (headerBytes header sites ++ rest)
+  written-header rest =
+      let a = admitted header sites e in
+      let header-same : headerIn (headerBytes header sites ++ rest) ≡ header = rw (two-bytes (header .segments), two-bytes (header .crossings)) in
+      let count-same : countIn (headerBytes header sites ++ rest) ≡ sites = two-bytes sites in
+      record {
+        header-is = header-same;
+        count-is = count-same;
+        accepted = record { long = omega arith; edition = refl; limits = rw header-same (a .limits); few = omega (arith, count-same, a .few) };
+      }
 
-  module _ (e : admits header sites ≡ true) where
-    -- values within their limits are read as they were written, whatever follows them
-    pub written-header : (rest : List ℕ) → HeaderRead header sites (headerBytes header sites ++ rest)
-    written-header rest =
-        let a = admitted header sites e in
-        let header-same : headerIn (headerBytes header sites ++ rest) ≡ header = rw (two-bytes (header .segments), two-bytes (header .crossings)) in
-        let count-same : countIn (headerBytes header sites ++ rest) ≡ sites = two-bytes sites in
-        record {
-          header-is = header-same;
-          count-is = count-same;
-          accepted = record { long = omega arith; edition = refl; limits = rw header-same (a .limits); few = omega (arith, count-same, a .few) };
-        }
-
-    -- they fit their bytes
-    pub header-bytes : Bytes (headerBytes header sites)
-    header-bytes =
-        let a = admitted header sites e in
-        let segments = twoBytes (header .segments) in
-        let crossings = twoBytes (header .crossings) in
-        let fits = two-bytes-of (header .segments) (omega (arith, a .within)) in
-        let fits′ = two-bytes-of (header .crossings) (omega (arith, a .within)) in
-        let later = bytes-append crossings (twoBytes sites) fits′ (two-bytes-of sites (omega (arith, a .few))) in
-        let words = bytes-append segments (crossings ++ twoBytes sites) fits later in
-        let years = bytes-cons (header .years) (segments ++ crossings ++ twoBytes sites) (omega (arith, a .within)) words in
-        bytes-cons firstEdition (header .years ∷ (segments ++ crossings ++ twoBytes sites)) (omega arith) years
+  -- they fit their bytes
+  pub header-bytes : Bytes (headerBytes header sites)
+  header-bytes =
+      let a = admitted header sites e in
+      let segments = twoBytes (header .segments) in
+      let crossings = twoBytes (header .crossings) in
+      let fits = two-bytes-of (header .segments) (omega (arith, a .within)) in
+      let fits′ = two-bytes-of (header .crossings) (omega (arith, a .within)) in
+      let later = bytes-append crossings (twoBytes sites) fits′ (two-bytes-of sites (omega (arith, a .few))) in
+      let words = bytes-append segments (crossings ++ twoBytes sites) fits later in
+      let years = bytes-cons (header .years) (segments ++ crossings ++ twoBytes sites) (omega (arith, a .within)) words in
+      bytes-cons firstEdition (header .years ∷ (segments ++ crossings ++ twoBytes sites)) (omega arith) years
 
 -- an accepted header is written back as the same bytes
 pub header-again : (s : List ℕ) → Bytes s → HeaderAccepted s → headerBytes (headerIn s) (countIn s) ≡ take headerLength s

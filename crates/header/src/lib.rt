@@ -76,7 +76,7 @@ pub fn is_in_limits(header: Header) -> bool
     is_up_to(MOST_CALIBRATION, header.crossings)
 }
 
-// Whether the count of sites is too.
+// Whether years, calibrations and the count of sites are within their limits.
 pub fn does_admit(header: Header, sites: usize) -> bool
     ensures { λ r. ⌜ r ≡ admits header sites ⌝ }
 {

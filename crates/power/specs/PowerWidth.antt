@@ -4,7 +4,7 @@ use native.Mathlib.Nat.{mul-le-mul, mul-le-mul-left, mul-le-mul-right, le-of-mul
 use native.Mathlib.Omega.{arith}
 use Rattle.wide.specs.Scaling.{floor, ceiling}
 use Rattle.wide.specs.Rounding.{floor-le, floor-lt, ceiling-ge, ceiling-lt}
-use Rattle.remainder.specs.Quotient.{RoundedDown, RoundedUp, at-most}
+use Rattle.laws.specs.Quotient.{RoundedDown, RoundedUp, at-most}
 
 pub floor-rounded : (a n d : ℕ) → 0 < d → RoundedDown (a * n) d (floor a n d)
 floor-rounded a n d h = record { below = floor-le a n d; near = floor-lt a n d h }

@@ -1,4 +1,4 @@
--- Why the project writer answers as it does: what is so of the header's values, the sites and the space, apart from any test.
+-- Why the project writer answers as it does: what is so of the header's values, the sites and the space.
 use mathlib.Core.Path.{_≡_}
 use mathlib.Core.Bool.{true}
 use mathlib.Core.List.{List}
@@ -8,8 +8,6 @@ use Rattle.site.specs.declared.values.Site.{Site}
 use Rattle.site.specs.Writing.{Valid}
 use Rattle.header.specs.declared.Header.{Header}
 use Rattle.header.specs.Header.{inLimits, mostSites}
-use Rattle.project_writer.specs.declared.course.FileAnswer.{FileAnswer}
-use Rattle.project_writer.specs.declared.course.FileAnswer.the-variants.{Written, OutsideLimits, OutsideRange, TooShort}
 use Rattle.project_writer.specs.ProjectFile.{fileOf}
 
 -- "Header limits": document 01's, of years, calibrations and sites
@@ -31,9 +29,10 @@ pub record Writable (header : Header) (sites : List Site) : Type 0 where
   pub limits : LimitsKept header sites
   pub valid : ValidBelow sites (length sites)
 
--- "Header limits are tried first, then each site, then the space": what each answer says of them
-abbrev pub FileTells : Header → List Site → (room : ℕ) → FileAnswer → Type 0
-FileTells header sites room (Written n) = Writable header sites × (length (fileOf header sites) ≤ room) × (n ≡ length (fileOf header sites))
-FileTells header sites room OutsideLimits = LimitsKept header sites → ⊥
-FileTells header sites room (OutsideRange index) = LimitsKept header sites × FirstOutside sites index
-FileTells header sites room TooShort = Writable header sites × (room < length (fileOf header sites))
+-- "Header limits are tried first, then each site, then the space": each number and its place, or 0 and the count of bytes, with what
+-- is so of them
+pub data FileCause (header : Header) (sites : List Site) (room : ℕ) : (number value : ℕ) → Type 0 where
+  limits-broken : (LimitsKept header sites → ⊥) → FileCause header sites room 4 0
+  site-outside : {index : ℕ} → LimitsKept header sites → FirstOutside sites index → FileCause header sites room 8 index
+  space-short : Writable header sites → room < length (fileOf header sites) → FileCause header sites room 10 0
+  file-fits : Writable header sites → length (fileOf header sites) ≤ room → FileCause header sites room 0 (length (fileOf header sites))

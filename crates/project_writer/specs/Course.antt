@@ -38,15 +38,15 @@ walkBuffer [] course buffer = buffer
 walkBuffer (site ∷ sites) course buffer = walkBuffer sites (stepCourse site course) (stepBuffer site course buffer)
 
 -- the space test, and the header
-abbrev pub openCourse : Course → (room : ℕ) → Course
-openCourse (Measured sites n) room = cond (leb n room) (Placed headerLength) (Stopped TooShort)
-openCourse (Placed at) room = Placed at
-openCourse (Stopped answer) room = Stopped answer
+abbrev pub begunCourse : Course → (room : ℕ) → Course
+begunCourse (Measured sites n) room = cond (leb n room) (Placed headerLength) (Stopped TooShort)
+begunCourse (Placed at) room = Placed at
+begunCourse (Stopped answer) room = Stopped answer
 
-abbrev pub openBuffer : Header → (sites : ℕ) → Course → List ℕ → List ℕ
-openBuffer header count (Measured sites n) buffer = cond (leb n (length buffer)) (sets buffer 0 (headerBytes header count)) buffer
-openBuffer header count (Placed at) buffer = buffer
-openBuffer header count (Stopped answer) buffer = buffer
+abbrev pub begunBuffer : Header → (sites : ℕ) → Course → List ℕ → List ℕ
+begunBuffer header count (Measured sites n) buffer = cond (leb n (length buffer)) (sets buffer 0 (headerBytes header count)) buffer
+begunBuffer header count (Placed at) buffer = buffer
+begunBuffer header count (Stopped answer) buffer = buffer
 
 abbrev pub courseAnswer : Course → FileAnswer
 courseAnswer (Measured sites n) = TooShort
@@ -61,7 +61,7 @@ Walks sites (Placed at) room = (soundSites sites ≡ length sites) × (at + leng
 Walks sites (Stopped answer) room = Unit
 
 -- what the space test needs: a header within its limits, and a measure that counts it
-abbrev pub Opens : Header → (sites : ℕ) → Course → Type 0
-Opens header count (Measured sites n) = (admits header count ≡ true) × (headerLength ≤ n)
-Opens header count (Placed at) = Unit
-Opens header count (Stopped answer) = Unit
+abbrev pub Begins : Header → (sites : ℕ) → Course → Type 0
+Begins header count (Measured sites n) = (admits header count ≡ true) × (headerLength ≤ n)
+Begins header count (Placed at) = Unit
+Begins header count (Stopped answer) = Unit

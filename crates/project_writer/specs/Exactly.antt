@@ -3,7 +3,7 @@ use mathlib.Core.Path.{_≡_, refl, ap, sym, subst}
 use mathlib.Core.Bool.{Bool, true, false, cond}
 use mathlib.Core.List.{List}
 use mathlib.Core.Logic.{_↔_}
-use Prim.Native.Nat.{ℕ, _+_}
+use Prim.Native.Nat.{ℕ, _+_, _<_, _≤_}
 use native.Mathlib.Omega.{arith}
 use lib.ListN.{length}
 use lib.Dec.{leb, ltb}
@@ -15,16 +15,23 @@ use Rattle.header.specs.Header.{admits, headerLength}
 use Rattle.header.specs.HeaderLaws.{admitted, admits-both}
 use Rattle.project_writer.specs.declared.course.FileAnswer.{FileAnswer}
 use Rattle.project_writer.specs.declared.course.FileAnswer.the-variants.{Written, OutsideLimits, OutsideRange, TooShort}
-use Rattle.project_writer.specs.ProjectFile.{recordsOf, fileOf, soundSites, fileAnswer}
-use Rattle.project_writer.specs.Causes.{LimitsKept, Writable, FileTells}
+use Rattle.project_writer.specs.ProjectFile.{recordsOf, fileOf, soundSites, fileAnswer, fileNumber, fileValue}
+use Rattle.project_writer.specs.Causes.{LimitsKept, FirstOutside, Writable, FileCause, limits-broken, site-outside, space-short, file-fits}
 use Rattle.project_writer.specs.Sound.{none-outside, all-valid-exactly, first-outside, outside-sound}
+
+-- what each answer says of the header's values, the sites and the space
+abbrev pub FileTells : Header → List Site → (room : ℕ) → FileAnswer → Type 0
+FileTells header sites room (Written n) = Writable header sites × (length (fileOf header sites) ≤ room) × (n ≡ length (fileOf header sites))
+FileTells header sites room OutsideLimits = LimitsKept header sites → ⊥
+FileTells header sites room (OutsideRange index) = LimitsKept header sites × FirstOutside sites index
+FileTells header sites room TooShort = Writable header sites × (room < length (fileOf header sites))
 
 module _ (header : Header) (sites : List Site) where
   pub file-length : length (fileOf header sites) ≡ headerLength + length (recordsOf sites)
   unfolding fileOf
   file-length = omega arith
 
-  -- limits that are kept pass the test, and so do the sites of a file that neither forbids
+  -- what passes the tests of the limits and of the sites, and the converse
   pub limits-kept : admits header (length sites) ≡ true → LimitsKept header sites
   limits-kept e = let a = admitted header (length sites) e in (a .limits, a .few)
 
@@ -69,3 +76,25 @@ module _ (header : Header) (sites : List Site) where
     -- EXACTLY WHERE
     pub answer-exactly : (answer : FileAnswer) → (fileAnswer header sites room ≡ answer) ↔ FileTells header sites room answer
     answer-exactly answer = (λ e. subst (FileTells header sites room) e answer-tells, tells-answer answer)
+
+    cause-told : (answer : FileAnswer) → FileTells header sites room answer → FileCause header sites room (fileNumber answer) (fileValue answer)
+    cause-told (Written n) t = rw (t .2) (file-fits (t .0) (t .1))
+    cause-told OutsideLimits t = limits-broken t
+    cause-told (OutsideRange index) t = site-outside (t .0) (t .1)
+    cause-told TooShort t = space-short (t .0) (t .1)
+
+    pub cause-of : FileCause header sites room (fileNumber (fileAnswer header sites room)) (fileValue (fileAnswer header sites room))
+    cause-of = cause-told (fileAnswer header sites room) answer-tells
+
+    numbers-of : {number value : ℕ} → FileCause header sites room number value
+        → (fileNumber (fileAnswer header sites room) ≡ number) × (fileValue (fileAnswer header sites room) ≡ value)
+    numbers-of (limits-broken h) = rw (tells-answer OutsideLimits h) (refl, refl)
+    numbers-of (site-outside {index} l f) = rw (tells-answer (OutsideRange index) (l, f)) (refl, refl)
+    numbers-of (space-short w h) = rw (tells-answer TooShort (w, h)) (refl, refl)
+    numbers-of (file-fits w h) = rw (tells-answer (Written (length (fileOf header sites))) (w, h, refl)) (refl, refl)
+
+    -- and so each number and value
+    pub cause-exactly : (number value : ℕ)
+        → ((fileNumber (fileAnswer header sites room) ≡ number) × (fileValue (fileAnswer header sites room) ≡ value))
+        ↔ FileCause header sites room number value
+    cause-exactly number value = (λ e. rw (← e .0, ← e .1) cause-of, numbers-of)

@@ -21,12 +21,11 @@ use Rattle.project_writer.specs.declared.course.FileAnswer.the-variants.
 use Rattle.project_writer.specs.declared.course.Course.{Course}
 use Rattle.project_writer.specs.declared.course.Course.the-variants.{Measured, Placed, Stopped}
 use Rattle.project_writer.specs.ProjectFile.{recordsOf, fileOf, soundSites, leaves, bufferAfter}
-use Rattle.project_writer.specs.Course.{walkCourse, walkBuffer, openCourse, openBuffer, courseAnswer, Walks, Opens}
+use Rattle.project_writer.specs.Course.{walkCourse, walkBuffer, begunCourse, begunBuffer, courseAnswer, Walks, Begins}
 use Rattle.project_writer.specs.Sound.{none-outside, first-outside}
-use Rattle.project_writer.specs.Causes.{FileTells}
 use Rattle.project_writer.specs.Walks.{walk-stopped, walk-stopped-buffer, walk-sound, walk-outside, walk-measured-buffer}
 use Rattle.project_writer.specs.Walks.{walk-placed, walk-placed-buffer}
-use Rattle.project_writer.specs.Exactly.{file-length, limits-kept, writable, writable-sound, answer-exactly}
+use Rattle.project_writer.specs.Exactly.{FileTells, file-length, limits-kept, writable, writable-sound, answer-exactly}
 use Rattle.project_writer.specs.Promise.{WritesProject, writes-project}
 
 -- where the sites are measured: at the first outside its range, or after them all with the length of the file
@@ -60,18 +59,18 @@ module _ (header : Header) (sites : List Site) (before : List ℕ) where
       writes-project header sites before afterwards answer (sym is) (rw is left)
 
   -- where the space is tried: the course has stopped, or the file has its space and the header is written
-  data OpenedTo : Course → List ℕ → Type 0 where
+  data BegunTo : Course → List ℕ → Type 0 where
     stopped-with : (answer : FileAnswer) → FileTells header sites (length before) answer → before ≡ leaves answer (fileOf header sites) before
-        → OpenedTo (Stopped answer) before
+        → BegunTo (Stopped answer) before
     with-space : FileTells header sites (length before) (Written (length (fileOf header sites)))
-        → OpenedTo (Placed headerLength) (sets before 0 (headerBytes header (length sites)))
+        → BegunTo (Placed headerLength) (sets before 0 (headerBytes header (length sites)))
 
-  walks-opened : {course : Course} {buffer : List ℕ} → OpenedTo course buffer → Walks sites course (length buffer)
-  walks-opened (stopped-with answer tells left) = tt
-  walks-opened (with-space tells) =
+  walks-begun : {course : Course} {buffer : List ℕ} → BegunTo course buffer → Walks sites course (length buffer)
+  walks-begun (stopped-with answer tells left) = tt
+  walks-begun (with-space tells) =
       (writable-sound header sites (tells .0), rw (length-sets before 0 (headerBytes header (length sites)), ← file-length header sites) (tells .1))
 
-  written : {course : Course} {buffer : List ℕ} → OpenedTo course buffer
+  written : {course : Course} {buffer : List ℕ} → BegunTo course buffer
       → WritesProject header sites before (walkBuffer sites course buffer) (courseAnswer (walkCourse sites course))
   unfolding fileOf
   written (stopped-with answer tells left) = rw (walk-stopped sites answer, walk-stopped-buffer sites answer before) (told before answer tells left)
@@ -86,16 +85,16 @@ module _ (header : Header) (sites : List Site) (before : List ℕ) where
   limits-refused e = told before OutsideLimits (λ kept. not-both _ (admits-both header (length sites) kept) e) refl
 
   module _ (e : admits header (length sites) ≡ true) where
-    opens : {course : Course} → MeasuredTo sites course → Opens header (length sites) course
-    opens (at-outside h) = tt
-    opens (after-all all) = (e, omega arith)
+    begins : {course : Course} → MeasuredTo sites course → Begins header (length sites) course
+    begins (at-outside h) = tt
+    begins (after-all all) = (e, omega arith)
 
-    opened-to : {course : Course} → MeasuredTo sites course → OpenedTo (openCourse course (length before)) (openBuffer header (length sites) course before)
-    opened-to (at-outside h) = stopped-with (OutsideRange (soundSites sites)) (limits-kept header sites e, first-outside sites h) refl
-    opened-to (after-all all) = by (leb (headerLength + length (recordsOf sites)) (length before)) refl
+    begun-to : {course : Course} → MeasuredTo sites course → BegunTo (begunCourse course (length before)) (begunBuffer header (length sites) course before)
+    begun-to (at-outside h) = stopped-with (OutsideRange (soundSites sites)) (limits-kept header sites e, first-outside sites h) refl
+    begun-to (after-all all) = by (leb (headerLength + length (recordsOf sites)) (length before)) refl
       where
         by : (b : Bool) → leb (headerLength + length (recordsOf sites)) (length before) ≡ b
-            → OpenedTo (cond b (Placed headerLength) (Stopped TooShort)) (cond b (sets before 0 (headerBytes header (length sites))) before)
+            → BegunTo (cond b (Placed headerLength) (Stopped TooShort)) (cond b (sets before 0 (headerBytes header (length sites))) before)
         by true q = with-space (writable header sites e all, rw (file-length header sites) (leb-true _ (length before) q), refl)
         by false q = stopped-with TooShort (writable header sites e all, rw (file-length header sites) (leb-false _ (length before) q)) refl
 
@@ -106,19 +105,19 @@ module _ (header : Header) (sites : List Site) (before : List ℕ) where
     module _ (measured : Course) (between : List ℕ)
         (walked : (measured ≡ walkCourse sites (Measured 0 headerLength)) × (between ≡ walkBuffer sites (Measured 0 headerLength) before)) where
       -- "then the space"
-      pub opening : Opens header (length sites) measured
-      opening = rw (walked .0) (opens (measured-to sites))
+      pub beginning : Begins header (length sites) measured
+      beginning = rw (walked .0) (begins (measured-to sites))
 
-      module _ (opened : Course) (buffer : List ℕ)
-          (tried : (opened ≡ openCourse measured (length between)) × (buffer ≡ openBuffer header (length sites) measured between)) where
-        opened-is : OpenedTo opened buffer
-        opened-is = rw (tried .0, tried .1, walked .1, walk-measured-buffer sites 0 headerLength before, walked .0) (opened-to (measured-to sites))
+      module _ (begun : Course) (buffer : List ℕ)
+          (tried : (begun ≡ begunCourse measured (length between)) × (buffer ≡ begunBuffer header (length sites) measured between)) where
+        begun-is : BegunTo begun buffer
+        begun-is = rw (tried .0, tried .1, walked .1, walk-measured-buffer sites 0 headerLength before, walked .0) (begun-to (measured-to sites))
 
         -- and the sites are written
-        pub writing : Walks sites opened (length buffer)
-        writing = walks-opened opened-is
+        pub writing : Walks sites begun (length buffer)
+        writing = walks-begun begun-is
 
         pub whole-course : (last : Course) (afterwards : List ℕ) (answer : FileAnswer)
-            → (last ≡ walkCourse sites opened) × (afterwards ≡ walkBuffer sites opened buffer) → answer ≡ courseAnswer last
+            → (last ≡ walkCourse sites begun) × (afterwards ≡ walkBuffer sites begun buffer) → answer ≡ courseAnswer last
             → WritesProject header sites before afterwards answer
-        whole-course last afterwards answer put is = rw (is, put .0, put .1) (written opened-is)
+        whole-course last afterwards answer put is = rw (is, put .0, put .1) (written begun-is)

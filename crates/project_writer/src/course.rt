@@ -2,7 +2,7 @@
 ghost use mathlib.Core.Path.{_≡_};
 ghost use mathlib.Core.List.{[], _∷_};
 ghost use lib.ListN.{length};
-ghost use Rattle.project_writer.specs.Course.{stepCourse, stepBuffer, openCourse, openBuffer, courseAnswer, Walks, Opens};
+ghost use Rattle.project_writer.specs.Course.{stepCourse, stepBuffer, begunCourse, begunBuffer, courseAnswer, Walks, Begins};
 use header::HEADER_LENGTH;
 use header::Header;
 use header::put_header;
@@ -50,9 +50,9 @@ pub fn step(site: Site, buffer: &mut [u8], course: Course) -> Course
 }
 
 // The space test of a file that is measured, and its header written where there is space.
-pub fn open(header: Header, sites: usize, buffer: &mut [u8], course: Course) -> Course
-    requires { ⌜ Opens header sites course ⌝ }
-    ensures { λ r. ⌜ (r ≡ openCourse course (length (now (buffer .entry)))) × (now (buffer .exit) ≡ openBuffer header sites course (now (buffer .entry))) ⌝ }
+pub fn begin_writing(header: Header, sites: usize, buffer: &mut [u8], course: Course) -> Course
+    requires { ⌜ Begins header sites course ⌝ }
+    ensures { λ r. ⌜ (r ≡ begunCourse course (length (now (buffer .entry)))) × (now (buffer .exit) ≡ begunBuffer header sites course (now (buffer .entry))) ⌝ }
 {
     match course {
         Course::Stopped(answer) => Course::Stopped(answer),

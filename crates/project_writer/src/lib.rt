@@ -9,7 +9,7 @@ ghost use Rattle.project_writer.specs.Promise.{WritesProject};
 use crate::course::Course;
 use crate::course::FileAnswer;
 use crate::course::answer_of;
-use crate::course::open;
+use crate::course::begin_writing;
 use crate::course::step;
 use header::HEADER_LENGTH;
 use header::Header;
@@ -51,6 +51,6 @@ pub fn write_project(
         return FileAnswer::OutsideLimits;
     }
     let measured = walk(sites, buffer, Course::Measured(0, HEADER_LENGTH));
-    let opened = open(header, sites.len(), buffer, measured);
-    answer_of(walk(sites, buffer, opened))
+    let begun = begin_writing(header, sites.len(), buffer, measured);
+    answer_of(walk(sites, buffer, begun))
 }

@@ -4,7 +4,7 @@ use native.Mathlib.Nat.{mul-le-mul, mul-le-mul-left, mul-le-mul-right}
 use native.Mathlib.Omega.{arith}
 use lib.Dec.{lit<, lit≤}
 use Rattle.estimate.specs.Exponential.{termNum, termDen, sumNum, term-den-positive}
-use Rattle.remainder.specs.Quotient.{quotientDown, quotientUp, RoundedDown, RoundedUp, rounded-down, quotient-up, at-most, product-down-≤, product-up-≤}
+use Rattle.laws.specs.Quotient.{quotientDown, quotientUp, RoundedDown, RoundedUp, rounded-down, quotient-up, at-most, product-down-≤, product-up-≤}
 use Rattle.remainder.specs.Remainder.{scale, exponentialLow, exponentialHigh}
 
 -- THE LOW SUM

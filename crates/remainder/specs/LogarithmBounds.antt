@@ -8,7 +8,7 @@ use Rattle.estimate.specs.Fraction.{_≤ᶠ_, fraction, decimal}
 use Rattle.estimate.specs.FractionLaws.{≤ᶠ-refl}
 use Rattle.estimate.specs.ExponentialBounds.{AtMostExp, AtLeastExp, at-most-weaker, at-least-weaker}
 use Rattle.estimate.specs.Remainder.{ratio, twiceZ, twiceZAndCube, ratio-at-least, ratio-at-most}
-use Rattle.remainder.specs.Quotient.{quotientUp, RoundedDown, RoundedUp, rounded-down, quotient-up, quotient-up-zero, half-up, at-most, product-up-≤}
+use Rattle.laws.specs.Quotient.{quotientUp, RoundedDown, RoundedUp, rounded-down, quotient-up, quotient-up-zero, half-up, at-most, product-up-≤}
 use Rattle.remainder.specs.Remainder.{SmallRest, scale, logLow, logHigh, withCube}
 
 module _ (N r : ℕ) (s : SmallRest N r) where

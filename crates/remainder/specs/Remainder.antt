@@ -1,7 +1,7 @@
 -- Bounds of ln((N+r)/N) and of ((N+r)/N)^(p/q), in whole numbers over 10^12. With z = r/(2N+r) the logarithm is between 2z and 2z + z^3,
 -- and e^x is between 1 + x + x^2/2 + x^3/6 and that + 2x^4/24.
 use Prim.Native.Nat.{ℕ, _+_, _*_, _^_, _≤_, _<_}
-use Rattle.remainder.specs.Quotient.{quotientDown, quotientUp}
+use Rattle.laws.specs.Quotient.{quotientDown, quotientUp}
 use Rattle.remainder.specs.declared.LogBounds.{LogBounds}
 
 -- a rest r that is small beside N, so that z is at most 1/511

@@ -5,7 +5,7 @@ use native.Mathlib.Nat.{mul-le-mul, mul-le-mul-left, mul-le-mul-right, le-of-mul
 use native.Mathlib.Omega.{arith}
 use lib.Dec.{lit<, lit≤}
 use Rattle.estimate.specs.Remainder.{ratio-power-low-whole, ratio-power-high-whole}
-use Rattle.remainder.specs.Quotient.{quotientDown, quotientUp, RoundedDown, RoundedUp, rounded-down, quotient-up, at-most}
+use Rattle.laws.specs.Quotient.{quotientDown, quotientUp, RoundedDown, RoundedUp, rounded-down, quotient-up, at-most}
 use Rattle.remainder.specs.Remainder.{SmallRest, Exponent, mostDenominator, scale, logLow, logHigh, remainderLow, remainderHigh}
 use Rattle.remainder.specs.LogarithmBounds.{log-low-stands, log-low-small, log-high-stands, log-high-small, log-near, log-near-whole}
 use Rattle.remainder.specs.ExponentialBounds.{ExponentialLow, ExponentialHigh, exponential-low-is, exponential-high-is, exponentials-near}

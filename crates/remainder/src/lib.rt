@@ -2,7 +2,7 @@
 // and to its powers. Bounds are whole numbers over 10^12.
 ghost use mathlib.Core.Path.{_≡_};
 ghost use Prim.Native.Nat.{_+_, _*_, _^_, _≤_, _<_};
-ghost use Rattle.remainder.specs.Quotient.{quotientDown, quotientUp, RoundedUp};
+ghost use Rattle.laws.specs.Quotient.{quotientDown, quotientUp, RoundedUp};
 ghost use Rattle.remainder.specs.Split.{splitOf, Splits};
 ghost use Rattle.remainder.specs.Remainder.{SmallRest, Exponent, mostDenominator, withCube};
 ghost use Rattle.remainder.specs.Remainder.{logLow, logBoundsOf, exponentialLow, exponentialHigh, remainderLow, remainderHigh};

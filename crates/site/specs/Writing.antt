@@ -90,7 +90,7 @@ bytesOf (rule ∷ rules) (slot ∷ slots) = fieldBytes rule slot ++ bytesOf rule
 
 -- "A record is a kind byte, a two-byte bit map, then two bytes for each bit that stands"
 unfoldable pub recordBy : List Rule → ℕ → List Slot → List ℕ
-recordBy rules kind slots = kind ∷ mapOf rules slots / 256 ∷ mapOf rules slots % 256 ∷ bytesOf rules slots
+recordBy rules kind slots = kind ∷ (twoBytes (mapOf rules slots) ++ bytesOf rules slots)
 
 abbrev pub recordOf : Site → List ℕ
 recordOf site = recordBy (rulesHeld (site .kind) (slotsOf site)) (site .kind) (slotsOf site)

@@ -189,7 +189,8 @@ pub fn is_sound(site: Site) -> bool
 
 // Writes the record of slots by their rules from the start of a buffer that has space for it, and answers its length.
 fn put_slots(rules: [Rule; SLOTS], kind: u8, slots: [Slot; SLOTS], buffer: &mut [u8]) -> usize
-    requires { ⌜ (length rules ≡ slotCount) × (length slots ≡ slotCount) × (bitCount rules ≤ 15) × (length (recordBy rules kind slots) ≤ length (now buffer)) ⌝ }
+    requires { ⌜ (length rules ≡ slotCount) × (length slots ≡ slotCount) × (bitCount rules ≤ 15) ⌝ }
+    requires { ⌜ length (recordBy rules kind slots) ≤ length (now buffer) ⌝ }
     ensures { λ r. ⌜ (r ≡ length (recordBy rules kind slots)) × (now (buffer .exit) ≡ sets (now (buffer .entry)) 0 (recordBy rules kind slots)) ⌝ }
 {
     let map = map_of(rules, slots);

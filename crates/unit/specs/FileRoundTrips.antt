@@ -26,7 +26,7 @@ use Rattle.project_writer.specs.Exactly.{writable-sound}
 use Rattle.project_writer.specs.Theorems.{buffer-accepted, accepted-writable, accepted-written}
 use Rattle.unit.specs.ProjectNumbers.{ReadsProject}
 use Rattle.unit.specs.FileNumbers.{sitesGiven, WritesFile, zero-filed}
-use Rattle.unit.specs.Given.{sitesNumbers, given-again}
+use Rattle.unit.specs.Given.{sitesRun, given-again}
 
 -- the lines of a header's values and a list of sites
 abbrev pub linesOf : Header → List Site → List Line
@@ -97,5 +97,5 @@ module _ {file run report : List ℕ} {count : ℕ} (r : ReadsProject file run r
       }
 
   -- and there are numbers that give its sites
-  pub file-given : sitesGiven (sitesNumbers (sitesIn file)) ≡ sitesIn file
+  pub file-given : sitesGiven (sitesRun (sitesIn file)) ≡ sitesIn file
   file-given = given-again (sitesIn file) (writable-sound (headerIn file) (sitesIn file) (accepted-writable file (countIn file) accepted))

@@ -1,16 +1,15 @@
 -- Laws of the sites that a run of numbers gives: how many, where each stands, and that every list of valid sites can be given.
 use mathlib.Core.Path.{_≡_, refl, ap, sym, _∙_}
-use mathlib.Core.List.{List, [], _∷_, _++_, map}
+use mathlib.Core.List.{List, [], _∷_, _++_}
 use Prim.Native.Nat.{ℕ, zero, suc, _+_, _*_, _<_}
 use native.Mathlib.Omega.{arith}
 use lib.ListN.{length, getD, drop, length-append}
 use lib.Seq.{drop-append-add}
-use Rattle.remainder.specs.Quotient.{quotient-up, rounded-up-is, quotient-up-zero}
+use Rattle.laws.specs.Quotient.{quotient-up, rounded-up-is, quotient-up-zero}
 use Rattle.site.specs.declared.values.Site.{Site}
-use Rattle.site.specs.Writing.{slotsOf}
 use Rattle.project_writer.specs.ProjectFile.{soundSites}
 use Rattle.project_writer.specs.Sound.{all-sound}
-use Rattle.unit.specs.SiteNumbers.{code, siteFrom, siteNumbers}
+use Rattle.unit.specs.SiteNumbers.{siteRun, siteFrom, siteNumbers}
 use Rattle.unit.specs.FileNumbers.{siteCount, givenFrom, sitesGiven}
 use Rattle.unit.specs.Coding.{site-read}
 
@@ -63,15 +62,15 @@ module _ (run rest : List ℕ) (h : length run ≡ siteNumbers) where
       let count : length (run ++ rest) ≡ siteNumbers + length rest = omega (arith, length-append run rest) in
       rw (count, count-more (length rest), behind (siteCount (length rest)) 0)
 
--- EVERY LIST OF VALID SITES CAN BE GIVEN, by the kind and slots of each
-unfoldable pub sitesNumbers : List Site → List ℕ
-sitesNumbers [] = []
-sitesNumbers (site ∷ sites) = site .kind ∷ (map code (slotsOf site) ++ sitesNumbers sites)
+-- EVERY LIST OF VALID SITES CAN BE GIVEN, by the run of each, which `crash_site_read` leaves
+unfoldable pub sitesRun : List Site → List ℕ
+sitesRun [] = []
+sitesRun (site ∷ sites) = siteRun site ++ sitesRun sites
 
-pub given-again : (sites : List Site) → soundSites sites ≡ length sites → sitesGiven (sitesNumbers sites) ≡ sites
-unfolding sitesNumbers sitesGiven givenFrom
+pub given-again : (sites : List Site) → soundSites sites ≡ length sites → sitesGiven (sitesRun sites) ≡ sites
+unfolding sitesRun sitesGiven givenFrom
 given-again [] e = rw (quotient-up-zero siteNumbers (omega arith))
 given-again (site ∷ sites) e =
     let all = all-sound site sites e in
-    let rest = sitesNumbers sites in
-    given-more (site .kind ∷ map code (slotsOf site)) rest refl ∙ rw (site-read site rest (all .0), given-again sites (all .1))
+    let rest = sitesRun sites in
+    given-more (siteRun site) rest refl ∙ rw (site-read site rest (all .0), given-again sites (all .1))

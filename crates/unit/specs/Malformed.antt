@@ -4,19 +4,17 @@ use mathlib.Core.Bool.{true, false}
 use mathlib.Core.List.{List}
 use Prim.Native.Nat.{ℕ, _+_, _*_, _<_, _≤_}
 use native.Mathlib.Omega.{arith, by-contra}
-use lib.ListN.{length, getD, drop}
+use lib.ListN.{length, getD, drop, length-drop}
 use lib.Seq.{getD-take, getD-drop}
 use Rattle.site.specs.declared.values.Site.{Site}
 use Rattle.site.specs.Rules.{slotCount}
 use Rattle.site.specs.Writing.{sound, writeRefusal, Valid}
+use Rattle.laws.specs.Quotient.{quotient-up}
 use Rattle.laws.specs.Truth.{not-both, never-so}
 use Rattle.site.specs.Promises.{number-written}
 use Rattle.header.specs.declared.Header.{Header}
 use Rattle.header.specs.Header.{inLimits}
-use Rattle.project_writer.specs.declared.course.FileAnswer.{FileAnswer}
-use Rattle.project_writer.specs.declared.course.FileAnswer.the-variants.{Written, OutsideLimits, OutsideRange, TooShort}
-use Rattle.project_writer.specs.ProjectFile.{fileAnswer, fileNumber, fileValue}
-use Rattle.project_writer.specs.Causes.{LimitsKept, FileTells}
+use Rattle.project_writer.specs.Causes.{LimitsKept, FileCause, limits-broken, site-outside, space-short, file-fits}
 use Rattle.unit.specs.SiteNumbers.{slotNumbers, siteFrom, siteNumbers, WritesNumbers}
 use Rattle.unit.specs.LineNumbers.{lineOrder, LinesNumbers}
 use Rattle.unit.specs.FileNumbers.{siteCount, sitesGiven, WritesFile}
@@ -63,11 +61,19 @@ module _ (numbers : List ℕ) where
           not-both (sound site) (rw (given-at numbers i h site) at (valid site .is-sound)) f
 
       pub eight-filed : WritesFile header numbers before afterwards value number → (number ≡ 8) × (value ≤ i)
-      eight-filed w = by (fileAnswer header (sitesGiven numbers) (length before)) (w .tells) (w .number-is) (w .value-is)
+      eight-filed w = by (w .cause)
         where
-          by : (answer : FileAnswer) → FileTells header (sitesGiven numbers) (length before) answer → number ≡ fileNumber answer → value ≡ fileValue answer
-              → (number ≡ 8) × (value ≤ i)
-          by (Written n) t e v = absurd (not-valid (λ d. t .0 .valid i d (rw given-count h)))
-          by OutsideLimits t e v = absurd (t kept)
-          by (OutsideRange index) t e v = (e, by-contra value i (λ g. not-valid (λ d. t .1 .earlier i d (omega arith))))
-          by TooShort t e v = absurd (not-valid (λ d. t .0 .valid i d (rw given-count h)))
+          by : {told at : ℕ} → FileCause header (sitesGiven numbers) (length before) told at → (told ≡ 8) × (at ≤ i)
+          by (limits-broken broken) = absurd (broken kept)
+          by (site-outside {index} limits first) = (refl, by-contra index i (λ g. not-valid (λ d. first .earlier i d (omega arith))))
+          by (space-short writable short) = absurd (not-valid (λ d. writable .valid i d (rw given-count h)))
+          by (file-fits writable fits) = absurd (not-valid (λ d. writable .valid i d (rw given-count h)))
+
+-- numbers left at the end, fewer than a site's
+pub rest-filed : (numbers before afterwards : List ℕ) (header : Header) (value number : ℕ) → LimitsKept header (sitesGiven numbers)
+    → (whole rest : ℕ) → length numbers ≡ siteNumbers * whole + rest → 0 < rest → rest < siteNumbers
+    → WritesFile header numbers before afterwards value number → (number ≡ 8) × (value ≤ whole)
+rest-filed numbers before afterwards header value number kept whole rest long some few =
+    let up = quotient-up (length numbers) siteNumbers (omega arith) in
+    eight-filed numbers before afterwards number header value kept whole (omega (arith, up .above))
+    (few-outside (drop (siteNumbers * whole) numbers) (omega (arith, length-drop (siteNumbers * whole) numbers)))

@@ -21,9 +21,13 @@ abbrev pub code : Slot → ℕ
 code Absent = 65536
 code (Number value) = value
 
--- the values of an answer: kind, twenty slots and the record's length; a refusal has none
+-- a site's run: the kind, then the twenty slots
+abbrev pub siteRun : Site → List ℕ
+siteRun site = site .kind ∷ map code (slotsOf site)
+
+-- the values of an answer: the site's run and the record's length; a refusal has none
 abbrev pub readValues : SiteAnswer → List ℕ
-readValues (Read site n) = site .kind ∷ (map code (slotsOf site) ++ (n ∷ []))
+readValues (Read site n) = siteRun site ++ (n ∷ [])
 readValues (Refused number) = []
 
 -- a number that is no code stands for 65,535, which no rule allows, and one that is no byte for the kind 255

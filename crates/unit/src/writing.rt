@@ -14,7 +14,7 @@ use header::does_admit;
 use project_writer::course::Course;
 use project_writer::course::FileAnswer;
 use project_writer::course::answer_of;
-use project_writer::course::open;
+use project_writer::course::begin_writing;
 use project_writer::course::step;
 
 // A site for each 21 numbers, and one for a rest of fewer.
@@ -55,8 +55,8 @@ fn write_numbers(header: Header, numbers: &[u64], buffer: &mut [u8]) -> FileAnsw
         return FileAnswer::OutsideLimits;
     }
     let measured = walk_numbers(numbers, buffer, Course::Measured(0, HEADER_LENGTH));
-    let opened = open(header, sites, buffer, measured);
-    answer_of(walk_numbers(numbers, buffer, opened))
+    let begun = begin_writing(header, sites, buffer, measured);
+    answer_of(walk_numbers(numbers, buffer, begun))
 }
 
 // Writes the project file of a header's values and a run of sites from the start of the buffer: 0, with the count of its bytes

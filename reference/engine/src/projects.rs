@@ -33,10 +33,7 @@ fn answer(number: u64, value: u64) -> Result<usize, Refusal> {
     let value = usize::try_from(value).expect("a count or a place");
     match u8::try_from(number).expect("document 01's number") {
         0 => Ok(value),
-        number => Err(Refusal {
-            number,
-            place: value,
-        }),
+        number => Err(Refusal::of(number, value)),
     }
 }
 

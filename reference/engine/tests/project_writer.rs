@@ -7,7 +7,8 @@ use engine::program::full_project;
 use engine::projects::{project_into, write_file};
 use engine::sites::{numbers_of, read_into, run_of, SITE_NUMBERS};
 use reference::generate::{
-    damaged_file, damaged_site, header, largest_project, project, site, Random, DAMAGES,
+    damaged_file, damaged_site, disturbed_site, edges, header, largest_project, project, site,
+    sites, Random, DAMAGES,
 };
 use reference::project::{self, parse_project, write_project, Header, HEADER, LONGEST_FILE};
 use reference::record::{Refusal, Site};
@@ -18,34 +19,19 @@ use std::path::Path;
 /// Random lists that are written and read back.
 const LISTS: usize = 5_000;
 
+/// Random calls whose answers are the reference's.
+const CALLS: usize = 50_000;
+
 const MOST_SITES: usize = 1_900;
 
-/// Years and calibrations within their limits, and their greatest numbers.
+/// Years and calibrations within their limits.
 const WITHIN: [u64; 3] = [5, 1_100, 900];
-const MOST: [u64; 3] = [10, 9_999, 9_999];
 
 /// More room than any file needs.
 const AMPLE: usize = LONGEST_FILE + 100;
 
-const OUTSIDE_LIMITS: Refusal = Refusal {
-    number: 4,
-    place: 0,
-};
-const TOO_SHORT: Refusal = Refusal {
-    number: 10,
-    place: 0,
-};
-
-fn outside_range(index: usize) -> Refusal {
-    Refusal {
-        number: 8,
-        place: index,
-    }
-}
-
-fn sites(random: &mut Random, count: usize) -> Vec<Site> {
-    (0..count).map(|_| site(random)).collect()
-}
+const OUTSIDE_LIMITS: Refusal = Refusal::of(4, 0);
+const TOO_SHORT: Refusal = Refusal::of(10, 0);
 
 /// Some dozens of sites at most, and now and then up to the most.
 fn list(random: &mut Random) -> Vec<Site> {
@@ -113,6 +99,74 @@ fn random_lists_are_written_and_read_back() {
     }
     assert!(kinds.iter().all(|count| *count > 20_000), "{kinds:?}");
     assert!(empty > 20 && longest > 1_000, "{empty} {longest}");
+}
+
+/// A header's numbers, often with one at an edge of its limits or beyond.
+fn any_header(random: &mut Random) -> [u64; 3] {
+    let mut numbers = header(random).numbers();
+    if random.once_in(3) {
+        let at = random.below(numbers.len());
+        numbers[at] = random.pick(&edges(Header::MOST[at]));
+    }
+    numbers
+}
+
+/// A site, now and then disturbed or damaged.
+fn any_site(random: &mut Random) -> Site {
+    let damage = random.pick(&DAMAGES);
+    match random.below(8) {
+        0 => disturbed_site(random),
+        1 => damaged_site(random, damage),
+        _ => site(random),
+    }
+}
+
+/// A dozen sites at most, and now and then about as many as are allowed or far
+/// more. Half of the lists have no damage.
+fn any_list(random: &mut Random) -> Vec<Site> {
+    let count = match random.below(250) {
+        0 => random.pick(&[MOST_SITES - 1, MOST_SITES, MOST_SITES + 1, 3_000]),
+        _ => random.below(13),
+    };
+    if random.once_in(2) {
+        return sites(random, count);
+    }
+    (0..count).map(|_| any_site(random)).collect()
+}
+
+/// Room of up to a little more than a length, often about that length.
+fn any_room(random: &mut Random, length: usize) -> usize {
+    match random.below(4) {
+        0 => length,
+        1 => length - 1 + random.below(3),
+        _ => random.below(length + 10),
+    }
+}
+
+#[test]
+fn answers_are_those_of_the_reference() {
+    let mut random = Random::new(72);
+    let mut numbers = [0; 11];
+    let (mut just_enough, mut one_too_little, mut too_many) = (0, 0, 0);
+    for _ in 0..CALLS {
+        let (header, sites) = (any_header(&mut random), any_list(&mut random));
+        // What is refused has about the room of so many longest records.
+        let length = project::write_file(header, &sites, AMPLE)
+            .map_or(HEADER + 33 * sites.len(), |file| file.len());
+        let room = any_room(&mut random, length);
+        let answer = write_file(header, &run_of(&sites), room);
+        let wanted = project::write_file(header, &sites, room);
+        assert_eq!(answer, wanted, "{header:?} in {room}: {sites:?}");
+        let number = answer.map_or_else(|refusal| refusal.number, |_| 0);
+        numbers[usize::from(number)] += 1;
+        just_enough += u32::from(number == 0 && room == length);
+        one_too_little += u32::from(number == 10 && room + 1 == length);
+        too_many += u32::from(sites.len() > MOST_SITES);
+    }
+    for number in [0, 4, 8, 10] {
+        assert!(numbers[number] > 5_000, "{numbers:?}");
+    }
+    assert!(just_enough > 5_000 && one_too_little > 1_000 && too_many > 50);
 }
 
 /// An accepted file comes back from its header and its sites in just its room.
@@ -205,7 +259,7 @@ fn one_damaged_site_has_its_index() {
             let index = random.pick(&[0, count - 1, anywhere]);
             let mut run = run_of(&sites(&mut random, count));
             put(&mut run, index, &damaged_numbers(&mut random, way));
-            assert_refused(WITHIN, &run, outside_range(index));
+            assert_refused(WITHIN, &run, Refusal::of(8, index));
         }
     }
 }
@@ -222,7 +276,7 @@ fn the_first_of_two_damaged_sites_has_its_index() {
                 let mut run = run_of(&sites(&mut random, count));
                 put(&mut run, first, &damaged_numbers(&mut random, way));
                 put(&mut run, later, &damaged_numbers(&mut random, later_way));
-                assert_refused(WITHIN, &run, outside_range(first));
+                assert_refused(WITHIN, &run, Refusal::of(8, first));
             }
         }
     }
@@ -237,7 +291,7 @@ fn every_number_of_a_site_is_tried() {
             for wrong in [65_535, 65_537, u64::MAX] {
                 let mut run = run_of(&[plain; 3]);
                 run[SITE_NUMBERS + place] = wrong;
-                assert_refused(WITHIN, &run, outside_range(1));
+                assert_refused(WITHIN, &run, Refusal::of(8, 1));
             }
         }
     }
@@ -303,16 +357,8 @@ fn a_damaged_site_among_the_most() {
     for index in [0, 1, MOST_SITES / 2, MOST_SITES - 2, MOST_SITES - 1] {
         let mut run = run_of(&sites(&mut random, MOST_SITES));
         put(&mut run, index, &damaged_numbers(&mut random, index % WAYS));
-        assert_refused(WITHIN, &run, outside_range(index));
+        assert_refused(WITHIN, &run, Refusal::of(8, index));
     }
-}
-
-/// Numbers at a limit and beyond, also those that a shorter number would be
-/// taken for.
-fn edges(most: u64) -> Vec<u64> {
-    let wide = [1 << 8, 1 << 16, 1 << 32, 1 << 63].map(|high| high + 1);
-    let near = [0, 1, 2, most - 1, most, most + 1, 65_535, u64::MAX];
-    near.into_iter().chain(wide).collect()
 }
 
 #[test]
@@ -320,7 +366,7 @@ fn limits_of_the_header() {
     let mut random = Random::new(68);
     let sites = sites(&mut random, 3);
     let run = run_of(&sites);
-    for (at, most) in MOST.into_iter().enumerate() {
+    for (at, most) in Header::MOST.into_iter().enumerate() {
         for number in edges(most) {
             let mut header = WITHIN;
             header[at] = number;
@@ -346,7 +392,7 @@ fn limits_then_sites_then_space() {
         let too_many = damaged.repeat(96);
         for (run, of_sites) in [
             (&run, None),
-            (&damaged, Some(outside_range(11))),
+            (&damaged, Some(Refusal::of(8, 11))),
             (&too_many, Some(OUTSIDE_LIMITS)),
         ] {
             for header in [WITHIN, [0, 1, 1], [11, 1, 1], [1, 0, 1], [1, 1, 10_000]] {
@@ -370,12 +416,12 @@ fn numbers_left_at_the_end() {
         let run = run_of(&sites);
         for rest in 1..SITE_NUMBERS {
             let mut left = run[..SITE_NUMBERS * whole + rest].to_vec();
-            assert_refused(WITHIN, &left, outside_range(whole));
+            assert_refused(WITHIN, &left, Refusal::of(8, whole));
             assert_refused([11, 1, 1], &left, OUTSIDE_LIMITS);
             if whole > 0 {
                 let index = random.below(whole);
                 put(&mut left, index, &damaged_numbers(&mut random, rest % WAYS));
-                assert_refused(WITHIN, &left, outside_range(index));
+                assert_refused(WITHIN, &left, Refusal::of(8, index));
             }
         }
         assert_space(WITHIN, &sites);

@@ -70,10 +70,6 @@ fn largest_file() {
 #[test]
 fn empty_file() {
     let mut report = [UNTOUCHED; 4];
-    let refusal = Refusal {
-        number: 1,
-        place: 0,
-    };
-    assert_eq!(project_into(&[], &mut report), Err(refusal));
+    assert_eq!(project_into(&[], &mut report), Err(Refusal::of(1, 0)));
     assert_eq!(report, [UNTOUCHED; 4]);
 }

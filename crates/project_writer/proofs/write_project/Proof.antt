@@ -7,7 +7,7 @@ use mathlib.Core.Path.{_≡_, sym, _∙_}
 use mathlib.Core.Bool.{true}
 use lib.ListN.{length}
 use Rattle.header.specs.Header.{headerOf, admits}
-use Rattle.project_writer.specs.WholeCourse.{limits-refused, measuring, opening, writing, whole-course}
+use Rattle.project_writer.specs.WholeCourse.{limits-refused, measuring, beginning, writing, whole-course}
 use Rattle.project_writer.proofs.write_project.Statement.{statement}
 use Rattle.project_writer.proofs.write_project.Proof.Tie as tie
 
@@ -23,21 +23,21 @@ walk-requires c κs =
     let args = c .before .before .before .before .args in
     measuring (headerOf (args .years) (args .segments) (args .crossings)) (args .sites .now) (args .buffer .now) (within (c .before))
 
-open-requires : tie.Need-open-requires
-open-requires c κs = let walk = c .before .before .before in opening _ _ _ (within (walk .before .before)) _ _ (walk .walk .ensures)
+begin-writing-requires : tie.Need-begin-writing-requires
+begin-writing-requires c κs = let walk = c .before .before .before in beginning _ _ _ (within (walk .before .before)) _ _ (walk .walk .ensures)
 
 walk-requires-2 : tie.Need-walk-requires-2
 walk-requires-2 c κs =
     let tried = c .before .before .before in
     let walk = tried .before .before .before .before in
-    writing _ _ _ (within (walk .before .before)) _ _ (walk .walk .ensures) _ _ (tried .«open» .ensures)
+    writing _ _ _ (within (walk .before .before)) _ _ (walk .walk .ensures) _ _ (tried .begin-writing .ensures)
 
 returns-2 : tie.Need-returns-2
 returns-2 c =
     let put = c .before .before .before in
     let tried = put .before .before .before .before in
     let walk = tried .before .before .before .before in
-    whole-course _ _ _ (within (walk .before .before)) _ _ (walk .walk .ensures) _ _ (tried .«open» .ensures) _ _ _ (put .walk2 .ensures)
+    whole-course _ _ _ (within (walk .before .before)) _ _ (walk .walk .ensures) _ _ (tried .begin-writing .ensures) _ _ _ (put .walk2 .ensures)
     (c .answer-of .ensures)
 
 pub write-project-spec : {M : Type 1} → statement M
@@ -47,7 +47,7 @@ write-project-spec =
     (λ c κs. search needs)
     returns
     walk-requires
-    open-requires
+    begin-writing-requires
     walk-requires-2
     (λ c κs. search needs) (λ c. search needs)
     returns-2)

@@ -2,7 +2,7 @@ use native.Mathlib.Omega.{arith}
 use mathlib.Core.Path.{refl}
 use Prim.Native.Nat.{_*_}
 use lib.Dec.{lit<}
-use Rattle.remainder.specs.Quotient.{rounded-down}
+use Rattle.laws.specs.Quotient.{rounded-down}
 use Rattle.remainder.specs.Remainder.{scale, exponentialLow}
 use Rattle.remainder.specs.ExponentialBounds.{square-fits, square-down-small, cube-down-small, term-fits}
 use borrow.Author.Needs.{needs}

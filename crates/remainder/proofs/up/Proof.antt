@@ -1,5 +1,5 @@
 use mathlib.Core.Path.{refl}
-use Rattle.remainder.specs.Quotient.{quotientUp, rounded-up}
+use Rattle.laws.specs.Quotient.{quotientUp, rounded-up}
 use borrow.Author.Needs.{needs}
 use Rattle.remainder.proofs.up.Statement.{statement}
 use Rattle.remainder.proofs.up.Tie as tie

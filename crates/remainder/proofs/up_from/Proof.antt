@@ -2,7 +2,7 @@ use Prim.Native.Nat.{ℕ, _<_}
 use mathlib.Core.Path.{_≡_}
 use native.Mathlib.Nat.{mul-le-mul-left}
 use native.Mathlib.Omega.{arith}
-use Rattle.remainder.specs.Quotient.{quotientUp, RoundedDown, RoundedUp, rounded-down, rounded-up-is, up-from-down, up-where-exact}
+use Rattle.laws.specs.Quotient.{quotientUp, RoundedDown, RoundedUp, rounded-down, rounded-up-is, up-from-down, up-where-exact}
 use Rattle.remainder.proofs.up_from.Statement.{statement}
 use Rattle.remainder.proofs.up_from.Tie as tie
 

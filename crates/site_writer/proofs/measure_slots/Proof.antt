@@ -39,13 +39,13 @@ loop-again c =
     let loop = turn .before .loop in
     let start = turn .before .before in
     let more = turn .loop-test .taken in
-    let step = walk-next allFit _ _ _ (start .pre .0) (start .pre .1) Foreign Absent more in
-    let fits = sym (fit .before .does-fit .ensures) ∙ not-false (fit .before .does-fit .result) (fit .if1 .left) in
-    let bytes = bytes-length (start .args .t1) (start .args .t2) (loop .i) (start .pre .0) (start .pre .1) Foreign Absent more in (
+    let count = start .pre .0 in
+    let count′ = start .pre .1 in
+    let fits = sym (fit .before .does-fit .ensures) ∙ not-false (fit .before .does-fit .result) (fit .if1 .left) in (
       omega arith,
       omega (arith, c .field-length .ensures .1),
-      rw fits at (sym step ∙ loop .inv .2),
-      omega (arith, bytes, c .field-length .ensures .0),
+      rw fits at (sym (walk-next allFit _ _ _ count count′ Foreign Absent more) ∙ loop .inv .2),
+      omega (arith, bytes-length (start .args .t1) (start .args .t2) (loop .i) count count′ Foreign Absent more, c .field-length .ensures .0),
     )
 
 returns-2 : tie.Need-returns-2 Inv-loop μ-loop

@@ -11,7 +11,7 @@ put-slots-requires : tie.Need-put-slots-requires
 put-slots-requires c κs =
     let rules = c .before in
     let f = held rules in
-    (search needs, search needs, bits-few f, rw (← record-is f) (rules .before .before .before .pre .1))
+    ((search needs, search needs, bits-few f), rw (← record-is f) (rules .before .before .before .pre .1))
 
 returns : tie.Need-returns
 returns c =

@@ -18,7 +18,8 @@ measure-is : (c : tie.After-measure-slots) → let slots = c .before .before in 
     measureOf (known .before .before .args .site) ≡ c .measure-slots .result
 measure-is c = measured-by (held (c .before)) ∙ sym (c .measure-slots .ensures)
 
-measured : (c : tie.After-measure) → let slots = c .before .before .before .before in let known = slots .before in let site = known .before .before .args .site in
+measured : (c : tie.After-measure) → let slots = c .before .before .before .before in let known = slots .before in
+    let site = known .before .before .args .site in
     Valid site × (c .measure .given .0 .0 ≡ length (recordOf site))
 measured c = measured-length _ _ (measure-is (c .before .before) ∙ c .measure .given .1)
 
@@ -35,7 +36,7 @@ put-slots-requires c κs =
     let measure = c .before .before .before in
     let f = held (measure .before .before .before) in
     let m = measured measure in
-    (search needs, search needs, bits-few f, rw (← record-is f) (omega arith))
+    ((search needs, search needs, bits-few f), rw (← record-is f) (omega arith))
 
 returns-3 : tie.Need-returns-3
 returns-3 c = outside _ _ (measured-outside _ (measure-is (c .before .before) ∙ c .enum-told .given .1))

@@ -84,9 +84,7 @@ ps = WalkKinds.ps
 abbrev pub r : FnKinds.RK 2
 r = WalkKinds.r
 abbrev pub xs : List.List Syntax.Ty
-xs = (Laws.mir ∷ Syntax.tyInt Syntax.w64 ∷ SiteLaws.mir ∷ Syntax.tyInt Syntax.w64 ∷ Syntax.tyBool ∷ Syntax.tyPtr ∷ SiteLaws.mir ∷ Syntax.tyRef Syntax.erased
-    Syntax.mut (Syntax.tyInt Syntax.w8) ∷ Syntax.tyStruct (38 ∷ 91 ∷ 93 ∷ []) (Syntax.tcons (Syntax.tyRef Syntax.erased Syntax.mut (Syntax.tyInt Syntax.w8))
-    (Syntax.tcons (Syntax.tyInt Syntax.w64) Syntax.tnil)) ∷ [])
+xs = (Laws.mir ∷ type·1 ∷ SiteLaws.mir ∷ type·1 ∷ Syntax.tyBool ∷ Syntax.tyPtr ∷ SiteLaws.mir ∷ type·5 ∷ type·10 ∷ [])
 abbrev pub m : Nat.ℕ
 m = 1
 abbrev pub ps·0 : List.List (FnKinds.PK 1)
@@ -119,7 +117,7 @@ b9 = Syntax.assign (Syntax.place 10 []) (Syntax.rvOpd (Syntax.copy (Syntax.place
 abbrev b10 : Syntax.Body
 b10 = Syntax.assign (Syntax.place 6 []) (Syntax.rvOpd (Syntax.copy (Syntax.place 10 [])))
 abbrev b11 : Syntax.Body
-b11 = Syntax.assign (Syntax.place 11 []) (Syntax.addrOf (Syntax.place 2 (Syntax.field 0 ∷ Syntax.deref (Syntax.tyInt Syntax.w8) ∷ [])))
+b11 = Syntax.assign (Syntax.place 11 []) (Syntax.addrOf (Syntax.place 2 (Syntax.field 0 ∷ Syntax.deref type·0 ∷ [])))
 abbrev b12 : Syntax.Body
 b12 = Syntax.assign (Syntax.place 12 []) (Syntax.aggregate (Syntax.copy (Syntax.place 11 []) ∷ Syntax.copy (Syntax.place 2 (Syntax.field 1 ∷ [])) ∷ []))
 abbrev b13 : Syntax.Body

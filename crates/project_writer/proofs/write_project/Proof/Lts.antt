@@ -9,9 +9,9 @@ use Rattle.project_writer.proofs.WriteProjectKinds
 use Rattle.project_writer.proofs.course.Course
 use Rattle.project_writer.proofs.course.Course.Laws as CourseLaws
 use Rattle.project_writer.proofs.course.FileAnswer
-use Rattle.project_writer.proofs.course.FileAnswer.Laws as FileanswerLaws
+use Rattle.project_writer.proofs.course.FileAnswer.Laws as FileAnswerLaws
 use Rattle.project_writer.proofs.course.answer_of.Kinds as AnswerOfKinds
-use Rattle.project_writer.proofs.course.open.Kinds as OpenKinds
+use Rattle.project_writer.proofs.course.begin_writing.Kinds as BeginWritingKinds
 use Rattle.site.proofs.values.Site
 use borrow.Author.Called
 use borrow.Enum.Make
@@ -92,12 +92,8 @@ ps = WriteProjectKinds.ps
 abbrev pub r : FnKinds.RK 2
 r = WriteProjectKinds.r
 abbrev pub xs : List.List Syntax.Ty
-xs = (Laws.mir ∷ CourseLaws.mir ∷ CourseLaws.mir ∷ Syntax.tyBool ∷ Syntax.tyInt Syntax.w64 ∷ Syntax.tyBool ∷ Syntax.tyRef Syntax.erased Syntax.mut
-    (Syntax.tyInt Syntax.w8) ∷ Syntax.tyStruct (38 ∷ 91 ∷ 93 ∷ []) (Syntax.tcons (Syntax.tyRef Syntax.erased Syntax.mut (Syntax.tyInt Syntax.w8))
-    (Syntax.tcons (Syntax.tyInt Syntax.w64) Syntax.tnil)) ∷ CourseLaws.mir ∷ Syntax.tyRef Syntax.erased Syntax.mut (Syntax.tyInt Syntax.w8) ∷
-    Syntax.tyStruct (38 ∷ 91 ∷ 93 ∷ []) (Syntax.tcons (Syntax.tyRef Syntax.erased Syntax.mut (Syntax.tyInt Syntax.w8)) (Syntax.tcons (Syntax.tyInt
-    Syntax.w64) Syntax.tnil)) ∷ Syntax.tyRef Syntax.erased Syntax.mut (Syntax.tyInt Syntax.w8) ∷ Syntax.tyStruct (38 ∷ 91 ∷ 93 ∷ []) (Syntax.tcons
-    (Syntax.tyRef Syntax.erased Syntax.mut (Syntax.tyInt Syntax.w8)) (Syntax.tcons (Syntax.tyInt Syntax.w64) Syntax.tnil)) ∷ [])
+xs = (Laws.mir ∷ CourseLaws.mir ∷ CourseLaws.mir ∷ Syntax.tyBool ∷ type·1 ∷ Syntax.tyBool ∷ type·3 ∷ type·10 ∷ CourseLaws.mir ∷ type·3 ∷ type·10 ∷ type·3 ∷
+    type·10 ∷ [])
 abbrev pub m : Nat.ℕ
 m = 3
 abbrev pub ps·0 : List.List (FnKinds.PK 0)
@@ -109,9 +105,9 @@ ps·1 = WalkKinds.ps
 abbrev pub r·1 : FnKinds.RK 2
 r·1 = WalkKinds.r
 abbrev pub ps·2 : List.List (FnKinds.PK 1)
-ps·2 = OpenKinds.ps
+ps·2 = BeginWritingKinds.ps
 abbrev pub r·2 : FnKinds.RK 1
-r·2 = OpenKinds.r
+r·2 = BeginWritingKinds.r
 abbrev pub ps·3 : List.List (FnKinds.PK 0)
 ps·3 = AnswerOfKinds.ps
 abbrev pub r·3 : FnKinds.RK 0
@@ -140,7 +136,7 @@ b7 = Syntax.skip
 abbrev b8 : Syntax.Body
 b8 = Syntax.cond (Syntax.copy (Syntax.place 11 [])) b6 b7
 abbrev b9 : Syntax.Body
-b9 = Syntax.assign (Syntax.place 12 []) (Syntax.addrOf (Syntax.place 5 (Syntax.field 0 ∷ Syntax.deref (Syntax.tyInt Syntax.w8) ∷ [])))
+b9 = Syntax.assign (Syntax.place 12 []) (Syntax.addrOf (Syntax.place 5 (Syntax.field 0 ∷ Syntax.deref type·0 ∷ [])))
 abbrev b10 : Syntax.Body
 b10 = Syntax.assign (Syntax.place 13 []) (Syntax.aggregate (Syntax.copy (Syntax.place 12 []) ∷ Syntax.copy (Syntax.place 5 (Syntax.field 1 ∷ [])) ∷ []))
 abbrev b11 : Syntax.Body
@@ -151,14 +147,14 @@ b12 = Syntax.call "project_writer::walk" (Syntax.copy (Syntax.place 4 []) ∷ Sy
 abbrev b13 : Syntax.Body
 b13 = Syntax.assign (Syntax.place 10 []) (Syntax.rvOpd (Syntax.copy (Syntax.place 4 (Syntax.field 1 ∷ []))))
 abbrev b14 : Syntax.Body
-b14 = Syntax.assign (Syntax.place 15 []) (Syntax.addrOf (Syntax.place 5 (Syntax.field 0 ∷ Syntax.deref (Syntax.tyInt Syntax.w8) ∷ [])))
+b14 = Syntax.assign (Syntax.place 15 []) (Syntax.addrOf (Syntax.place 5 (Syntax.field 0 ∷ Syntax.deref type·0 ∷ [])))
 abbrev b15 : Syntax.Body
 b15 = Syntax.assign (Syntax.place 16 []) (Syntax.aggregate (Syntax.copy (Syntax.place 15 []) ∷ Syntax.copy (Syntax.place 5 (Syntax.field 1 ∷ [])) ∷ []))
 abbrev b16 : Syntax.Body
-b16 = Syntax.call "project_writer::course::open" (Syntax.copy (Syntax.place 6 []) ∷ Syntax.copy (Syntax.place 10 []) ∷ Syntax.copy (Syntax.place 16 []) ∷
-    Syntax.copy (Syntax.place 7 []) ∷ []) (Syntax.place 8 [])
+b16 = Syntax.call "project_writer::course::begin_writing" (Syntax.copy (Syntax.place 6 []) ∷ Syntax.copy (Syntax.place 10 []) ∷ Syntax.copy (Syntax.place 16
+    []) ∷ Syntax.copy (Syntax.place 7 []) ∷ []) (Syntax.place 8 [])
 abbrev b17 : Syntax.Body
-b17 = Syntax.assign (Syntax.place 17 []) (Syntax.addrOf (Syntax.place 5 (Syntax.field 0 ∷ Syntax.deref (Syntax.tyInt Syntax.w8) ∷ [])))
+b17 = Syntax.assign (Syntax.place 17 []) (Syntax.addrOf (Syntax.place 5 (Syntax.field 0 ∷ Syntax.deref type·0 ∷ [])))
 abbrev b18 : Syntax.Body
 b18 = Syntax.assign (Syntax.place 18 []) (Syntax.aggregate (Syntax.copy (Syntax.place 17 []) ∷ Syntax.copy (Syntax.place 5 (Syntax.field 1 ∷ [])) ∷ []))
 abbrev b19 : Syntax.Body
@@ -208,7 +204,7 @@ abbrev pub Claims : Type 1
 Claims = FnKinds.In 0 ps·0 × FnKinds.Out 0 ps·0 r·0 × FnKinds.In 2 ps·1 × FnKinds.Out 2 ps·1 r·1 × FnKinds.In 1 ps·2 × FnKinds.Out 1 ps·2 r·2 × FnKinds.In 0
     ps·3 × FnKinds.Out 0 ps·3 r·3
 abbrev t0 : List.List Row.Entry
-t0 = ((0, Rows.any-gone FileanswerLaws.mir) ∷ (1, Rows.sc-here (Row.sInt Syntax.w64)) ∷ (2, Rows.sc-here (Row.sInt Syntax.w64)) ∷ (3, Rows.sc-here (Row.sInt
+t0 = ((0, Rows.any-gone FileAnswerLaws.mir) ∷ (1, Rows.sc-here (Row.sInt Syntax.w64)) ∷ (2, Rows.sc-here (Row.sInt Syntax.w64)) ∷ (3, Rows.sc-here (Row.sInt
     Syntax.w64)) ∷ (4, Rows.sslice Site.the-row type·7 0) ∷ (5, Mut.mslice (Referent.rtF (Referent.fInt Syntax.w8)) type·4 1) ∷ (6, Rows.any-gone Laws.mir)
     ∷ (7, Rows.any-gone CourseLaws.mir) ∷ (8, Rows.any-gone CourseLaws.mir) ∷ (9, Rows.any-gone Syntax.tyBool) ∷ (10, Rows.any-gone type·1) ∷ (11,
     Rows.any-gone Syntax.tyBool) ∷ (12, Rows.any-gone type·3) ∷ (13, Rows.any-gone type·10) ∷ (14, Rows.any-gone CourseLaws.mir) ∷ (15, Rows.any-gone
@@ -450,7 +446,7 @@ module _ (claims· : Claims) where
   abbrev s44 : Typed.Gives T46 T46
   s44 = Know.k-sl-known (Referent.fInt Syntax.w8) T46 5 1 type·4 Row.off 0 λ x. x
   abbrev s46 : Typed.Both T46 T49
-  s46 = Call.callB ps·3 r·3 (claims· .6) (claims· .7) T46 (record { pos = 14; st = []; d = 0; at = λ x. x }, tt) 0 [] FileanswerLaws.mir
+  s46 = Call.callB ps·3 r·3 (claims· .6) (claims· .7) T46 (record { pos = 14; st = []; d = 0; at = λ x. x }, tt) 0 [] FileAnswerLaws.mir
   abbrev s47 : Typed.Mo T49 → Typed.Mo T13
   s47 = Scalar.n-room T49 14 CourseLaws.mir
   abbrev s48 : Typed.Mo T13 → Typed.Mo T14
@@ -467,9 +463,9 @@ module _ (claims· : Claims) where
       abbrev pub Closed : Type 2
       Closed = (𝓤 : URA.URA M) (H : Wp.Heap 𝓤) (A : Atoms.Atoms 𝓤) (W : Kit.Given 𝓤 H A) (𝓣 : Wp.Tables 𝓤 H) (known0 : Plain.Known 𝓤 H A W 𝓣 0 ps·0 r·0
           (claims· .0) (claims· .1) "header::does_admit") (known1 : Plain.Known 𝓤 H A W 𝓣 2 ps·1 r·1 (claims· .2) (claims· .3) "project_writer::walk")
-          (known2 : Plain.Known 𝓤 H A W 𝓣 1 ps·2 r·2 (claims· .4) (claims· .5) "project_writer::course::open") (known3 : Plain.Known 𝓤 H A W 𝓣 0 ps·3 r·3
-          (claims· .6) (claims· .7) "project_writer::course::answer_of") → Statement.Triple 𝓤 (Wp.WpFn 𝓤 H (𝓣 .C) (𝓣 .Λ) (Function.fnOf 2 ps r xs m hs
-          body)) (Function.plainOf 𝓤 H A 2 ps r Pre· Post·)
+          (known2 : Plain.Known 𝓤 H A W 𝓣 1 ps·2 r·2 (claims· .4) (claims· .5) "project_writer::course::begin_writing") (known3 : Plain.Known 𝓤 H A W 𝓣 0
+          ps·3 r·3 (claims· .6) (claims· .7) "project_writer::course::answer_of") → Statement.Triple 𝓤 (Wp.WpFn 𝓤 H (𝓣 .C) (𝓣 .Λ) (Function.fnOf 2 ps r xs m
+          hs body)) (Function.plainOf 𝓤 H A 2 ps r Pre· Post·)
 
     module _ where
       abbrev at0 : Typed.TF T1 O1
@@ -590,8 +586,8 @@ module _ (claims· : Claims) where
       module _ { M : Type 1 } (𝓤 : URA.URA M) (H : Wp.Heap 𝓤) (A : Atoms.Atoms 𝓤) (W : Kit.Given 𝓤 H A) (𝓣 : Wp.Tables 𝓤 H) where
         abbrev Knowns : Type 1
         Knowns = Plain.Known 𝓤 H A W 𝓣 0 ps·0 r·0 (claims· .0) (claims· .1) "header::does_admit" × Plain.Known 𝓤 H A W 𝓣 2 ps·1 r·1 (claims· .2) (claims·
-            .3) "project_writer::walk" × Plain.Known 𝓤 H A W 𝓣 1 ps·2 r·2 (claims· .4) (claims· .5) "project_writer::course::open" × Plain.Known 𝓤 H A W 𝓣 0
-            ps·3 r·3 (claims· .6) (claims· .7) "project_writer::course::answer_of"
+            .3) "project_writer::walk" × Plain.Known 𝓤 H A W 𝓣 1 ps·2 r·2 (claims· .4) (claims· .5) "project_writer::course::begin_writing" × Plain.Known 𝓤
+            H A W 𝓣 0 ps·3 r·3 (claims· .6) (claims· .7) "project_writer::course::answer_of"
 
       module _ (κs : Lifetimes.Lfts 2) (qs : Lifetimes.Shares 2) where
         abbrev g15 : List.List Row.Entry
@@ -736,9 +732,9 @@ module _ (claims· : Claims) where
               Syntax.w64))) d2
           d4 : Typed.Typed 𝓤 H A 𝓣 E G0 b6 Δ1 at4
           d4 = Typed.s-seq 𝓤 H A W 𝓣 E G0 G13 b4 b5 Δ1 (Typed.pass T0 T13 s10) at3 (Make.t-enum-make-wt 𝓤 H A W E 𝓣 FileAnswer.the-type
-              FileanswerLaws.the-laws FileanswerLaws.the-plain tt G0 0 (Scalar.oInt Syntax.w8 1 ∷ []) (λ m. FileAnswer.enum .make (Logic.inr (Logic.inl
-              tt))) (Reads.room-gone 𝓤 H A FileanswerLaws.mir) (tt, tt) Path.refl (λ m wa. Make.made-val FileAnswer.the-type FileanswerLaws.the-laws []
-              (FileAnswer.enum .make (Logic.inr (Logic.inl tt))) tt (wa .1)) λ m wa. Make.made-is FileAnswer.the-type FileanswerLaws.the-laws []
+              FileAnswerLaws.the-laws FileAnswerLaws.the-plain tt G0 0 (Scalar.oInt Syntax.w8 1 ∷ []) (λ m. FileAnswer.enum .make (Logic.inr (Logic.inl
+              tt))) (Reads.room-gone 𝓤 H A FileAnswerLaws.mir) (tt, tt) Path.refl (λ m wa. Make.made-val FileAnswer.the-type FileAnswerLaws.the-laws []
+              (FileAnswer.enum .make (Logic.inr (Logic.inl tt))) tt (wa .1)) λ m wa. Make.made-is FileAnswer.the-type FileAnswerLaws.the-laws []
               (FileAnswer.enum .make (Logic.inr (Logic.inl tt))) tt (wa .1)) d3
           d5 : Typed.Typed 𝓤 H A 𝓣 E G11 b6 Δ1 at5
           d5 = Typed.g-pre 𝓤 H A W 𝓣 E G11 G0 b6 Δ1 (Typed.pass T11 T0 s9) at4 (Scalar.g-room 𝓤 H A W E G11 11 Syntax.tyBool (Scalar.room-sc 𝓤 H A W
@@ -776,7 +772,7 @@ module _ (claims· : Claims) where
               A W (G48 .slots)) ((Yields.yields-copy 𝓤 H A W (λ ρ. Unit) (Declared.row Course.the-type) Path.refl (Copies.cEnum Course.the-type
               CourseLaws.the-laws CourseLaws.the-copy .copy 𝓤 H A W) row·6 (λ x. x) (λ x. x) (λ ρ told. Local.mem-whole 𝓤 H A W (Declared.row
               Course.the-type) ρ) λ ρ told. Local.whole-mem 𝓤 H A W (Declared.row Course.the-type) ρ, Path.refl), tt) (Reads.room-gone 𝓤 H A
-              FileanswerLaws.mir) tt Path.refl) d15
+              FileAnswerLaws.mir) tt Path.refl) d15
           d17 : Typed.Typed 𝓤 H A 𝓣 E G46 b22 Δ0 at17
           d17 = Typed.g-pre 𝓤 H A W 𝓣 E G46 G48 b22 Δ0 (λ Ψ. Ψ) at16 (Lifetime.g-forget 𝓤 H A W E G46 4 Row.dead Path.refl) d16
           d18 : Typed.Typed 𝓤 H A 𝓣 E G46 b22 Δ0 at18
@@ -836,16 +832,16 @@ module _ (claims· : Claims) where
               (StructDeclared.row Header.the-type) Laws.mir Path.refl)) d31
           d33 : Typed.Typed 𝓤 H A 𝓣 E G31 b26 Δ0 at33
           d33 = Typed.s-seq 𝓤 H A W 𝓣 E G31 G32 b16 b25 Δ0 (Typed.both s29) at32 (Plain.t-call-plain 𝓤 H A W 𝓣 1 ps·2 r·2 (claims· .4) (claims· .5)
-              "project_writer::course::open" (known .2) E (λ pos β. β) G31 (record { pos = 6; st = []; d = 0; at = λ x. x }, (Num.vAt 10 λ x. x, (record {
-              pos = 16; ty = Syntax.tyRef Syntax.erased Syntax.mut type·0; ref = λ x. x }, (record { pos = 7; st = []; d = 0; at = λ x. x }, tt)))) 8 (3 ∷
-              []) (Call.sub-id 𝓤 H A W (G31 .slots)) ((Yields.yields-copy 𝓤 H A W (λ ρ. Unit) (StructDeclared.row Header.the-type) Path.refl (Copies.cStruct
-              Header.the-type Laws.the-laws Laws.the-copy .copy 𝓤 H A W) row·5 (λ x. x) (λ x. x) (λ ρ told. Local.mem-whole 𝓤 H A W (StructDeclared.row
-              Header.the-type) ρ) λ ρ told. Local.whole-mem 𝓤 H A W (StructDeclared.row Header.the-type) ρ, Path.refl), ((Scalar.reads-sc 𝓤 H A W (Row.sInt
-              Syntax.w64), Path.refl), (Reads.as-is 𝓤 H A (Mut.mslice (Referent.rtF (Referent.fInt Syntax.w8)) type·3 3), Mut.reads-mslice 𝓤 H A W
-              (Referent.rtF (Referent.fInt Syntax.w8)) type·3 3, Path.refl, ((Yields.yields-copy 𝓤 H A W (λ ρ. Unit) (Declared.row Course.the-type)
-              Path.refl (Copies.cEnum Course.the-type CourseLaws.the-laws CourseLaws.the-copy .copy 𝓤 H A W) row·6 (λ x. x) (λ x. x) (λ ρ told.
-              Local.mem-whole 𝓤 H A W (Declared.row Course.the-type) ρ) λ ρ told. Local.whole-mem 𝓤 H A W (Declared.row Course.the-type) ρ, Path.refl),
-              tt)))) (Reads.room-gone 𝓤 H A CourseLaws.mir) (tt, tt) Path.refl) d32
+              "project_writer::course::begin_writing" (known .2) E (λ pos β. β) G31 (record { pos = 6; st = []; d = 0; at = λ x. x }, (Num.vAt 10 λ x. x,
+              (record { pos = 16; ty = Syntax.tyRef Syntax.erased Syntax.mut type·0; ref = λ x. x }, (record { pos = 7; st = []; d = 0; at = λ x. x },
+              tt)))) 8 (3 ∷ []) (Call.sub-id 𝓤 H A W (G31 .slots)) ((Yields.yields-copy 𝓤 H A W (λ ρ. Unit) (StructDeclared.row Header.the-type) Path.refl
+              (Copies.cStruct Header.the-type Laws.the-laws Laws.the-copy .copy 𝓤 H A W) row·5 (λ x. x) (λ x. x) (λ ρ told. Local.mem-whole 𝓤 H A W
+              (StructDeclared.row Header.the-type) ρ) λ ρ told. Local.whole-mem 𝓤 H A W (StructDeclared.row Header.the-type) ρ, Path.refl),
+              ((Scalar.reads-sc 𝓤 H A W (Row.sInt Syntax.w64), Path.refl), (Reads.as-is 𝓤 H A (Mut.mslice (Referent.rtF (Referent.fInt Syntax.w8)) type·3
+              3), Mut.reads-mslice 𝓤 H A W (Referent.rtF (Referent.fInt Syntax.w8)) type·3 3, Path.refl, ((Yields.yields-copy 𝓤 H A W (λ ρ. Unit)
+              (Declared.row Course.the-type) Path.refl (Copies.cEnum Course.the-type CourseLaws.the-laws CourseLaws.the-copy .copy 𝓤 H A W) row·6 (λ x. x)
+              (λ x. x) (λ ρ told. Local.mem-whole 𝓤 H A W (Declared.row Course.the-type) ρ) λ ρ told. Local.whole-mem 𝓤 H A W (Declared.row Course.the-type)
+              ρ, Path.refl), tt)))) (Reads.room-gone 𝓤 H A CourseLaws.mir) (tt, tt) Path.refl) d32
           d34 : Typed.Typed 𝓤 H A 𝓣 E G30 b27 Δ0 at34
           d34 = Typed.s-seq 𝓤 H A W 𝓣 E G30 G31 b15 b26 Δ0 (Typed.ask s28) at33 (Relend.t-sl-aggregate 𝓤 H A W E (Referent.rtF (Referent.fInt Syntax.w8)) 𝓣
               (Relend.asMut (Referent.rtF (Referent.fInt Syntax.w8))) G30 15 16 3 type·3 type·3 (λ x. x) (Scalar.oFld 5 (Syntax.field 1 ∷ []) type·1 8 λ v.
@@ -938,12 +934,12 @@ module _ (claims· : Claims) where
               d52
           d54 : Typed.Typed 𝓤 H A 𝓣 E G0 b38 Δ0 at54
           d54 = Typed.s-seq 𝓤 H A W 𝓣 E G0 G3 b0 b37 Δ0 (Typed.pass T0 T3 s1) at53 (StructMake.t-struct-make 𝓤 H A W E 𝓣 (Apart.apartT Header.the-type)
-              Laws.the-laws Laws.the-plain G0 6 (Scalar.oAt 1 (Syntax.tyInt Syntax.w64) (Row.valS (Row.sInt Syntax.w64)) ∷ Scalar.oAt 2 (Syntax.tyInt
-              Syntax.w64) (Row.valS (Row.sInt Syntax.w64)) ∷ Scalar.oAt 3 (Syntax.tyInt Syntax.w64) (Row.valS (Row.sInt Syntax.w64)) ∷ []) (λ m. (m .1 .0,
-              (m .1 .1 .0, (m .1 .1 .1 .0, tt)))) (Reads.room-gone 𝓤 H A Laws.mir) ((Scalar.reads-sc 𝓤 H A W (Row.sInt Syntax.w64), Path.refl),
-              ((Scalar.reads-sc 𝓤 H A W (Row.sInt Syntax.w64), Path.refl), ((Scalar.reads-sc 𝓤 H A W (Row.sInt Syntax.w64), Path.refl), tt))) Path.refl (λ
-              u. Path.refl) λ m. StructMake.is-wt (Apart.apartT Header.the-type) Laws.the-laws (StructMake.u64-wt, (StructMake.u64-wt, (StructMake.u64-wt,
-              tt))) (m .1 .0, (m .1 .1 .0, (m .1 .1 .1 .0, tt)))) d53
+              Laws.the-laws Laws.the-plain G0 6 (Scalar.oAt 1 type·1 (Row.valS (Row.sInt Syntax.w64)) ∷ Scalar.oAt 2 type·1 (Row.valS (Row.sInt Syntax.w64))
+              ∷ Scalar.oAt 3 type·1 (Row.valS (Row.sInt Syntax.w64)) ∷ []) (λ m. (m .1 .0, (m .1 .1 .0, (m .1 .1 .1 .0, tt)))) (Reads.room-gone 𝓤 H A
+              Laws.mir) ((Scalar.reads-sc 𝓤 H A W (Row.sInt Syntax.w64), Path.refl), ((Scalar.reads-sc 𝓤 H A W (Row.sInt Syntax.w64), Path.refl),
+              ((Scalar.reads-sc 𝓤 H A W (Row.sInt Syntax.w64), Path.refl), tt))) Path.refl (λ u. Path.refl) λ m. StructMake.is-wt (Apart.apartT
+              Header.the-type) Laws.the-laws (StructMake.u64-wt, (StructMake.u64-wt, (StructMake.u64-wt, tt))) (m .1 .0, (m .1 .1 .0, (m .1 .1 .1 .0, tt))))
+              d53
           d55 : Typed.Typed 𝓤 H A 𝓣 E G0 b38 Δ0 at55
           d55 = Typed.g-pre 𝓤 H A W 𝓣 E G0 G0 b38 Δ0 (Typed.give s0) at54 (Know.g-sl-known 𝓤 H A W (Referent.fInt Syntax.w8) E G0 5 1 type·4 (Row.lease (κs
               .1 .0) (qs .1 .0)) 0 (λ x. x) record { fits = Dec.lit< tt } (Reads.as-is 𝓤 H A row·9) Path.refl tt) d54
@@ -1123,46 +1119,46 @@ module _ (claims· : Claims) where
 
       module _ (before· : After-slice-known2) where
 
-        pub record After-open-arg·own : Type 0 where
+        pub record After-begin-writing-arg·own : Type 0 where
           pub given : s27 .gives (m23 (before· .before) (before· .slice-known2 .given))
 
-      pub record After-open-arg : Type 0 where
+      pub record After-begin-writing-arg : Type 0 where
         pub before : After-slice-known2
-        pub open-arg : After-open-arg·own before
-      abbrev pub Need-open-requires : Type 0
-      Need-open-requires = (c : After-open-arg) → s29 .asks (m25 (c .before) (c .open-arg .given))
-      abbrev pub m26 : (before : After-open-arg) → (given : s29 .gives (m25 (before .before) (before .open-arg .given))) → Typed.Mo T32
-      m26 = λ before given. s29 .next (m25 (before .before) (before .open-arg .given)) given
+        pub begin-writing-arg : After-begin-writing-arg·own before
+      abbrev pub Need-begin-writing-requires : Type 0
+      Need-begin-writing-requires = (c : After-begin-writing-arg) → s29 .asks (m25 (c .before) (c .begin-writing-arg .given))
+      abbrev pub m26 : (before : After-begin-writing-arg) → (given : s29 .gives (m25 (before .before) (before .begin-writing-arg .given))) → Typed.Mo T32
+      m26 = λ before given. s29 .next (m25 (before .before) (before .begin-writing-arg .given)) given
 
-      module _ (before· : After-open-arg) where
-        abbrev pub After-open·own : Type 0
-        After-open·own = Called.Called ps·2 r·2 (claims· .5) T31 (record { pos = 6; st = []; d = 0; at = λ x. x }, (Num.vAt 10 λ x. x, (record { pos = 16;
-            ty = Syntax.tyRef Syntax.erased Syntax.mut type·0; ref = λ x. x }, (record { pos = 7; st = []; d = 0; at = λ x. x }, tt)))) (m25 (before·
-            .before) (before· .open-arg .given))
+      module _ (before· : After-begin-writing-arg) where
+        abbrev pub After-begin-writing·own : Type 0
+        After-begin-writing·own = Called.Called ps·2 r·2 (claims· .5) T31 (record { pos = 6; st = []; d = 0; at = λ x. x }, (Num.vAt 10 λ x. x, (record {
+            pos = 16; ty = Syntax.tyRef Syntax.erased Syntax.mut type·0; ref = λ x. x }, (record { pos = 7; st = []; d = 0; at = λ x. x }, tt)))) (m25
+            (before· .before) (before· .begin-writing-arg .given))
 
-      pub record After-open : Type 0 where
-        pub before : After-open-arg
-        pub «open» : After-open·own before
-      abbrev pub After-open·gave : (c : After-open) → s29 .gives (m25 (c .before .before) (c .before .open-arg .given))
-      After-open·gave = λ c. Called.given ps·2 r·2 (claims· .5) T31 (record { pos = 6; st = []; d = 0; at = λ x. x }, (Num.vAt 10 λ x. x, (record { pos =
-          16; ty = Syntax.tyRef Syntax.erased Syntax.mut type·0; ref = λ x. x }, (record { pos = 7; st = []; d = 0; at = λ x. x }, tt)))) (m25 (c .before
-          .before) (c .before .open-arg .given)) (c .«open»)
-      abbrev pub m27 : (before : After-open-arg) → (given : s29 .gives (m25 (before .before) (before .open-arg .given))) → Typed.Mo T33
+      pub record After-begin-writing : Type 0 where
+        pub before : After-begin-writing-arg
+        pub begin-writing : After-begin-writing·own before
+      abbrev pub After-begin-writing·gave : (c : After-begin-writing) → s29 .gives (m25 (c .before .before) (c .before .begin-writing-arg .given))
+      After-begin-writing·gave = λ c. Called.given ps·2 r·2 (claims· .5) T31 (record { pos = 6; st = []; d = 0; at = λ x. x }, (Num.vAt 10 λ x. x, (record {
+          pos = 16; ty = Syntax.tyRef Syntax.erased Syntax.mut type·0; ref = λ x. x }, (record { pos = 7; st = []; d = 0; at = λ x. x }, tt)))) (m25 (c
+          .before .before) (c .before .begin-writing-arg .given)) (c .begin-writing)
+      abbrev pub m27 : (before : After-begin-writing-arg) → (given : s29 .gives (m25 (before .before) (before .begin-writing-arg .given))) → Typed.Mo T33
       m27 = λ before given. s30 (m26 before given)
-      abbrev pub m28 : (before : After-open-arg) → (given : s29 .gives (m25 (before .before) (before .open-arg .given))) → Typed.Mo T34
+      abbrev pub m28 : (before : After-begin-writing-arg) → (given : s29 .gives (m25 (before .before) (before .begin-writing-arg .given))) → Typed.Mo T34
       m28 = λ before given. s31 (m27 before given)
-      abbrev pub m29 : (before : After-open-arg) → (given : s29 .gives (m25 (before .before) (before .open-arg .given))) → Typed.Mo T35
+      abbrev pub m29 : (before : After-begin-writing-arg) → (given : s29 .gives (m25 (before .before) (before .begin-writing-arg .given))) → Typed.Mo T35
       m29 = λ before given. s32 (m28 before given)
-      abbrev pub m30 : (before : After-open) → (given : s34 .gives (m29 (before .before) (After-open·gave before))) → Typed.Mo T37
-      m30 = λ before given. s34 .next (m29 (before .before) (After-open·gave before)) given
+      abbrev pub m30 : (before : After-begin-writing) → (given : s34 .gives (m29 (before .before) (After-begin-writing·gave before))) → Typed.Mo T37
+      m30 = λ before given. s34 .next (m29 (before .before) (After-begin-writing·gave before)) given
 
-      module _ (before· : After-open) where
+      module _ (before· : After-begin-writing) where
 
         pub record After-buffer2·own : Type 0 where
-          pub given : s34 .gives (m29 (before· .before) (After-open·gave before·))
+          pub given : s34 .gives (m29 (before· .before) (After-begin-writing·gave before·))
 
       pub record After-buffer2 : Type 0 where
-        pub before : After-open
+        pub before : After-begin-writing
         pub buffer2 : After-buffer2·own before
       abbrev pub m31 : (before : After-buffer2) → (given : s35 .gives (m30 (before .before) (before .buffer2 .given))) → Typed.Mo T37
       m31 = λ before given. s35 .next (m30 (before .before) (before .buffer2 .given)) given
@@ -1272,9 +1268,9 @@ module _ (claims· : Claims) where
           .before .before .before .before .before .before .before .before .before .before .before .before .before .before .before .args)) (m42 (c .before)
           (After-answer-of·gave c) .1)))
 
-      module _ (does-admit-requires : Need-does-admit-requires) (returns : Need-returns) (walk-requires : Need-walk-requires) (open-requires :
-          Need-open-requires) (walk-requires-2 : Need-walk-requires-2) (answer-of-requires : Need-answer-of-requires) (same-length : Need-same-length)
-          (returns-2 : Need-returns-2) where
+      module _ (does-admit-requires : Need-does-admit-requires) (returns : Need-returns) (walk-requires : Need-walk-requires) (begin-writing-requires :
+          Need-begin-writing-requires) (walk-requires-2 : Need-walk-requires-2) (answer-of-requires : Need-answer-of-requires) (same-length :
+          Need-same-length) (returns-2 : Need-returns-2) where
         lay6 : (c : After-answer-of) → at15 (W0 (c .before .before .before .before .before .before .before .before .before .before .before .before .before
             .before .before .before .κs) (c .before .before .before .before .before .before .before .before .before .before .before .before .before .before
             .before .before .args)) (m38 (c .before) (After-answer-of·gave c))
@@ -1292,25 +1288,25 @@ module _ (claims· : Claims) where
             before = c .before; walk2 = c .walk2 }; buffer3 = record { given = g } }; slice-known4 = record { given = g' } }; answer-of = Called.called ps·3
             r·3 (claims· .7) T46 (record { pos = 14; st = []; d = 0; at = λ x. x }, tt) (m37 record { before = record { before = c .before; walk2 = c .walk2
             }; buffer3 = record { given = g } } g') g'' }))
-        lay4 : (c : After-open) → at32 (W0 (c .before .before .before .before .before .before .before .before .before .κs) (c .before .before .before
-            .before .before .before .before .before .before .args)) (m26 (c .before) (After-open·gave c))
+        lay4 : (c : After-begin-writing) → at32 (W0 (c .before .before .before .before .before .before .before .before .before .κs) (c .before .before
+            .before .before .before .before .before .before .before .args)) (m26 (c .before) (After-begin-writing·gave c))
         lay4 = λ c. (Path.refl, λ g. λ g'. λ g''. (Path.refl, (walk-requires-2 record { before = record { before = record { before = record { before = c
-            .before; «open» = c .«open» }; buffer2 = record { given = g } }; slice-known3 = record { given = g' } }; walk-arg2 = record { given = g'' } }, λ
-            g'3. lay5 record { before = record { before = record { before = record { before = record { before = c .before; «open» = c .«open» }; buffer2 =
-            record { given = g } }; slice-known3 = record { given = g' } }; walk-arg2 = record { given = g'' } }; walk2 = Called.called ps·1 r·1 (claims·
-            .3) T42 (record { pos = 4; ty = Syntax.tyRef (Syntax.named 0) Syntax.imm (Memory.pointee (Site.the-row .written)); ref = λ x. x }, (record { pos
-            = 18; ty = Syntax.tyRef Syntax.erased Syntax.mut type·0; ref = λ x. x }, (record { pos = 8; st = []; d = 0; at = λ x. x }, tt))) (m33 record {
-            before = record { before = record { before = c .before; «open» = c .«open» }; buffer2 = record { given = g } }; slice-known3 = record { given =
-            g' } } g'') g'3 })))
+            .before; begin-writing = c .begin-writing }; buffer2 = record { given = g } }; slice-known3 = record { given = g' } }; walk-arg2 = record {
+            given = g'' } }, λ g'3. lay5 record { before = record { before = record { before = record { before = record { before = c .before; begin-writing
+            = c .begin-writing }; buffer2 = record { given = g } }; slice-known3 = record { given = g' } }; walk-arg2 = record { given = g'' } }; walk2 =
+            Called.called ps·1 r·1 (claims· .3) T42 (record { pos = 4; ty = Syntax.tyRef (Syntax.named 0) Syntax.imm (Memory.pointee (Site.the-row
+            .written)); ref = λ x. x }, (record { pos = 18; ty = Syntax.tyRef Syntax.erased Syntax.mut type·0; ref = λ x. x }, (record { pos = 8; st = []; d
+            = 0; at = λ x. x }, tt))) (m33 record { before = record { before = record { before = c .before; begin-writing = c .begin-writing }; buffer2 =
+            record { given = g } }; slice-known3 = record { given = g' } } g'') g'3 })))
         lay3 : (c : After-walk) → at42 (W0 (c .before .before .before .before .before .κs) (c .before .before .before .before .before .args)) (m19 (c
             .before) (After-walk·gave c))
-        lay3 = λ c. (Path.refl, λ g. λ g'. λ g''. (Path.refl, (open-requires record { before = record { before = record { before = record { before = c
-            .before; walk = c .walk }; buffer = record { given = g } }; slice-known2 = record { given = g' } }; open-arg = record { given = g'' } }, λ g'3.
-            lay4 record { before = record { before = record { before = record { before = record { before = c .before; walk = c .walk }; buffer = record {
-            given = g } }; slice-known2 = record { given = g' } }; open-arg = record { given = g'' } }; «open» = Called.called ps·2 r·2 (claims· .5) T31
-            (record { pos = 6; st = []; d = 0; at = λ x. x }, (Num.vAt 10 λ x. x, (record { pos = 16; ty = Syntax.tyRef Syntax.erased Syntax.mut type·0; ref
-            = λ x. x }, (record { pos = 7; st = []; d = 0; at = λ x. x }, tt)))) (m25 record { before = record { before = record { before = c .before; walk
-            = c .walk }; buffer = record { given = g } }; slice-known2 = record { given = g' } } g'') g'3 })))
+        lay3 = λ c. (Path.refl, λ g. λ g'. λ g''. (Path.refl, (begin-writing-requires record { before = record { before = record { before = record { before
+            = c .before; walk = c .walk }; buffer = record { given = g } }; slice-known2 = record { given = g' } }; begin-writing-arg = record { given = g''
+            } }, λ g'3. lay4 record { before = record { before = record { before = record { before = record { before = c .before; walk = c .walk }; buffer =
+            record { given = g } }; slice-known2 = record { given = g' } }; begin-writing-arg = record { given = g'' } }; begin-writing = Called.called ps·2
+            r·2 (claims· .5) T31 (record { pos = 6; st = []; d = 0; at = λ x. x }, (Num.vAt 10 λ x. x, (record { pos = 16; ty = Syntax.tyRef Syntax.erased
+            Syntax.mut type·0; ref = λ x. x }, (record { pos = 7; st = []; d = 0; at = λ x. x }, tt)))) (m25 record { before = record { before = record {
+            before = c .before; walk = c .walk }; buffer = record { given = g } }; slice-known2 = record { given = g' } } g'') g'3 })))
         lay2 : (c : Else1) → at47 (W0 (c .before .before .before .κs) (c .before .before .before .args)) (m15 (c .before))
         lay2 = λ c. λ g. (Path.refl, (walk-requires record { before = record { before = c .before; if1 = c .if1 }; walk-arg = record { given = g } }, λ g'.
             lay3 record { before = record { before = record { before = c .before; if1 = c .if1 }; walk-arg = record { given = g } }; walk = Called.called
@@ -1335,7 +1331,7 @@ module _ (claims· : Claims) where
 
         module _ { M : Type 1 } (𝓤 : URA.URA M) (H : Wp.Heap 𝓤) (A : Atoms.Atoms 𝓤) (W : Kit.Given 𝓤 H A) (𝓣 : Wp.Tables 𝓤 H) (known0 : Plain.Known 𝓤 H A W
             𝓣 0 ps·0 r·0 (claims· .0) (claims· .1) "header::does_admit") (known1 : Plain.Known 𝓤 H A W 𝓣 2 ps·1 r·1 (claims· .2) (claims· .3)
-            "project_writer::walk") (known2 : Plain.Known 𝓤 H A W 𝓣 1 ps·2 r·2 (claims· .4) (claims· .5) "project_writer::course::open") (known3 :
+            "project_writer::walk") (known2 : Plain.Known 𝓤 H A W 𝓣 1 ps·2 r·2 (claims· .4) (claims· .5) "project_writer::course::begin_writing") (known3 :
             Plain.Known 𝓤 H A W 𝓣 0 ps·3 r·3 (claims· .6) (claims· .7) "project_writer::course::answer_of") where
           pub spec : Statement.Triple 𝓤 (Wp.WpFn 𝓤 H (𝓣 .C) (𝓣 .Λ) (Function.fnOf 2 ps r xs m hs body)) (Function.plainOf 𝓤 H A 2 ps r Pre· Post·)
           spec = Plain.t-fn-plain 𝓤 H A W 𝓣 2 ps r xs m hs body (λ κs qs bs. Φ) (λ κs qs bs bd. typed κs qs 𝓤 H A W 𝓣 (known0, known1, known2, known3) bs

@@ -1,6 +1,6 @@
 -- The quotient rounded down, and one more where there is a rest, is the quotient rounded up.
 use borrow.Author.Needs.{needs}
-use Rattle.remainder.specs.Quotient.{quotientUp}
+use Rattle.laws.specs.Quotient.{quotientUp}
 use Rattle.unit.proofs.writing.count_sites.Statement.{statement}
 use Rattle.unit.proofs.writing.count_sites.Tie as tie
 

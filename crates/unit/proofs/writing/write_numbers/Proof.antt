@@ -5,7 +5,7 @@ use mathlib.Core.Path.{_≡_, sym, _∙_}
 use mathlib.Core.Bool.{true}
 use lib.ListN.{length}
 use Rattle.header.specs.Header.{admits}
-use Rattle.project_writer.specs.WholeCourse.{limits-refused, measuring, opening, writing, whole-course}
+use Rattle.project_writer.specs.WholeCourse.{limits-refused, measuring, beginning, writing, whole-course}
 use Rattle.unit.specs.FileNumbers.{sitesGiven}
 use Rattle.unit.specs.Given.{given-count}
 use Rattle.unit.proofs.writing.write_numbers.Statement.{statement}
@@ -33,19 +33,19 @@ walk-numbers-requires c κs =
     let args = admit .before .before .before .before .args in
     measuring (args .header) (sitesGiven (args .numbers .now)) (args .buffer .now) (within (c .before))
 
-open-requires : tie.Need-open-requires
-open-requires c κs =
+begin-writing-requires : tie.Need-begin-writing-requires
+begin-writing-requires c κs =
     let walk = c .before .before .before in
     let limits = walk .before .before in
-    rw (counted (limits .before .before)) (opening _ _ _ (within limits) _ _ (walk .walk-numbers .ensures))
+    rw (counted (limits .before .before)) (beginning _ _ _ (within limits) _ _ (walk .walk-numbers .ensures))
 
 walk-numbers-requires-2 : tie.Need-walk-numbers-requires-2
 walk-numbers-requires-2 c κs =
     let tried = c .before .before .before in
     let walk = tried .before .before .before .before in
     let limits = walk .before .before in
-    let opened = rw (counted (limits .before .before)) at (tried .«open» .ensures) in
-    writing _ _ _ (within limits) _ _ (walk .walk-numbers .ensures) _ _ opened
+    let begun = rw (counted (limits .before .before)) at (tried .begin-writing .ensures) in
+    writing _ _ _ (within limits) _ _ (walk .walk-numbers .ensures) _ _ begun
 
 returns-2 : tie.Need-returns-2
 returns-2 c =
@@ -53,8 +53,8 @@ returns-2 c =
     let tried = put .before .before .before .before in
     let walk = tried .before .before .before .before in
     let limits = walk .before .before in
-    let opened = rw (counted (limits .before .before)) at (tried .«open» .ensures) in
-    whole-course _ _ _ (within limits) _ _ (walk .walk-numbers .ensures) _ _ opened _ _ _ (put .walk-numbers2 .ensures) (c .answer-of .ensures)
+    let begun = rw (counted (limits .before .before)) at (tried .begin-writing .ensures) in
+    whole-course _ _ _ (within limits) _ _ (walk .walk-numbers .ensures) _ _ begun _ _ _ (put .walk-numbers2 .ensures) (c .answer-of .ensures)
 
 pub write-numbers-spec : {M : Type 1} → statement M
 write-numbers-spec =
@@ -63,7 +63,7 @@ write-numbers-spec =
     (λ c κs. search needs) (λ c κs. search needs)
     returns
     walk-numbers-requires
-    open-requires
+    begin-writing-requires
     walk-numbers-requires-2
     (λ c κs. search needs) (λ c. search needs)
     returns-2)

@@ -1,8 +1,8 @@
 //! Times of the engine's brackets, of its line of a site and of whole projects,
-//! read and written, with the stored numbers lent, beside plain doubles and, where they are
-//! installed, two interval libraries, in one run. For brackets and lines the
-//! engine's program `rounds` is run with few and with many rounds, and the
-//! difference is divided by what was made.
+//! read and written, with the stored numbers lent, beside plain doubles and,
+//! where they are installed, two interval libraries, in one run. For brackets
+//! and lines the engine's program `rounds` is run with few and with many
+//! rounds, and the difference is divided by what was made.
 
 mod intervals;
 

@@ -3,14 +3,14 @@ use borrow.Author.Needs.{needs}
 use native.Mathlib.Omega.{arith}
 use mathlib.Core.Path.{refl}
 use borrow.Author.Tests.{le-leb, lt-leb}
-use Rattle.project_writer.proofs.course.open.Statement.{statement}
-use Rattle.project_writer.proofs.course.open.Tie as tie
+use Rattle.project_writer.proofs.course.begin_writing.Statement.{statement}
+use Rattle.project_writer.proofs.course.begin_writing.Tie as tie
 
 put-header-requires : tie.Need-put-header-requires
 put-header-requires c κs =
     let course = c .before .before .before in
-    let opens = rw (course .course3 .given .1) at (course .before .before .before .pre) in
-    (opens .0, omega arith)
+    let begins = rw (course .course3 .given .1) at (course .before .before .before .pre) in
+    (begins .0, omega arith)
 
 returns-4 : tie.Need-returns-4
 returns-4 c =
@@ -18,8 +18,8 @@ returns-4 c =
     let room = put .before .before in
     rw (room .before .before .course3 .given .1, le-leb _ _ (room .if1 .left)) (refl, put .put-header .ensures)
 
-pub open-spec : {M : Type 1} → statement M
-open-spec =
+pub begin-writing-spec : {M : Type 1} → statement M
+begin-writing-spec =
     tie.close
     (tie.spec
     (λ c. search needs) (λ c. search needs) (λ c. search needs)
