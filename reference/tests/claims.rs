@@ -5,9 +5,10 @@ use std::collections::HashSet;
 use std::fs;
 use std::path::{Path, PathBuf};
 
-const PAGES: [&str; 5] = [
+const PAGES: [&str; 6] = [
     "README.md",
     "docs/ARCHITECTURE.md",
+    "docs/CHANGES.md",
     "docs/CLAIMS.md",
     "docs/DECISIONS.md",
     "docs/REVIEW.md",
@@ -17,13 +18,14 @@ const PAGES: [&str; 5] = [
 const FEWEST: usize = 450;
 
 /// Where a path starts that has to exist wherever it is written.
-const ROOTS: [&str; 6] = [
+const ROOTS: [&str; 7] = [
     "crates/",
     "docs/",
     "reference/",
     "demo/",
     "examples/",
     "include/",
+    "tools/",
 ];
 
 /// Words that may stand before the name of a definition, and those that make

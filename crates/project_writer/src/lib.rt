@@ -22,11 +22,11 @@ fn walk(sites: &[Site], buffer: &mut [u8], start: Course) -> Course
     ensures { λ r. ⌜ (r ≡ walkCourse (now (sites .entry)) start) × (now (buffer .exit) ≡ walkBuffer (now (sites .entry)) start (now (buffer .entry))) ⌝ }
 {
     let mut course = start;
-    let mut i: usize = 0;
+    let mut i = 0;
     while i < sites.len() {
         let site = sites[i];
         course = step(site, buffer, course);
-        i = i + 1;
+        i += 1;
     }
     course
 }

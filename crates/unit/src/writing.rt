@@ -36,7 +36,7 @@ fn walk_numbers(numbers: &[u64], buffer: &mut [u8], start: Course) -> Course
 {
     let sites = count_sites(numbers.len());
     let mut course = start;
-    let mut i: usize = 0;
+    let mut i = 0;
     while i < sites {
         let at = SITE_NUMBERS * i;
         let site = site_from(&numbers[at..]);
