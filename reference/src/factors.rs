@@ -30,13 +30,20 @@ pub fn lane(model: &SegmentModel, width: u64, traffic: u64) -> Rational {
     of_related(model, &width_value(&model.lane, column as usize, traffic))
 }
 
-/// The columns are 0, 2, 4, 6 and 8 or more feet; an odd width takes the next
-/// lower one.
+/// The columns are 0, 2, 4, 6 and 8 or more feet; a width of 1, 3, 5 or 7
+/// takes the mean of its two neighbours, of the width and of the type each,
+/// before the two are multiplied.
 pub fn shoulder(model: &SegmentModel, width: u64, shoulder_type: u64, traffic: u64) -> Rational {
-    let column = (width.min(8) / 2) as usize;
-    let by_width = width_value(&model.shoulder, column, traffic);
-    let by_type = Rational::of(model.shoulder_type[shoulder_type as usize][column], 100);
+    let narrow = width.min(8);
+    let columns = [narrow / 2, narrow.div_ceil(2)].map(|column| column as usize);
+    let by_width = mean(columns.map(|column| width_value(&model.shoulder, column, traffic)));
+    let row = &model.shoulder_type[shoulder_type as usize];
+    let by_type = mean(columns.map(|column| Rational::of(row[column], 100)));
     of_related(model, &(&by_width * &by_type))
+}
+
+fn mean([one, other]: [Rational; 2]) -> Rational {
+    &(&one + &other) * &Rational::of(1, 2)
 }
 
 /// The curve's length in thousandths of a mile, its radius in feet and how

@@ -758,7 +758,8 @@ fn of_field(
 }
 
 /// Table 3 at the widths that document 01 has: 0, 2, 4, 6 and 8 feet. Its 1, 3
-/// and 10 feet are left out, since the house rule takes the next lower width.
+/// and 10 feet are left out: 1 and 3 take the mean of their neighbours here, 10
+/// the last column.
 fn table_3() -> Vec<Factor> {
     let widths = [0, 2, 4, 6, 8];
     let plain = Site::plain(SEGMENT, 10_000, 20_000);

@@ -236,47 +236,72 @@ const LANES: [(u16, &[Row]); 5] = [
     ),
 ];
 
+/// A paved shoulder below 400: 1.10, 1.07, 1.02, 1.00, 0.98; between them 1.085,
+/// 1.045, 1.01, 0.99.
+const LIGHT_SHOULDERS: [Row; 9] = [
+    (0, "1.035"),
+    (1, "1.02975"),
+    (2, "1.0245"),
+    (3, "1.01575"),
+    (4, "1.007"),
+    (5, "1.0035"),
+    (7, "0.9965"),
+    (8, "0.993"),
+    (9, "0.993"),
+];
+
 /// "Shoulder": a paved shoulder's width value by traffic, and 1 + 0.35(value -
-/// 1). A paved shoulder of 6 feet has 1.
+/// 1). A paved shoulder of 6 feet has 1. "A width of 1, 3, 5 or 7 feet takes
+/// the mean of its two neighbours", and 8 feet is "8 or more".
 const SHOULDERS: [(u16, &[Row]); 5] = [
-    // Below 400: 1.10, 1.07, 1.02, 1.00, 0.98.
-    (
-        399,
-        &[(0, "1.035"), (2, "1.0245"), (4, "1.007"), (8, "0.993")],
-    ),
+    (399, &LIGHT_SHOULDERS),
     // Nothing is added yet.
-    (
-        400,
-        &[(0, "1.035"), (2, "1.0245"), (4, "1.007"), (8, "0.993")],
-    ),
+    (400, &LIGHT_SHOULDERS),
     // 600 times 0.00025, 0.000143, 0.00008125 and -0.00006875 added: 1.25,
-    // 1.1558, 1.06875, 0.93875.
+    // 1.1558, 1.06875, 0.93875; between them and 1.00 of 6 feet: 1.2029,
+    // 1.112275, 1.034375, 0.969375.
     (
         1_000,
         &[
             (0, "1.0875"),
+            (1, "1.071015"),
             (2, "1.05453"),
+            (3, "1.03929625"),
             (4, "1.0240625"),
+            (5, "1.01203125"),
+            (7, "0.98928125"),
             (8, "0.9785625"),
+            (9, "0.9785625"),
         ],
     ),
-    // 1,600 times: 1.50, 1.2988, 1.15, 0.87.
+    // 1,600 times: 1.50, 1.2988, 1.15, 0.87; between them 1.3994, 1.2244,
+    // 1.075, 0.935.
     (
         2_000,
-        &[(0, "1.175"), (2, "1.10458"), (4, "1.0525"), (8, "0.9545")],
+        &[
+            (0, "1.175"),
+            (1, "1.13979"),
+            (2, "1.10458"),
+            (3, "1.07854"),
+            (4, "1.0525"),
+            (5, "1.02625"),
+            (7, "0.97725"),
+            (8, "0.9545"),
+            (9, "0.9545"),
+        ],
     ),
-    // Above 2,000: 1.50, 1.30, 1.15, 1.00, 0.87. An odd width takes the next
-    // lower column, and 8 feet is "8 or more".
+    // Above 2,000: 1.50, 1.30, 1.15, 1.00, 0.87; between them 1.40, 1.225,
+    // 1.075, 0.935.
     (
         2_001,
         &[
             (0, "1.175"),
-            (1, "1.175"),
+            (1, "1.14"),
             (2, "1.105"),
-            (3, "1.105"),
+            (3, "1.07875"),
             (4, "1.0525"),
-            (5, "1.0525"),
-            (7, "1"),
+            (5, "1.02625"),
+            (7, "0.97725"),
             (8, "0.9545"),
             (9, "0.9545"),
             (10, "0.9545"),
@@ -293,41 +318,105 @@ fn widths(name: &str, field: Field, rows: &[(u16, &[Row])]) -> Vec<Figure> {
     rows.iter().flat_map(of_traffic).collect()
 }
 
-/// "Type multiplier at the same five widths", 0, 2, 4, 6 and 8 feet, above
-/// 2,000 vehicles: 1 + 0.35(width value times type value - 1), where the width
-/// values are 1.50, 1.30, 1.15, 1.00 and 0.87.
-const SHOULDER_TYPES: [(&str, [&str; 5]); 4] = [
+/// "Type multiplier at the same five widths", 0, 2, 4, 6 and 8 feet, with the
+/// means at 1, 3, 5 and 7, above 2,000 vehicles: 1 + 0.35(width value times type
+/// value - 1), where the width values are 1.50, 1.40, 1.30, 1.225, 1.15, 1.075,
+/// 1.00, 0.935 and 0.87.
+const SHOULDER_TYPES: [(&str, [&str; 9]); 4] = [
     // All 1.00: the width values.
-    ("paved", ["1.175", "1.105", "1.0525", "1", "0.9545"]),
-    // 1.00, 1.01, 1.01, 1.02, 1.02: 1.5, 1.313, 1.1615, 1.02, 0.8874.
+    (
+        "paved",
+        [
+            "1.175", "1.14", "1.105", "1.07875", "1.0525", "1.02625", "1", "0.97725", "0.9545",
+        ],
+    ),
+    // 1.00, 1.005, 1.01, 1.01, 1.01, 1.015, 1.02, 1.02, 1.02: 1.5, 1.407,
+    // 1.313, 1.23725, 1.1615, 1.091125, 1.02, 0.9537, 0.8874.
     (
         "gravel",
-        ["1.175", "1.10955", "1.056525", "1.007", "0.96059"],
+        [
+            "1.175",
+            "1.14245",
+            "1.10955",
+            "1.0830375",
+            "1.056525",
+            "1.03189375",
+            "1.007",
+            "0.983795",
+            "0.96059",
+        ],
     ),
-    // 1.00, 1.02, 1.03, 1.04, 1.06: 1.5, 1.326, 1.1845, 1.04, 0.9222.
+    // 1.00, 1.01, 1.02, 1.025, 1.03, 1.035, 1.04, 1.05, 1.06: 1.5, 1.414,
+    // 1.326, 1.255625, 1.1845, 1.112625, 1.04, 0.98175, 0.9222.
     (
         "composite",
-        ["1.175", "1.1141", "1.064575", "1.014", "0.97277"],
+        [
+            "1.175",
+            "1.1449",
+            "1.1141",
+            "1.08946875",
+            "1.064575",
+            "1.03941875",
+            "1.014",
+            "0.9936125",
+            "0.97277",
+        ],
     ),
-    // 1.00, 1.03, 1.05, 1.08, 1.11: 1.5, 1.339, 1.2075, 1.08, 0.9657.
+    // 1.00, 1.015, 1.03, 1.04, 1.05, 1.065, 1.08, 1.095, 1.11: 1.5, 1.421,
+    // 1.339, 1.274, 1.2075, 1.144875, 1.08, 1.023825, 0.9657.
     (
         "turf",
-        ["1.175", "1.11865", "1.072625", "1.028", "0.987995"],
+        [
+            "1.175",
+            "1.14735",
+            "1.11865",
+            "1.0959",
+            "1.072625",
+            "1.05070625",
+            "1.028",
+            "1.00833875",
+            "0.987995",
+        ],
     ),
 ];
 
+/// The road with a shoulder over the road, at a traffic.
+fn shoulder(name: String, traffic: u16, feet: u16, material: u16, worked: &'static str) -> Figure {
+    let site = road(traffic)
+        .with(Field::ShoulderWidth, feet)
+        .with(Field::ShoulderType, material);
+    ratio(name, site, road(traffic), worked)
+}
+
 fn shoulder_types() -> Vec<Figure> {
     let mut figures = Vec::new();
-    for (material, (name, row)) in SHOULDER_TYPES.into_iter().enumerate() {
-        for (feet, worked) in [0, 2, 4, 6, 8].into_iter().zip(row) {
-            let site = road(2_001)
-                .with(Field::ShoulderWidth, feet)
-                .with(Field::ShoulderType, material as u16);
+    for (material, (name, row)) in (0..).zip(SHOULDER_TYPES) {
+        for (feet, worked) in (0..).zip(row) {
             let name = format!("shoulder type {name}, feet {feet}");
-            figures.push(ratio(name, site, road(2_001), worked));
+            figures.push(shoulder(name, 2_001, feet, material, worked));
         }
     }
     figures
+}
+
+/// 3 feet at 1,200 vehicles. The neighbours' widths are 1.07 + 0.000143 x 800 =
+/// 1.1844 and 1.02 + 0.00008125 x 800 = 1.085, their mean 1.1347.
+const MIDDLE_SHOULDERS: [(&str, u16, &str); 3] = [
+    // Types 1.01 and 1.01: 1.1347 x 1.01 = 1.146047.
+    ("gravel", 1, "1.05111645"),
+    // Types 1.02 and 1.03: 1.1347 x 1.025 = 1.1630675.
+    ("composite", 2, "1.057073625"),
+    // Types 1.03 and 1.05: 1.1347 x 1.04 = 1.180088. (The mean of the two
+    // products, 1.219932 and 1.13925, would be 1.179591.)
+    ("turf", 3, "1.0630308"),
+];
+
+fn middle_shoulders() -> Vec<Figure> {
+    let figure = |(name, material, worked)| {
+        let name = format!("shoulder type {name} at 1200, feet 3");
+        shoulder(name, 1_200, 3, material, worked)
+    };
+    MIDDLE_SHOULDERS.into_iter().map(figure).collect()
 }
 
 /// "Curve": (1.55 Lc + 80.2/R - 0.012 S) / (1.55 Lc), S half the spiral ends.
@@ -605,7 +694,7 @@ fn overdispersions() -> Vec<Figure> {
 
 /// N of sites of the demo corridor, which has 5 years and the calibrations
 /// 1.100 and 0.950.
-const WHOLE_SITES: [(&str, &str, &str); 6] = [
+const WHOLE_SITES: [(&str, &str, &str); 7] = [
     // 5 x 1.1 x 3,900 x 0.640 x 0.000365 e^-0.4865 x 1.105 x 1.10955 x
     // (0.279 + 80.2/820 - 0.012)/0.279 x 1.075 x 1.016^5 x e^0.1336.
     (
@@ -613,6 +702,15 @@ const WHOLE_SITES: [(&str, &str, &str); 6] = [
         "segment traffic 3900 length 640 lane 10 shoulder 2 shoulder-type 1 curve-length 180 \
          radius 820 spiral-ends 2 deficiency 25 grade 5 hazard-rating 5",
         "6.5687117692..",
+    ),
+    // 5 x 1.1 x 3,900 x 0.420 x 0.000365 e^-0.4865 x
+    // (1 + 0.35((1.30 + 1.15)/2 x (1.03 + 1.05)/2 - 1)) x
+    // (0.14725 + 80.2/1,400)/0.14725 x e^0.2004.
+    (
+        "the bend on the pass",
+        "segment traffic 3900 length 420 shoulder 3 shoulder-type 3 curve-length 95 radius 1400 \
+         hazard-rating 6",
+        "3.7601275340..",
     ),
     // 5 x 1.1 x 7,600 x 0.900 x 0.000365 e^-0.4865 x 0.97277 x
     // (1 - 0.35 x 1.4952/2.6942) x (0.2 + 24c)/(0.2 + 5c), where
@@ -664,6 +762,7 @@ pub fn figures() -> Vec<Figure> {
         widths("lane", Field::LaneWidth, &LANES),
         widths("shoulder", Field::ShoulderWidth, &SHOULDERS),
         shoulder_types(),
+        middle_shoulders(),
         curves(),
         segment_factors(),
         two_way_lanes(),

@@ -130,9 +130,7 @@ fn width_columns_of_document_01() {
     assert_eq!(lane(10, 3_000), decimal("1.105"));
     assert_eq!(lane(11, 1_000), decimal("1.00875"));
     let shoulder = |width, kind, traffic| factors::shoulder(&MODEL.segment, width, kind, traffic);
-    for odd in [1, 3, 5, 7, 9] {
-        assert_eq!(shoulder(odd, 2, 1_234), shoulder(odd - 1, 2, 1_234));
-    }
+    assert_eq!(shoulder(9, 2, 1_234), shoulder(8, 2, 1_234));
     assert_eq!(shoulder(10, 1, 500), shoulder(8, 1, 500));
     // 1 + 0.35 (1.10 - 1); 1 + 0.35 (0.87 - 1); composite, 4 feet, at 2,000:
     // 1.02 + 0.00008125 * 1600 = 1.15, times 1.03 is 1.1845.
@@ -141,6 +139,38 @@ fn width_columns_of_document_01() {
     assert_eq!(shoulder(4, 2, 2_000), decimal("1.064575"));
     // The slope of the last column falls: 0.98 - 0.00006875 * 1600 = 0.87.
     assert_eq!(shoulder(8, 0, 2_000), shoulder(8, 0, 2_001));
+}
+
+/// Every width and type at every edge of traffic: an odd width's value and its
+/// type's are the means of the neighbours', which are taken here out of the
+/// factors of even widths. A paved shoulder's factor is 0.65 + 0.35 times its
+/// width value, and another's has the type value within.
+#[test]
+fn odd_shoulders_of_document_02() {
+    let related = |width, kind, traffic| {
+        let factor = factors::shoulder(&MODEL.segment, width, kind, traffic);
+        &(&factor - &decimal("0.65")) * &decimal("0.35").reciprocal()
+    };
+    let mean = |one: Rational, other: Rational| &(&one + &other) * &decimal("0.5");
+    for traffic in [399, 400, 401, 1_999, 2_000, 2_001] {
+        for kind in 0..=3 {
+            let by_width = |width| related(width, 0, traffic);
+            let by_type = |width| &related(width, kind, traffic) * &by_width(width).reciprocal();
+            for odd in [1, 3, 5, 7] {
+                let width = mean(by_width(odd - 1), by_width(odd + 1));
+                let multiplier = mean(by_type(odd - 1), by_type(odd + 1));
+                let case = (odd, kind, traffic);
+                assert_eq!(
+                    related(odd, kind, traffic),
+                    &width * &multiplier,
+                    "{case:?}"
+                );
+            }
+            for wide in [9, 10] {
+                assert_eq!(related(wide, kind, traffic), related(8, kind, traffic));
+            }
+        }
+    }
 }
 
 #[test]

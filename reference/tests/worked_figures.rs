@@ -2,8 +2,13 @@
 //! against models in which one number is changed: each is noticed by a figure
 //! that is named after it.
 
+use reference::estimates::Estimates;
 use reference::model::{CrossingModel, Model, FIRST_EDITION};
-use reference::prediction::site_estimates;
+use reference::prediction::{site_estimates, SiteEstimates};
+use reference::project::Header;
+use reference::rational::Rational;
+use reference::record::Site;
+use reference::rules::Field;
 use reference::worked::{faults, figures};
 use std::collections::HashSet;
 
@@ -25,7 +30,59 @@ fn of_the_first_edition() {
 fn have_names_of_their_own() {
     let figures = figures();
     let names: HashSet<_> = figures.iter().map(|figure| &figure.name).collect();
-    assert_eq!((figures.len(), names.len()), (158, 158));
+    assert_eq!((figures.len(), names.len()), (198, 198));
+}
+
+/// A site's estimates where its shoulder is so many feet wide.
+fn at_width(header: &Header, site: &Site, feet: u16) -> SiteEstimates {
+    let site = site.with(Field::ShoulderWidth, feet);
+    site_estimates(&FIRST_EDITION, header, &site, DEPTH)
+}
+
+/// The mean of two sites' predictions: the mean of two products, since a factor
+/// is a share of the product and a constant.
+fn mean(one: SiteEstimates, other: SiteEstimates) -> SiteEstimates {
+    let half = |one: &Rational, other: &Rational| &(one + other) * &Rational::of(1, 2);
+    SiteEstimates {
+        predicted: Estimates {
+            under: half(&one.predicted.under, &other.predicted.under),
+            over: half(&one.predicted.over, &other.predicted.over),
+        },
+        expected: one.expected,
+    }
+}
+
+/// What the figures of odd shoulders rest on: the column below, the one above
+/// and a mean taken after the product are noticed, and so is a 9 foot shoulder
+/// that is not the last column's.
+#[test]
+fn notice_an_odd_shoulder_taken_otherwise() {
+    let is_noticed = |name: &str, rule: &dyn Fn(&Header, &Site, u16) -> SiteEstimates| {
+        let model = |header: &Header, site: &Site| match site.get(Field::ShoulderWidth) {
+            Some(feet) if feet % 2 == 1 => rule(header, site, feet),
+            _ => site_estimates(&FIRST_EDITION, header, site, DEPTH),
+        };
+        !faults(name, model).is_empty()
+    };
+    let below = |header: &Header, site: &Site, feet| at_width(header, site, feet - 1);
+    let above = |header: &Header, site: &Site, feet| at_width(header, site, feet + 1);
+    let after = |header: &Header, site: &Site, feet| {
+        mean(below(header, site, feet), above(header, site, feet))
+    };
+    for feet in [1, 3, 5, 7] {
+        for traffic in [399, 400, 1_000, 2_000, 2_001] {
+            let name = format!("shoulder at {traffic}, feet {feet}");
+            assert!(is_noticed(&name, &below), "{name}");
+            assert!(is_noticed(&name, &above), "{name}");
+        }
+        let name = format!("shoulder type turf, feet {feet}");
+        assert!(is_noticed(&name, &after), "{name}");
+    }
+    assert!(is_noticed("shoulder type turf at 1200, feet 3", &after));
+    let nine = |header: &Header, site: &Site, _| {
+        mean(at_width(header, site, 8), at_width(header, site, 0))
+    };
+    assert!(is_noticed("shoulder at 2001, feet 9", &nine));
 }
 
 /// A change of one number.

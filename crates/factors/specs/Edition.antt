@@ -4,7 +4,7 @@ use mathlib.Core.Path.{_≡_}
 use Rattle.bracket.specs.declared.Ratio.{Ratio}
 use Rattle.bracket.specs.Ratio.{coded}
 use Rattle.model.specs.Coefficients as model
-use Rattle.model.specs.Widths.{laneValue, shoulderValue, typeValue, ofRelated, lane, shoulder}
+use Rattle.model.specs.Widths.{laneValue, shoulderValue, typeValue, shoulderUnit, ofRelated, lane, shoulder}
 use Rattle.factors.specs.declared.coefficients.Coefficients.{Coefficients}
 
 pub record Held (k : model.Coefficients) (held : Coefficients) : Type 0 where
@@ -19,7 +19,7 @@ module _ {k : model.Coefficients} {held : Coefficients} (h : Held k held) where
   lane-of feet traffic e = rw (h .share-is) at e
 
   pub shoulder-of : (feet surface traffic : ℕ) {r : Ratio}
-      → r ≡ coded (ofRelated (held .«related_share») (shoulderValue feet traffic * typeValue surface feet) 10000000000)
+      → r ≡ coded (ofRelated (held .«related_share») (shoulderValue feet traffic * typeValue surface feet) shoulderUnit)
       → r ≡ coded (shoulder k feet surface traffic)
   unfolding shoulder
   shoulder-of feet surface traffic e = rw (h .share-is) at e

@@ -1,9 +1,10 @@
 // Lane and shoulder: values by column that change with the traffic, and the factor of the related crashes.
 ghost use mathlib.Core.Path.{_≡_};
-ghost use Prim.Native.Nat.{_*_, _≤_, _<_};
+ghost use Prim.Native.Nat.{_+_, _*_, _≤_, _<_};
 ghost use lib.ListN.{getD};
-ghost use Rattle.model.specs.Widths.{laneColumns, laneColumn, laneValue, shoulderColumns, shoulderColumn, shoulderValue, typeValue, none, atTraffic, ofRelated};
-ghost use Rattle.model.specs.FactorBounds.{ColumnWithin, highestValue};
+ghost use Rattle.model.specs.Widths.{laneColumns, laneColumn, laneValue, none, atTraffic, ofRelated};
+ghost use Rattle.model.specs.Widths.{columnBelow, columnAbove, widthAt, typeAt, shoulderValue, typeValue, shoulderUnit};
+ghost use Rattle.model.specs.FactorBounds.{ColumnWithin, MeansWithin};
 ghost use Rattle.bracket.specs.Ratio.{coded};
 ghost use Rattle.factors.specs.Column.{columnOf};
 use bracket::Ratio;
@@ -87,9 +88,12 @@ const TYPE_MULTIPLIERS: [[u64; 5]; 4] = [
     [100, 103, 105, 108, 111],
 ];
 
+// Of a mean width times a mean type, each of them twice: twice a hundred million times twice a hundred.
+const SHOULDER_UNIT: u64 = 40_000_000_000;
+
 // A column's value at a traffic: one rule for lane and shoulder.
 fn at_traffic(column: Column, traffic: u64) -> u64
-    requires { ⌜ ColumnWithin 1 (columnOf column) ⌝ }
+    requires { ⌜ ColumnWithin (columnOf column) ⌝ }
     ensures { λ r. ⌜ r ≡ atTraffic (columnOf column) traffic ⌝ }
 {
     if traffic < 400 {
@@ -115,28 +119,9 @@ fn lane_place(feet: u64) -> u64
     3
 }
 
-// The place of a shoulder's column: an odd width takes the next lower one.
-fn shoulder_place(feet: u64) -> u64
-    ensures { λ r. ⌜ r ≡ shoulderColumn feet ⌝ }
-{
-    if feet <= 1 {
-        return 0;
-    }
-    if feet <= 3 {
-        return 1;
-    }
-    if feet <= 5 {
-        return 2;
-    }
-    if feet <= 7 {
-        return 3;
-    }
-    4
-}
-
 // The factor 1 + share (r - 1), of r / unit and a share in thousandths.
 fn of_related(share: u64, r: u64, unit: u64) -> Ratio
-    requires { ⌜ (share ≤ 1000) × (0 < unit) × (unit ≤ 10000000000) × (r ≤ highestValue) ⌝ }
+    requires { ⌜ (share ≤ 1000) × (0 < unit) × (unit ≤ shoulderUnit) × (2 * r ≤ 3 * unit) ⌝ }
     ensures { λ f. ⌜ f ≡ coded (ofRelated share r unit) ⌝ }
 {
     Ratio {
@@ -152,22 +137,6 @@ fn lane_column(feet: u64) -> Column
     LANE_COLUMNS[lane_place(feet) as usize]
 }
 
-// The shoulder's column.
-fn shoulder_column(feet: u64) -> Column
-    ensures { λ r. ⌜ columnOf r ≡ getD shoulderColumns (shoulderColumn feet) none ⌝ }
-{
-    SHOULDER_COLUMNS[shoulder_place(feet) as usize]
-}
-
-// The multiplier of a shoulder's type at its width, in hundredths.
-fn type_multiplier(surface: u64, feet: u64) -> u64
-    requires { ⌜ surface ≤ 3 ⌝ }
-    ensures { λ r. ⌜ r ≡ typeValue surface feet ⌝ }
-{
-    let place = shoulder_place(feet) as usize;
-    TYPE_MULTIPLIERS[surface as usize][place]
-}
-
 // The lane's factor, for the share of crashes that it bears on.
 pub fn lane(share: u64, feet: u64, traffic: u64) -> Ratio
     requires { ⌜ share ≤ 1000 ⌝ }
@@ -176,15 +145,58 @@ pub fn lane(share: u64, feet: u64, traffic: u64) -> Ratio
     of_related(share, at_traffic(lane_column(feet), traffic), 100_000_000)
 }
 
+// The places of the two columns that a shoulder stands between.
+struct Neighbours {
+    below: usize,
+    above: usize,
+}
+
+// They are the same column for an even width, and from 8 feet on the last.
+fn neighbours_of(feet: u64) -> Neighbours
+    ensures { λ r. ⌜ (r .below ≡ columnBelow feet) × (r .above ≡ columnAbove feet) ⌝ }
+{
+    if feet >= 8 {
+        return Neighbours { below: 4, above: 4 };
+    }
+    Neighbours {
+        below: (feet / 2) as usize,
+        above: ((feet + 1) / 2) as usize,
+    }
+}
+
+// What a column has for the width and for the type.
+struct Values {
+    width: u64,
+    multiplier: u64,
+}
+
+// Both at the column of a place.
+fn values_at(place: usize, surface: u64, traffic: u64) -> Values
+    requires { ⌜ (place < 5) × (surface ≤ 3) ⌝ }
+    ensures { λ r. ⌜ (r .width ≡ widthAt traffic place) × (r .multiplier ≡ typeAt surface place) ⌝ }
+{
+    Values {
+        width: at_traffic(SHOULDER_COLUMNS[place], traffic),
+        multiplier: TYPE_MULTIPLIERS[surface as usize][place],
+    }
+}
+
+// The mean of two widths times the mean of two types, each mean twice.
+fn product_of_means(width_below: u64, width_above: u64, type_below: u64, type_above: u64) -> u64
+    requires { ⌜ MeansWithin («width_below» + «width_above») («type_below» + «type_above») ⌝ }
+    ensures { λ r. ⌜ r ≡ («width_below» + «width_above») * («type_below» + «type_above») ⌝ }
+{
+    (width_below + width_above) * (type_below + type_above)
+}
+
 // The shoulder's factor, of its width's value times its type's.
 pub fn shoulder(share: u64, feet: u64, surface: u64, traffic: u64) -> Ratio
     requires { ⌜ (share ≤ 1000) × (surface ≤ 3) ⌝ }
-    ensures { λ r. ⌜ r ≡ coded (ofRelated share (shoulderValue feet traffic * typeValue surface feet) 10000000000) ⌝ }
+    ensures { λ r. ⌜ r ≡ coded (ofRelated share (shoulderValue feet traffic * typeValue surface feet) shoulderUnit) ⌝ }
 {
-    let width = at_traffic(shoulder_column(feet), traffic);
-    of_related(
-        share,
-        width * type_multiplier(surface, feet),
-        10_000_000_000,
-    )
+    let columns = neighbours_of(feet);
+    let below = values_at(columns.below, surface, traffic);
+    let above = values_at(columns.above, surface, traffic);
+    let value = product_of_means(below.width, above.width, below.multiplier, above.multiplier);
+    of_related(share, value, SHOULDER_UNIT)
 }

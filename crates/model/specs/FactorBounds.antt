@@ -8,13 +8,13 @@ use native.Mathlib.Nat.{mul-pos, mul-le-mul, mul-le-mul-right, mul-le-mul-left}
 use native.Mathlib.Omega.{arith}
 use lib.Dec.{T, leb, ltb, eqb, leb→le, ltb→lt, lit<, lit≤}
 use lib.ListN.{getD}
-use borrow.Author.Tests.{leb-true}
+use borrow.Author.Tests.{leb-true, leb-false}
 use Rattle.estimate.specs.Fraction.{Fraction, _≤ᶠ_, fraction, _//_, whole, _^ᶠ_, leᶠ}
 use Rattle.estimate.specs.FractionLaws.{//-num, //-den, ≤ᶠ-refl, leᶠ-sound}
 use Rattle.laws.specs.Table.{both, both-left, both-right, allOf, entry-of, allBelow, all-below}
 use Rattle.model.specs.Coefficients.{Coefficients, editionOne, leftTurnOne, rightTurnOne}
 use Rattle.model.specs.Widths.{Column, none, atTraffic, laneColumns, laneColumn, laneValue, ofRelated, lane}
-use Rattle.model.specs.Widths.{shoulderColumns, shoulderColumn, shoulderValue, typeMultipliers, typeValue, shoulder}
+use Rattle.model.specs.Widths.{shoulderColumns, columnBelow, columnAbove, widthAt, typeAt, shoulderValue, typeValue, shoulderUnit, shoulder}
 use Rattle.model.specs.Alignment.{curve, superelevation}
 use Rattle.model.specs.Access.{accessDensity, twoWayLane, passing}
 use Rattle.model.specs.Crossings.{leftTurn, rightTurn, sight}
@@ -57,79 +57,60 @@ by-test P false f g = g refl
 
 -- WIDTHS
 
--- the highest value of a lane or a shoulder: 1.5, over 10^10
+-- a bound of a column's values: what they rise to at 2,000 vehicles, or the value above, whichever is greater
+abbrev pub highest : Column → ℕ
+highest c = let rising = c .light + c .adds * 1600 in rising + (c .heavy - rising)
+
+-- that of any column: 1.5, in hundred-millionths
 abbrev pub highestValue : ℕ
-highestValue = 15000000000
+highestValue = 150000000
 
--- a column whose values, times a weight t, are positive and at most that
-pub record ColumnWithin (t : ℕ) (c : Column) : Type 0 where
-  pub weight : 0 < t
+-- a column whose values are positive and at most that
+pub record ColumnWithin (c : Column) : Type 0 where
   pub least : c .takes * 1600 < c .light
-  pub most : (c .light + c .adds * 1600) * t ≤ highestValue
   pub heavy-least : 0 < c .heavy
-  pub heavy-most : c .heavy * t ≤ highestValue
+  pub most : highest c ≤ highestValue
 
-columnWithin : ℕ → Column → Bool
-columnWithin t c =
-    both (ltb 0 t)
-    (both (ltb (c .takes * 1600) (c .light))
-    (both (leb ((c .light + c .adds * 1600) * t) highestValue)
-    (both (ltb 0 (c .heavy)) (leb (c .heavy * t) highestValue))))
+columnWithin : Column → Bool
+columnWithin c = both (ltb (c .takes * 1600) (c .light)) (both (ltb 0 (c .heavy)) (leb (highest c) highestValue))
 
-column-within : (t : ℕ) (c : Column) → T (columnWithin t c) → ColumnWithin t c
+column-within : (c : Column) → T (columnWithin c) → ColumnWithin c
 unfolding columnWithin
-column-within t c h =
-    let least = both-right (ltb 0 t) _ h in
-    let most = both-right (ltb (c .takes * 1600) (c .light)) _ least in
-    let heavy = both-right (leb ((c .light + c .adds * 1600) * t) highestValue) _ most in
+column-within c h =
+    let heavy = both-right (ltb (c .takes * 1600) (c .light)) _ h in
     record {
-      weight = ltb→lt _ _ (both-left (ltb 0 t) _ h);
-      least = ltb→lt _ _ (both-left (ltb (c .takes * 1600) (c .light)) _ least);
-      most = leb→le _ _ (both-left (leb ((c .light + c .adds * 1600) * t) highestValue) _ most);
+      least = ltb→lt _ _ (both-left (ltb (c .takes * 1600) (c .light)) _ h);
       heavy-least = ltb→lt _ _ (both-left (ltb 0 (c .heavy)) _ heavy);
-      heavy-most = leb→le _ _ (both-right (ltb 0 (c .heavy)) _ heavy);
+      most = leb→le _ _ (both-right (ltb 0 (c .heavy)) _ heavy);
     }
 
--- the same at the weight 1
-pub column-alone : {t : ℕ} {c : Column} → ColumnWithin t c → ColumnWithin 1 c
-column-alone {t} {c} h = record {
-  weight = lit< tt;
-  least = h .least;
-  most = omega (arith, h .most, mul-le-mul-left (c .light + c .adds * 1600) (h .weight));
-  heavy-least = h .heavy-least;
-  heavy-most = omega (arith, h .heavy-most, mul-le-mul-left (c .heavy) (h .weight));
-}
-
 -- a value of a column
-pub record ValueWithin (t v : ℕ) : Type 0 where
-  pub positive : 0 < v * t
-  pub at-most : v * t ≤ highestValue
+pub record ValueWithin (c : Column) (v : ℕ) : Type 0 where
+  pub positive : 0 < v
+  pub at-most : v ≤ highest c
 
-value-within : {t : ℕ} {c : Column} {v : ℕ} → ColumnWithin t c → 0 < v → v ≤ c .light + c .adds * 1600 → ValueWithin t v
-value-within {t} h least most = record {
-  positive = mul-pos least (h .weight);
-  at-most = omega (arith, mul-le-mul-right t most, h .most);
-}
+value-within : (c : Column) (v : ℕ) → 0 < v → v ≤ highest c → ValueWithin c v
+value-within c v least most = record { positive = least; at-most = most }
 
-pub at-traffic-within : {t : ℕ} {c : Column} → ColumnWithin t c → (traffic : ℕ) → ValueWithin t (atTraffic c traffic)
-at-traffic-within {t} {c} h traffic =
-    by-test (ValueWithin t) (ltb traffic 400)
-    (λ _. value-within h (omega arith) (omega arith))
-    (λ _. by-test (ValueWithin t) (leb traffic 2000)
+pub at-traffic-within : {c : Column} → ColumnWithin c → (traffic : ℕ) → ValueWithin c (atTraffic c traffic)
+at-traffic-within {c} h traffic =
+    by-test (ValueWithin c) (ltb traffic 400)
+    (λ _. value-within c _ (omega (arith, h .least)) (omega arith))
+    (λ _. by-test (ValueWithin c) (leb traffic 2000)
     (λ e. middle (leb-true _ _ e))
-    (λ _. record { positive = mul-pos (h .heavy-least) (h .weight); at-most = h .heavy-most }))
+    (λ _. value-within c _ (h .heavy-least) (omega arith)))
   where
-    middle : traffic ≤ 2000 → ValueWithin t ((c .light + c .adds * (traffic - 400)) - c .takes * (traffic - 400))
+    middle : traffic ≤ 2000 → ValueWithin c ((c .light + c .adds * (traffic - 400)) - c .takes * (traffic - 400))
     middle to =
         let above : traffic - 400 ≤ 1600 = omega arith in
-        value-within h (omega (arith, mul-le-mul-left (c .takes) above, h .least)) (omega (arith, mul-le-mul-left (c .adds) above))
+        value-within c _ (omega (arith, mul-le-mul-left (c .takes) above, h .least)) (omega (arith, mul-le-mul-left (c .adds) above))
 
--- every column of the lane, at the weight 100, and of the shoulder, at each type's multiplier
-lane-columns : T (allBelow (λ i. columnWithin 100 (getD laneColumns i none)) 4)
+-- every column of the lane and of the shoulder
+lane-columns : T (allBelow (λ i. columnWithin (getD laneColumns i none)) 4)
 unfolding allBelow columnWithin
 lane-columns = tt
 
-shoulder-columns : T (allBelow (λ surface. allBelow (λ i. columnWithin (getD (getD typeMultipliers surface []) i 0) (getD shoulderColumns i none)) 5) 4)
+shoulder-columns : T (allBelow (λ i. columnWithin (getD shoulderColumns i none)) 5)
 unfolding allBelow columnWithin
 shoulder-columns = tt
 
@@ -137,28 +118,64 @@ pub lane-column-below : (feet : ℕ) → laneColumn feet < 4
 lane-column-below feet =
     by-test (λ i. i < 4) (leb feet 9) (λ _. lit< tt) (λ _. by-test (λ i. i < 4) (leb feet 12) (λ e. omega (arith, leb-true feet 12 e)) (λ _. lit< tt))
 
-pub lane-column-within : (feet : ℕ) → ColumnWithin 100 (getD laneColumns (laneColumn feet) none)
-lane-column-within feet = column-within _ _ (all-below _ 4 lane-columns (laneColumn feet) (lane-column-below feet))
+pub lane-column-within : (feet : ℕ) → ColumnWithin (getD laneColumns (laneColumn feet) none)
+lane-column-within feet = column-within _ (all-below _ 4 lane-columns (laneColumn feet) (lane-column-below feet))
 
-pub shoulder-column-below : (feet : ℕ) → shoulderColumn feet < 5
-shoulder-column-below feet =
-    by-test (λ i. i < 5) (leb feet 1) (λ _. lit< tt)
-    (λ _. by-test (λ i. i < 5) (leb feet 3) (λ _. lit< tt)
-    (λ _. by-test (λ i. i < 5) (leb feet 5) (λ _. lit< tt) (λ _. by-test (λ i. i < 5) (leb feet 7) (λ _. lit< tt) (λ _. lit< tt))))
-
-pub shoulder-column-within : (surface feet : ℕ) → surface ≤ 3 → ColumnWithin (typeValue surface feet) (getD shoulderColumns (shoulderColumn feet) none)
-unfolding typeValue
-shoulder-column-within surface feet h =
-    column-within _ _ (all-below _ 5 (all-below _ 4 shoulder-columns surface (omega arith)) (shoulderColumn feet) (shoulder-column-below feet))
-
--- r of the lane and of the shoulder, in the units of their factors
-pub lane-value-within : (feet traffic : ℕ) → ValueWithin 100 (laneValue feet traffic)
+-- r of the lane
+pub lane-value-within : (feet traffic : ℕ) → (0 < laneValue feet traffic) × (laneValue feet traffic ≤ highestValue)
 unfolding laneValue
-lane-value-within feet traffic = at-traffic-within (lane-column-within feet) traffic
+lane-value-within feet traffic =
+    let c = lane-column-within feet in
+    let v = at-traffic-within c traffic in
+    (v .positive, omega (arith, v .at-most, c .most))
 
-pub shoulder-value-within : (surface feet traffic : ℕ) → surface ≤ 3 → ValueWithin (typeValue surface feet) (shoulderValue feet traffic)
-unfolding shoulderValue
-shoulder-value-within surface feet traffic h = at-traffic-within (shoulder-column-within surface feet h) traffic
+pub below-few : (feet : ℕ) → columnBelow feet < 5
+below-few feet = by-test (λ i. i < 5) (leb 8 feet) (λ _. lit< tt) (λ e. omega (arith, leb-false 8 feet e))
+
+pub above-few : (feet : ℕ) → columnAbove feet < 5
+above-few feet = below-few (feet + 1)
+
+pub shoulder-column-within : (i : ℕ) → i < 5 → ColumnWithin (getD shoulderColumns i none)
+shoulder-column-within i h = column-within _ (all-below _ 5 shoulder-columns i h)
+
+-- r of a shoulder, in its unit: the values of any two columns added up, times those of a type at both
+pub record MeansWithin (width multiplier : ℕ) : Type 0 where
+  pub width-positive : 0 < width
+  pub multiplier-positive : 0 < multiplier
+  pub at-most : 2 * (width * multiplier) ≤ 3 * shoulderUnit
+
+abbrev highestAt : ℕ → ℕ
+highestAt i = highest (getD shoulderColumns i none)
+
+abbrev highestMeans : (surface i j : ℕ) → ℕ
+highestMeans surface i j = (highestAt i + highestAt j) * (typeAt surface i + typeAt surface j)
+
+meansWithin : (surface i j : ℕ) → Bool
+meansWithin surface i j = both (ltb 0 (typeAt surface i)) (leb (2 * highestMeans surface i j) (3 * shoulderUnit))
+
+shoulder-means : T (allBelow (λ surface. allBelow (λ i. allBelow (λ j. meansWithin surface i j) 5) 5) 4)
+unfolding allBelow meansWithin
+shoulder-means = tt
+
+pub means-within : (surface i j traffic : ℕ) → surface ≤ 3 → i < 5 → j < 5
+    → MeansWithin (widthAt traffic i + widthAt traffic j) (typeAt surface i + typeAt surface j)
+unfolding meansWithin
+means-within surface i j traffic s hi hj =
+    let t : T (meansWithin surface i j) = all-below _ 5 (all-below _ 5 (all-below _ 4 shoulder-means surface (omega arith)) i hi) j hj in
+    let weight = ltb→lt 0 (typeAt surface i) (both-left (ltb 0 (typeAt surface i)) _ t) in
+    let most = leb→le (2 * highestMeans surface i j) (3 * shoulderUnit) (both-right (ltb 0 (typeAt surface i)) _ t) in
+    let v = at-traffic-within (shoulder-column-within i hi) traffic in
+    let w = at-traffic-within (shoulder-column-within j hj) traffic in
+    let sum : widthAt traffic i + widthAt traffic j ≤ highestAt i + highestAt j = omega (arith, v .at-most, w .at-most) in
+    record {
+      width-positive = omega (arith, v .positive);
+      multiplier-positive = omega (arith, weight);
+      at-most = omega (arith, mul-le-mul-right (typeAt surface i + typeAt surface j) sum, most);
+    }
+
+pub shoulder-value-within : (surface feet traffic : ℕ) → surface ≤ 3 → MeansWithin (shoulderValue feet traffic) (typeValue surface feet)
+unfolding shoulderValue typeValue
+shoulder-value-within surface feet traffic h = means-within surface _ _ traffic h (below-few feet) (above-few feet)
 
 -- an r of at most 1.5 makes a factor of at most 1 + share / 2
 abbrev pub relatedMost : Coefficients → Fraction
@@ -178,14 +195,15 @@ lane-within : (k : Coefficients) (feet traffic : ℕ) → k .related-share ≤ 1
 unfolding lane
 lane-within k feet traffic h =
     let v = lane-value-within feet traffic in
-    related-within (k .related-share) (laneValue feet traffic) 100000000 h (lit< tt) (omega arith) (omega arith)
+    related-within (k .related-share) (laneValue feet traffic) 100000000 h (lit< tt) (v .0) (omega (arith, v .1))
 
 shoulder-within : (k : Coefficients) (feet surface traffic : ℕ) → k .related-share ≤ 1000 → surface ≤ 3
     → Capped (relatedMost k) (shoulder k feet surface traffic)
 unfolding shoulder
 shoulder-within k feet surface traffic h t =
     let v = shoulder-value-within surface feet traffic t in
-    related-within (k .related-share) (shoulderValue feet traffic * typeValue surface feet) 10000000000 h (lit< tt) (v .positive) (omega (arith, v .at-most))
+    related-within (k .related-share) (shoulderValue feet traffic * typeValue surface feet) shoulderUnit h (lit< tt)
+    (mul-pos (v .width-positive) (v .multiplier-positive)) (v .at-most)
 
 -- ALIGNMENT
 

@@ -1,5 +1,6 @@
 -- The road model beside document 01's sections on factors, sites and history. What a reader must believe: Coefficients to
--- StatedWidths. Laws: all the rest, the table of known figures among them; inner steps require `ColumnWithin` of FactorBounds.
+-- StatedWidths. Laws: all the rest, the table of known figures among them; inner steps require `ColumnWithin` and `MeansWithin` of
+-- FactorBounds.
 pub mod Coefficients
 pub mod Widths
 pub mod Alignment
@@ -12,6 +13,7 @@ pub mod StatedWidths
 pub mod Grade
 pub mod ExpectedLaws
 pub mod Truncation
+pub mod Neighbours
 pub mod KnownFigures
 pub mod Tempting
 pub mod FactorBounds

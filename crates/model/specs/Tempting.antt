@@ -17,9 +17,8 @@ pub record Tempting : Type 0 where
   pub no-driveway : drivewayPart editionOne 0 (whole 5) =ᶠ 200 // 325
   -- 2,540,983.6 is rounded down
   pub rounded-down : expectedLow (11 // 100) 5 2000000 ≡ 2540983
-  -- an 8-foot shoulder falls with traffic: 0.98 - 0.00006875 * 600 at 1,000, and a 7-foot one takes the 6-foot column
+  -- an 8-foot shoulder falls with traffic: 0.98 - 0.00006875 * 600 at 1,000
   pub eight-feet : shoulder editionOne 8 0 1000 =ᶠ 9785625 // 10000000
-  pub seven-feet : shoulder editionOne 7 0 1000 =ᶠ whole 1
 
 pub tempting : Tempting
 unfolding lane laneValue shoulder shoulderValue typeValue editionOne drivewayPart weighed expectedLow millionths _//_ fraction whole
@@ -29,5 +28,4 @@ tempting = record {
   no-driveway = record { cross = refl };
   rounded-down = refl;
   eight-feet = record { cross = refl };
-  seven-feet = record { cross = refl };
 }

@@ -1,5 +1,5 @@
 -- Lane and shoulder: values by column that change with the traffic, and the factor of the related crashes.
-use Prim.Native.Nat.{ℕ, _+_, _-_, _*_}
+use Prim.Native.Nat.{ℕ, _+_, _-_, _*_, _/_}
 use mathlib.Core.Bool.{cond}
 use mathlib.Core.List.{List, [], _∷_}
 use lib.ListN.{getD}
@@ -63,19 +63,34 @@ none = column 0 0 0 0
 abbrev pub laneColumn : ℕ → ℕ
 laneColumn feet = cond (leb feet 9) 0 (cond (leb feet 12) (feet - 9) 3)
 
--- the shoulder's: "An odd width takes the next lower column", 8 feet or more the last
-abbrev pub shoulderColumn : ℕ → ℕ
-shoulderColumn feet = cond (leb feet 1) 0 (cond (leb feet 3) 1 (cond (leb feet 5) 2 (cond (leb feet 7) 3 4)))
+-- the two columns that a shoulder stands between, which are one where it has a column of its own; from 8 feet on the last
+abbrev pub columnBelow : ℕ → ℕ
+columnBelow feet = cond (leb 8 feet) 4 (feet / 2)
+
+abbrev pub columnAbove : ℕ → ℕ
+columnAbove feet = columnBelow (feet + 1)
+
+-- "a width of 1, 3, 5 or 7 feet takes the mean of its two neighbours": twice the mean, so that nothing is rounded
+abbrev pub twiceMean : (ℕ → ℕ) → ℕ → ℕ
+twiceMean value feet = value (columnBelow feet) + value (columnAbove feet)
 
 -- r of the lane, in hundred-millionths
 unfoldable pub laneValue : (feet traffic : ℕ) → ℕ
 laneValue feet traffic = atTraffic (getD laneColumns (laneColumn feet) none) traffic
 
+-- what a column has for a width, in hundred-millionths, and for a type, in hundredths
+abbrev pub widthAt : (traffic column : ℕ) → ℕ
+widthAt traffic column = atTraffic (getD shoulderColumns column none) traffic
+
+abbrev pub typeAt : (surface column : ℕ) → ℕ
+typeAt surface column = getD (getD typeMultipliers surface []) column 0
+
+-- "for the width value and for the type value, before the two are multiplied": twice the width's and the type's
 unfoldable pub shoulderValue : (feet traffic : ℕ) → ℕ
-shoulderValue feet traffic = atTraffic (getD shoulderColumns (shoulderColumn feet) none) traffic
+shoulderValue feet traffic = twiceMean (widthAt traffic) feet
 
 unfoldable pub typeValue : (surface feet : ℕ) → ℕ
-typeValue surface feet = getD (getD typeMultipliers surface []) (shoulderColumn feet) 0
+typeValue surface feet = twiceMean (typeAt surface) feet
 
 -- "1 + 0.35(r − 1)", which is 0.65 + 0.35 r for any r: of a share in thousandths and r / unit
 abbrev pub ofRelated : (share r unit : ℕ) → Fraction
@@ -84,6 +99,10 @@ ofRelated share r unit = ((1000 - share) * unit + share * r) // (1000 * unit)
 unfoldable pub lane : Coefficients → (feet traffic : ℕ) → Fraction
 lane k feet traffic = ofRelated (k .related-share) (laneValue feet traffic) 100000000
 
+-- the unit of these two multiplied: twice a width's hundred-millionths times twice a type's hundredths
+abbrev pub shoulderUnit : ℕ
+shoulderUnit = 2 * 100000000 * (2 * 100)
+
 -- "The factor is 1 + 0.35(width value times type value − 1)"
 unfoldable pub shoulder : Coefficients → (feet surface traffic : ℕ) → Fraction
-shoulder k feet surface traffic = ofRelated (k .related-share) (shoulderValue feet traffic * typeValue surface feet) 10000000000
+shoulder k feet surface traffic = ofRelated (k .related-share) (shoulderValue feet traffic * typeValue surface feet) shoulderUnit

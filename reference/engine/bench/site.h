@@ -92,11 +92,14 @@ static inline void times_lane(struct exact *exact, const struct site *site)
     times(exact, 13000000 + 7 * width_value(&LANE[row], site->traffic), 20000000);
 }
 
+/* The mean of two columns, which are the same one for an even width, of widths and of types: four times their product. */
 static inline void times_shoulder(struct exact *exact, const struct site *site)
 {
-    size_t column = (site->shoulder > 8 ? 8 : site->shoulder) / 2;
-    uint64_t value = width_value(&SHOULDER[column], site->traffic) * SHOULDER_TYPE[site->shoulder_type][column];
-    times(exact, 130000000000 + 7 * value, 200000000000);
+    uint64_t feet = site->shoulder > 8 ? 8 : site->shoulder;
+    size_t below = feet / 2, above = (feet + 1) / 2;
+    const uint64_t *types = SHOULDER_TYPE[site->shoulder_type];
+    uint64_t widths = width_value(&SHOULDER[below], site->traffic) + width_value(&SHOULDER[above], site->traffic);
+    times(exact, 520000000000 + 7 * widths * (types[below] + types[above]), 800000000000);
 }
 
 static inline void times_curve(struct exact *exact, const struct site *site)

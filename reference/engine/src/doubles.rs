@@ -112,6 +112,15 @@ fn curve(site: &Site) -> f64 {
     ((base + sharp - spiral) / base).max(1.0) * elevation
 }
 
+/// The mean width of a shoulder's two columns times the mean type.
+fn shoulder_value(site: &Site, traffic: f64) -> f64 {
+    let width = place(site, Field::ShoulderWidth).min(8);
+    let (below, above) = (width / 2, width.div_ceil(2));
+    let types = SHOULDER_TYPE[place(site, Field::ShoulderType)];
+    let widths = width_value(SHOULDER[below], traffic) + width_value(SHOULDER[above], traffic);
+    widths * (types[below] + types[above]) / 4.0
+}
+
 fn segment_year(site: &Site) -> f64 {
     let traffic = number(site, Field::Traffic);
     let driveways = number(site, Field::Driveways);
@@ -119,9 +128,7 @@ fn segment_year(site: &Site) -> f64 {
         LANE[place(site, Field::LaneWidth).clamp(9, 12) - 9],
         traffic,
     );
-    let column = place(site, Field::ShoulderWidth).min(8) / 2;
-    let by_type = SHOULDER_TYPE[place(site, Field::ShoulderType)][column];
-    let shoulder = width_value(SHOULDER[column], traffic) * by_type;
+    let shoulder = shoulder_value(site, traffic);
     let two_way = if place(site, Field::TwoWayLane) == 1 && driveways >= 5.0 {
         let q = 0.0047 * driveways + 0.0024 * driveways * driveways;
         1.0 - 0.35 * q / (1.199 + q)

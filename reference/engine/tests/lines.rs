@@ -10,7 +10,7 @@ use reference::model::FIRST_EDITION;
 use reference::prediction::site_estimates;
 use reference::project::Header;
 use reference::record::{read_site, write_site, Site};
-use reference::rules::{rules, Field, Presence, Rule, EDITION};
+use reference::rules::{rules, Field, Presence, Rule, EDITION, SEGMENT};
 
 const DEPTHS: [u32; 5] = [1, 2, 3, 6, 9];
 const KINDS: std::ops::RangeInclusive<u8> = 0..=3;
@@ -169,6 +169,22 @@ fn traffic_where_the_cases_meet() {
         }
     }
     assert_eq!(sites, 9_504);
+}
+
+/// Every shoulder's width and type at every edge of the width tables.
+#[test]
+fn every_shoulder_at_every_edge_of_traffic() {
+    let header = header(10, 9_999, 1);
+    for traffic in [399, 400, 401, 1_999, 2_000, 2_001] {
+        for width in 0..=10 {
+            for material in 0..=3 {
+                let site = Site::plain(SEGMENT, traffic, 20_000)
+                    .with(Field::ShoulderWidth, width)
+                    .with(Field::ShoulderType, material);
+                assert_right(&header, &site);
+            }
+        }
+    }
 }
 
 /// Every value of every field with at most 501 of them, where the width tables

@@ -7,7 +7,7 @@
 //!
 //! | Table | What it has | Here |
 //! |---|---|---|
-//! | 3 | shoulder type | compared at 0, 2, 4, 6 and 8 feet as the ratio of related crashes; 1, 3 and 10 feet fall under a house rule |
+//! | 3 | shoulder type | compared at 0, 2, 4, 6 and 8 feet as the ratio of related crashes; its 1 and 3 feet take the mean of their neighbours here (document 02, request 2), its 10 the last column |
 //! | 4 | grade | compared as the ratio of two sites |
 //! | 5 | left-turn lanes | compared as the ratio of two sites; its three-leg signal is no kind of document 01 |
 //! | 6 | traffic | compared |

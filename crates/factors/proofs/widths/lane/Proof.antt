@@ -3,7 +3,7 @@ use lib.Dec.{lit<, lit≤}
 use native.Mathlib.Omega.{arith}
 use mathlib.Core.Path.{_≡_, ap, _∙_}
 use Rattle.model.specs.Widths.{laneValue, ofRelated, atTraffic}
-use Rattle.model.specs.FactorBounds.{lane-column-within, lane-value-within, column-alone}
+use Rattle.model.specs.FactorBounds.{lane-column-within, lane-value-within}
 use Rattle.bracket.specs.Ratio.{coded}
 use Rattle.factors.proofs.widths.lane.Statement.{statement}
 use Rattle.factors.proofs.widths.lane.Tie as tie
@@ -13,12 +13,12 @@ unfolding laneValue
 value c = c .at-traffic .ensures ∙ ap (λ column. atTraffic column (c .before .before .args .traffic)) (c .before .lane-column .ensures)
 
 at-traffic-requires : tie.Need-at-traffic-requires
-at-traffic-requires c κs = rw (c .lane-column .ensures) (column-alone (lane-column-within (c .before .args .feet)))
+at-traffic-requires c κs = rw (c .lane-column .ensures) (lane-column-within (c .before .args .feet))
 
 of-related-requires : tie.Need-of-related-requires
 of-related-requires c κs =
     let a = c .before .before .args in
-    (c .before .before .pre, lit< tt, lit≤ tt, rw (value c) (omega (arith, lane-value-within (a .feet) (a .traffic) .at-most)))
+    (c .before .before .pre, lit< tt, lit≤ tt, rw (value c) (omega (arith, lane-value-within (a .feet) (a .traffic) .1)))
 
 returns : tie.Need-returns
 returns c = c .of-related .ensures ∙ ap (λ r. coded (ofRelated (c .before .before .before .args .share) r 100000000)) (value (c .before))
