@@ -31,8 +31,8 @@ pub fn lane(model: &SegmentModel, width: u64, traffic: u64) -> Rational {
 }
 
 /// The columns are 0, 2, 4, 6 and 8 or more feet; a width of 1, 3, 5 or 7
-/// takes the mean of its two neighbours, of the width and of the type each,
-/// before the two are multiplied.
+/// takes the mean of its two neighbours, for the width value and for the type
+/// value, before the two are multiplied.
 pub fn shoulder(model: &SegmentModel, width: u64, shoulder_type: u64, traffic: u64) -> Rational {
     let narrow = width.min(8);
     let columns = [narrow / 2, narrow.div_ceil(2)].map(|column| column as usize);

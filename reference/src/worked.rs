@@ -1,6 +1,7 @@
 //! Worked figures: what each number of document 01's model makes of a site,
-//! worked out by hand from document 01's text, and so apart from any table of
-//! the engine or of the reference. The working stands beside each figure.
+//! worked out by hand from the text of document 01 as document 02 amends it,
+//! and so apart from any table of the engine or of the reference. The working
+//! stands beside each figure.
 //!
 //! A test hands in what a model makes of a site and gets the names of the
 //! figures that differ. Most figures are the ratio of two sites that differ in
@@ -251,8 +252,8 @@ const LIGHT_SHOULDERS: [Row; 9] = [
 ];
 
 /// "Shoulder": a paved shoulder's width value by traffic, and 1 + 0.35(value -
-/// 1). A paved shoulder of 6 feet has 1. "A width of 1, 3, 5 or 7 feet takes
-/// the mean of its two neighbours", and 8 feet is "8 or more".
+/// 1). A paved shoulder of 6 feet has 1. Document 02, request 2: "a width of 1,
+/// 3, 5 or 7 feet takes the mean of its two neighbours"; 8 feet is "8 or more".
 const SHOULDERS: [(u16, &[Row]); 5] = [
     (399, &LIGHT_SHOULDERS),
     // Nothing is added yet.
@@ -319,15 +320,16 @@ fn widths(name: &str, field: Field, rows: &[(u16, &[Row])]) -> Vec<Figure> {
 }
 
 /// "Type multiplier at the same five widths", 0, 2, 4, 6 and 8 feet, with the
-/// means at 1, 3, 5 and 7, above 2,000 vehicles: 1 + 0.35(width value times type
-/// value - 1), where the width values are 1.50, 1.40, 1.30, 1.225, 1.15, 1.075,
-/// 1.00, 0.935 and 0.87.
-const SHOULDER_TYPES: [(&str, [&str; 9]); 4] = [
+/// means at 1, 3, 5 and 7 and the last column at 9, above 2,000 vehicles: 1 +
+/// 0.35(width value times type value - 1), where the width values are 1.50, 1.40,
+/// 1.30, 1.225, 1.15, 1.075, 1.00, 0.935 and twice 0.87.
+const SHOULDER_TYPES: [(&str, [&str; 10]); 4] = [
     // All 1.00: the width values.
     (
         "paved",
         [
             "1.175", "1.14", "1.105", "1.07875", "1.0525", "1.02625", "1", "0.97725", "0.9545",
+            "0.9545",
         ],
     ),
     // 1.00, 1.005, 1.01, 1.01, 1.01, 1.015, 1.02, 1.02, 1.02: 1.5, 1.407,
@@ -343,6 +345,7 @@ const SHOULDER_TYPES: [(&str, [&str; 9]); 4] = [
             "1.03189375",
             "1.007",
             "0.983795",
+            "0.96059",
             "0.96059",
         ],
     ),
@@ -360,6 +363,7 @@ const SHOULDER_TYPES: [(&str, [&str; 9]); 4] = [
             "1.014",
             "0.9936125",
             "0.97277",
+            "0.97277",
         ],
     ),
     // 1.00, 1.015, 1.03, 1.04, 1.05, 1.065, 1.08, 1.095, 1.11: 1.5, 1.421,
@@ -375,6 +379,7 @@ const SHOULDER_TYPES: [(&str, [&str; 9]); 4] = [
             "1.05070625",
             "1.028",
             "1.00833875",
+            "0.987995",
             "0.987995",
         ],
     ),

@@ -130,7 +130,6 @@ fn width_columns_of_document_01() {
     assert_eq!(lane(10, 3_000), decimal("1.105"));
     assert_eq!(lane(11, 1_000), decimal("1.00875"));
     let shoulder = |width, kind, traffic| factors::shoulder(&MODEL.segment, width, kind, traffic);
-    assert_eq!(shoulder(9, 2, 1_234), shoulder(8, 2, 1_234));
     assert_eq!(shoulder(10, 1, 500), shoulder(8, 1, 500));
     // 1 + 0.35 (1.10 - 1); 1 + 0.35 (0.87 - 1); composite, 4 feet, at 2,000:
     // 1.02 + 0.00008125 * 1600 = 1.15, times 1.03 is 1.1845.

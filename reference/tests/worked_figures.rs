@@ -30,7 +30,7 @@ fn of_the_first_edition() {
 fn have_names_of_their_own() {
     let figures = figures();
     let names: HashSet<_> = figures.iter().map(|figure| &figure.name).collect();
-    assert_eq!((figures.len(), names.len()), (198, 198));
+    assert_eq!((figures.len(), names.len()), (202, 202));
 }
 
 /// A site's estimates where its shoulder is so many feet wide.
@@ -53,8 +53,8 @@ fn mean(one: SiteEstimates, other: SiteEstimates) -> SiteEstimates {
 }
 
 /// What the figures of odd shoulders rest on: the column below, the one above
-/// and a mean taken after the product are noticed, and so is a 9 foot shoulder
-/// that is not the last column's.
+/// and a mean taken after the product are noticed, and so is a shoulder of 9 feet
+/// with a column that is not the last.
 #[test]
 fn notice_an_odd_shoulder_taken_otherwise() {
     let is_noticed = |name: &str, rule: &dyn Fn(&Header, &Site, u16) -> SiteEstimates| {
@@ -79,10 +79,10 @@ fn notice_an_odd_shoulder_taken_otherwise() {
         assert!(is_noticed(&name, &after), "{name}");
     }
     assert!(is_noticed("shoulder type turf at 1200, feet 3", &after));
-    let nine = |header: &Header, site: &Site, _| {
-        mean(at_width(header, site, 8), at_width(header, site, 0))
-    };
-    assert!(is_noticed("shoulder at 2001, feet 9", &nine));
+    let between_six_and_eight = |header: &Header, site: &Site, _| at_width(header, site, 7);
+    for name in ["shoulder at 2001, feet 9", "shoulder type turf, feet 9"] {
+        assert!(is_noticed(name, &between_six_and_eight), "{name}");
+    }
 }
 
 /// A change of one number.

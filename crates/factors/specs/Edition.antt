@@ -4,7 +4,7 @@ use mathlib.Core.Path.{_≡_}
 use Rattle.bracket.specs.declared.Ratio.{Ratio}
 use Rattle.bracket.specs.Ratio.{coded}
 use Rattle.model.specs.Coefficients as model
-use Rattle.model.specs.Widths.{laneValue, shoulderValue, typeValue, shoulderUnit, ofRelated, lane, shoulder}
+use Rattle.model.specs.Widths.{widthUnit, laneValue, shoulderValue, typeValue, shoulderUnit, ofRelated, lane, shoulder}
 use Rattle.factors.specs.declared.coefficients.Coefficients.{Coefficients}
 
 pub record Held (k : model.Coefficients) (held : Coefficients) : Type 0 where
@@ -13,7 +13,7 @@ pub record Held (k : model.Coefficients) (held : Coefficients) : Type 0 where
   pub fewest-is : held .«fewest_driveways» ≡ k .fewest-driveways
 
 module _ {k : model.Coefficients} {held : Coefficients} (h : Held k held) where
-  pub lane-of : (feet traffic : ℕ) {r : Ratio} → r ≡ coded (ofRelated (held .«related_share») (laneValue feet traffic) 100000000)
+  pub lane-of : (feet traffic : ℕ) {r : Ratio} → r ≡ coded (ofRelated (held .«related_share») (laneValue feet traffic) widthUnit)
       → r ≡ coded (lane k feet traffic)
   unfolding lane
   lane-of feet traffic e = rw (h .share-is) at e

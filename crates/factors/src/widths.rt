@@ -2,7 +2,7 @@
 ghost use mathlib.Core.Path.{_≡_};
 ghost use Prim.Native.Nat.{_+_, _*_, _≤_, _<_};
 ghost use lib.ListN.{getD};
-ghost use Rattle.model.specs.Widths.{laneColumns, laneColumn, laneValue, none, atTraffic, ofRelated};
+ghost use Rattle.model.specs.Widths.{laneColumns, laneColumn, laneValue, none, atTraffic, ofRelated, widthUnit};
 ghost use Rattle.model.specs.Widths.{columnBelow, columnAbove, widthAt, typeAt, shoulderValue, typeValue, shoulderUnit};
 ghost use Rattle.model.specs.FactorBounds.{ColumnWithin, MeansWithin};
 ghost use Rattle.bracket.specs.Ratio.{coded};
@@ -88,7 +88,10 @@ const TYPE_MULTIPLIERS: [[u64; 5]; 4] = [
     [100, 103, 105, 108, 111],
 ];
 
-// Of a mean width times a mean type, each of them twice: twice a hundred million times twice a hundred.
+// Width values are in hundred-millionths.
+const WIDTH_UNIT: u64 = 100_000_000;
+
+// Of twice a width's value times twice a type's.
 const SHOULDER_UNIT: u64 = 40_000_000_000;
 
 // A column's value at a traffic: one rule for lane and shoulder.
@@ -140,44 +143,51 @@ fn lane_column(feet: u64) -> Column
 // The lane's factor, for the share of crashes that it bears on.
 pub fn lane(share: u64, feet: u64, traffic: u64) -> Ratio
     requires { ⌜ share ≤ 1000 ⌝ }
-    ensures { λ r. ⌜ r ≡ coded (ofRelated share (laneValue feet traffic) 100000000) ⌝ }
+    ensures { λ r. ⌜ r ≡ coded (ofRelated share (laneValue feet traffic) widthUnit) ⌝ }
 {
-    of_related(share, at_traffic(lane_column(feet), traffic), 100_000_000)
+    of_related(share, at_traffic(lane_column(feet), traffic), WIDTH_UNIT)
 }
 
-// The places of the two columns that a shoulder stands between.
+// Of a shoulder's two neighbours, the places of their columns, their widths or their types.
 struct Neighbours {
-    below: usize,
-    above: usize,
+    below: u64,
+    above: u64,
 }
 
-// They are the same column for an even width, and from 8 feet on the last.
-fn neighbours_of(feet: u64) -> Neighbours
+// The columns that a shoulder stands between: the same one for an even width, and from 8 feet on the last.
+fn columns_of(feet: u64) -> Neighbours
     ensures { λ r. ⌜ (r .below ≡ columnBelow feet) × (r .above ≡ columnAbove feet) ⌝ }
 {
     if feet >= 8 {
         return Neighbours { below: 4, above: 4 };
     }
     Neighbours {
-        below: (feet / 2) as usize,
-        above: ((feet + 1) / 2) as usize,
+        below: feet / 2,
+        above: (feet + 1) / 2,
     }
 }
 
-// What a column has for the width and for the type.
-struct Values {
-    width: u64,
-    multiplier: u64,
+// The widths' values at two columns, from a table that is written out once.
+fn widths_of(columns: Neighbours, traffic: u64) -> Neighbours
+    requires { ⌜ (columns .below < 5) × (columns .above < 5) ⌝ }
+    ensures { λ r. ⌜ (r .below ≡ widthAt traffic (columns .below)) × (r .above ≡ widthAt traffic (columns .above)) ⌝ }
+{
+    let table = SHOULDER_COLUMNS;
+    Neighbours {
+        below: at_traffic(table[columns.below as usize], traffic),
+        above: at_traffic(table[columns.above as usize], traffic),
+    }
 }
 
-// Both at the column of a place.
-fn values_at(place: usize, surface: u64, traffic: u64) -> Values
-    requires { ⌜ (place < 5) × (surface ≤ 3) ⌝ }
-    ensures { λ r. ⌜ (r .width ≡ widthAt traffic place) × (r .multiplier ≡ typeAt surface place) ⌝ }
+// A type's multipliers at two columns, in hundredths.
+fn types_of(surface: u64, columns: Neighbours) -> Neighbours
+    requires { ⌜ (surface ≤ 3) × (columns .below < 5) × (columns .above < 5) ⌝ }
+    ensures { λ r. ⌜ (r .below ≡ typeAt surface (columns .below)) × (r .above ≡ typeAt surface (columns .above)) ⌝ }
 {
-    Values {
-        width: at_traffic(SHOULDER_COLUMNS[place], traffic),
-        multiplier: TYPE_MULTIPLIERS[surface as usize][place],
+    let table = TYPE_MULTIPLIERS;
+    Neighbours {
+        below: table[surface as usize][columns.below as usize],
+        above: table[surface as usize][columns.above as usize],
     }
 }
 
@@ -194,9 +204,9 @@ pub fn shoulder(share: u64, feet: u64, surface: u64, traffic: u64) -> Ratio
     requires { ⌜ (share ≤ 1000) × (surface ≤ 3) ⌝ }
     ensures { λ r. ⌜ r ≡ coded (ofRelated share (shoulderValue feet traffic * typeValue surface feet) shoulderUnit) ⌝ }
 {
-    let columns = neighbours_of(feet);
-    let below = values_at(columns.below, surface, traffic);
-    let above = values_at(columns.above, surface, traffic);
-    let value = product_of_means(below.width, above.width, below.multiplier, above.multiplier);
+    let columns = columns_of(feet);
+    let widths = widths_of(columns, traffic);
+    let types = types_of(surface, columns);
+    let value = product_of_means(widths.below, widths.above, types.below, types.above);
     of_related(share, value, SHOULDER_UNIT)
 }

@@ -8,13 +8,14 @@ use native.Mathlib.Nat.{mul-pos, mul-le-mul, mul-le-mul-right, mul-le-mul-left}
 use native.Mathlib.Omega.{arith}
 use lib.Dec.{T, leb, ltb, eqb, leb→le, ltb→lt, lit<, lit≤}
 use lib.ListN.{getD}
-use borrow.Author.Tests.{leb-true, leb-false}
+use borrow.Author.Tests.{leb-true}
 use Rattle.estimate.specs.Fraction.{Fraction, _≤ᶠ_, fraction, _//_, whole, _^ᶠ_, leᶠ}
 use Rattle.estimate.specs.FractionLaws.{//-num, //-den, ≤ᶠ-refl, leᶠ-sound}
 use Rattle.laws.specs.Table.{both, both-left, both-right, allOf, entry-of, allBelow, all-below}
 use Rattle.model.specs.Coefficients.{Coefficients, editionOne, leftTurnOne, rightTurnOne}
-use Rattle.model.specs.Widths.{Column, none, atTraffic, laneColumns, laneColumn, laneValue, ofRelated, lane}
-use Rattle.model.specs.Widths.{shoulderColumns, columnBelow, columnAbove, widthAt, typeAt, shoulderValue, typeValue, shoulderUnit, shoulder}
+use Rattle.model.specs.Widths.{Column, none, atTraffic, widthUnit, laneColumns, laneColumn, laneValue, ofRelated, lane}
+use Rattle.model.specs.Widths.{shoulderColumns, widthAt, typeAt, shoulderValue, typeValue, shoulderUnit, shoulder}
+use Rattle.model.specs.Neighbours.{columns-few}
 use Rattle.model.specs.Alignment.{curve, superelevation}
 use Rattle.model.specs.Access.{accessDensity, twoWayLane, passing}
 use Rattle.model.specs.Crossings.{leftTurn, rightTurn, sight}
@@ -61,7 +62,7 @@ by-test P false f g = g refl
 abbrev pub highest : Column → ℕ
 highest c = let rising = c .light + c .adds * 1600 in rising + (c .heavy - rising)
 
--- that of any column: 1.5, in hundred-millionths
+-- that of any column: 1.5, in the unit of widths
 abbrev pub highestValue : ℕ
 highestValue = 150000000
 
@@ -85,14 +86,14 @@ column-within c h =
     }
 
 -- a value of a column
-pub record ValueWithin (c : Column) (v : ℕ) : Type 0 where
-  pub positive : 0 < v
-  pub at-most : v ≤ highest c
+record ValueWithin (c : Column) (v : ℕ) : Type 0 where
+  positive : 0 < v
+  at-most : v ≤ highest c
 
 value-within : (c : Column) (v : ℕ) → 0 < v → v ≤ highest c → ValueWithin c v
 value-within c v least most = record { positive = least; at-most = most }
 
-pub at-traffic-within : {c : Column} → ColumnWithin c → (traffic : ℕ) → ValueWithin c (atTraffic c traffic)
+at-traffic-within : {c : Column} → ColumnWithin c → (traffic : ℕ) → ValueWithin c (atTraffic c traffic)
 at-traffic-within {c} h traffic =
     by-test (ValueWithin c) (ltb traffic 400)
     (λ _. value-within c _ (omega (arith, h .least)) (omega arith))
@@ -129,21 +130,16 @@ lane-value-within feet traffic =
     let v = at-traffic-within c traffic in
     (v .positive, omega (arith, v .at-most, c .most))
 
-pub below-few : (feet : ℕ) → columnBelow feet < 5
-below-few feet = by-test (λ i. i < 5) (leb 8 feet) (λ _. lit< tt) (λ e. omega (arith, leb-false 8 feet e))
-
-pub above-few : (feet : ℕ) → columnAbove feet < 5
-above-few feet = below-few (feet + 1)
-
 pub shoulder-column-within : (i : ℕ) → i < 5 → ColumnWithin (getD shoulderColumns i none)
 shoulder-column-within i h = column-within _ (all-below _ 5 shoulder-columns i h)
 
--- r of a shoulder, in its unit: the values of any two columns added up, times those of a type at both
+-- two sums, both positive, whose product, r of a shoulder in its unit, is at most 1.5
 pub record MeansWithin (width multiplier : ℕ) : Type 0 where
   pub width-positive : 0 < width
   pub multiplier-positive : 0 < multiplier
   pub at-most : 2 * (width * multiplier) ≤ 3 * shoulderUnit
 
+-- the widths of any two columns, at their highest, and a type's multipliers at both
 abbrev highestAt : ℕ → ℕ
 highestAt i = highest (getD shoulderColumns i none)
 
@@ -175,7 +171,7 @@ means-within surface i j traffic s hi hj =
 
 pub shoulder-value-within : (surface feet traffic : ℕ) → surface ≤ 3 → MeansWithin (shoulderValue feet traffic) (typeValue surface feet)
 unfolding shoulderValue typeValue
-shoulder-value-within surface feet traffic h = means-within surface _ _ traffic h (below-few feet) (above-few feet)
+shoulder-value-within surface feet traffic h = let few = columns-few feet in means-within surface _ _ traffic h (few .0) (few .1)
 
 -- an r of at most 1.5 makes a factor of at most 1 + share / 2
 abbrev pub relatedMost : Coefficients → Fraction
@@ -195,7 +191,7 @@ lane-within : (k : Coefficients) (feet traffic : ℕ) → k .related-share ≤ 1
 unfolding lane
 lane-within k feet traffic h =
     let v = lane-value-within feet traffic in
-    related-within (k .related-share) (laneValue feet traffic) 100000000 h (lit< tt) (v .0) (omega (arith, v .1))
+    related-within (k .related-share) (laneValue feet traffic) widthUnit h (lit< tt) (v .0) (omega (arith, v .1))
 
 shoulder-within : (k : Coefficients) (feet surface traffic : ℕ) → k .related-share ≤ 1000 → surface ≤ 3
     → Capped (relatedMost k) (shoulder k feet surface traffic)

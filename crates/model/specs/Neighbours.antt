@@ -1,9 +1,11 @@
--- What a shoulder takes of a table by column, whatever the table holds, twice: its own column's value at 0, 2, 4, 6 and 8 feet,
--- the mean of its two neighbours at 1, 3, 5 and 7, and the last column's from 8 feet on.
+-- Twice what a shoulder takes of a table by column, whatever the table holds: its own column's value at 0, 2, 4, 6 and 8 feet, the
+-- mean of its two neighbours at 1, 3, 5 and 7, and the last column's from 8 feet on.
 use Prim.Native.Nat.{ℕ, _+_, _*_, _/_, _≤_, _<_}
-use mathlib.Core.Path.{_≡_}
+use mathlib.Core.Bool.{Bool, true, false}
+use mathlib.Core.Path.{_≡_, refl}
 use native.Mathlib.Omega.{arith}
-use borrow.Author.Tests.{le-leb}
+use lib.Dec.{leb}
+use borrow.Author.Tests.{le-leb, leb-true, leb-false}
 use Rattle.laws.specs.Table.{allBelow, agree-below}
 use Rattle.model.specs.Widths.{columnBelow, columnAbove, twiceMean}
 
@@ -22,6 +24,17 @@ wide-below feet h = simp (le-leb 8 feet h)
 
 pub wide-above : (feet : ℕ) → 8 ≤ feet → columnAbove feet ≡ 4
 wide-above feet h = simp (le-leb 8 (feet + 1) (omega arith))
+
+few : (test : Bool) (feet : ℕ) → leb 8 feet ≡ test → (columnBelow feet < 5) × (columnAbove feet < 5)
+few true feet e =
+    let wide = leb-true 8 feet e in
+    (omega (arith, wide-below feet wide), omega (arith, wide-above feet wide))
+few false feet e =
+    let narrow : feet < 9 = omega (arith, leb-false 8 feet e) in
+    (omega (arith, narrow-below feet narrow), omega (arith, narrow-above feet narrow))
+
+pub columns-few : (feet : ℕ) → (columnBelow feet < 5) × (columnAbove feet < 5)
+columns-few feet = few (leb 8 feet) feet refl
 
 module _ (value : ℕ → ℕ) where
   -- the i-th column is that of 2i feet

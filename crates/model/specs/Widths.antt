@@ -7,8 +7,12 @@ use lib.Dec.{ltb, leb}
 use Rattle.estimate.specs.Fraction.{Fraction, _//_}
 use Rattle.model.specs.Coefficients.{Coefficients}
 
--- a column of a width table, in hundred-millionths: the value below A = 400, what each vehicle above 400 adds to it or takes
--- from it, and the value above 2,000
+-- width values are in hundred-millionths
+abbrev pub widthUnit : ℕ
+widthUnit = 100000000
+
+-- a column of a width table: the value below A = 400, what each vehicle above 400 adds to it or takes from it, and the value
+-- above 2,000
 pub record Column : Type 0 where
   pub light : ℕ
   pub adds : ℕ
@@ -70,38 +74,39 @@ columnBelow feet = cond (leb 8 feet) 4 (feet / 2)
 abbrev pub columnAbove : ℕ → ℕ
 columnAbove feet = columnBelow (feet + 1)
 
--- "a width of 1, 3, 5 or 7 feet takes the mean of its two neighbours": twice the mean, so that nothing is rounded
+-- document 02, request 2: "a width of 1, 3, 5 or 7 feet takes the mean of its two neighbours": twice the mean, so that nothing is
+-- rounded
 abbrev pub twiceMean : (ℕ → ℕ) → ℕ → ℕ
 twiceMean value feet = value (columnBelow feet) + value (columnAbove feet)
 
--- r of the lane, in hundred-millionths
+-- r of the lane
 unfoldable pub laneValue : (feet traffic : ℕ) → ℕ
 laneValue feet traffic = atTraffic (getD laneColumns (laneColumn feet) none) traffic
 
--- what a column has for a width, in hundred-millionths, and for a type, in hundredths
+-- what a column has for a width, and for a type in hundredths
 abbrev pub widthAt : (traffic column : ℕ) → ℕ
 widthAt traffic column = atTraffic (getD shoulderColumns column none) traffic
 
 abbrev pub typeAt : (surface column : ℕ) → ℕ
 typeAt surface column = getD (getD typeMultipliers surface []) column 0
 
--- "for the width value and for the type value, before the two are multiplied": twice the width's and the type's
+-- "for the width value and for the type value, before the two are multiplied": each twice
 unfoldable pub shoulderValue : (feet traffic : ℕ) → ℕ
 shoulderValue feet traffic = twiceMean (widthAt traffic) feet
 
 unfoldable pub typeValue : (surface feet : ℕ) → ℕ
 typeValue surface feet = twiceMean (typeAt surface) feet
 
+-- the unit of these two multiplied
+abbrev pub shoulderUnit : ℕ
+shoulderUnit = (2 * widthUnit) * (2 * 100)
+
 -- "1 + 0.35(r − 1)", which is 0.65 + 0.35 r for any r: of a share in thousandths and r / unit
 abbrev pub ofRelated : (share r unit : ℕ) → Fraction
 ofRelated share r unit = ((1000 - share) * unit + share * r) // (1000 * unit)
 
 unfoldable pub lane : Coefficients → (feet traffic : ℕ) → Fraction
-lane k feet traffic = ofRelated (k .related-share) (laneValue feet traffic) 100000000
-
--- the unit of these two multiplied: twice a width's hundred-millionths times twice a type's hundredths
-abbrev pub shoulderUnit : ℕ
-shoulderUnit = 2 * 100000000 * (2 * 100)
+lane k feet traffic = ofRelated (k .related-share) (laneValue feet traffic) widthUnit
 
 -- "The factor is 1 + 0.35(width value times type value − 1)"
 unfoldable pub shoulder : Coefficients → (feet surface traffic : ℕ) → Fraction

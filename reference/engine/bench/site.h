@@ -92,7 +92,7 @@ static inline void times_lane(struct exact *exact, const struct site *site)
     times(exact, 13000000 + 7 * width_value(&LANE[row], site->traffic), 20000000);
 }
 
-/* The mean of two columns, which are the same one for an even width, of widths and of types: four times their product. */
+/* Twice the mean width of two columns times twice their mean type; for an even width, and from 8 feet on, the two are one. */
 static inline void times_shoulder(struct exact *exact, const struct site *site)
 {
     uint64_t feet = site->shoulder > 8 ? 8 : site->shoulder;

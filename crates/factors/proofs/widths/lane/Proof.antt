@@ -2,7 +2,7 @@ use borrow.Author.Needs.{needs}
 use lib.Dec.{lit<, lit≤}
 use native.Mathlib.Omega.{arith}
 use mathlib.Core.Path.{_≡_, ap, _∙_}
-use Rattle.model.specs.Widths.{laneValue, ofRelated, atTraffic}
+use Rattle.model.specs.Widths.{laneValue, ofRelated, atTraffic, widthUnit}
 use Rattle.model.specs.FactorBounds.{lane-column-within, lane-value-within}
 use Rattle.bracket.specs.Ratio.{coded}
 use Rattle.factors.proofs.widths.lane.Statement.{statement}
@@ -21,7 +21,7 @@ of-related-requires c κs =
     (c .before .before .pre, lit< tt, lit≤ tt, rw (value c) (omega (arith, lane-value-within (a .feet) (a .traffic) .1)))
 
 returns : tie.Need-returns
-returns c = c .of-related .ensures ∙ ap (λ r. coded (ofRelated (c .before .before .before .args .share) r 100000000)) (value (c .before))
+returns c = c .of-related .ensures ∙ ap (λ r. coded (ofRelated (c .before .before .before .args .share) r widthUnit)) (value (c .before))
 
 pub lane-spec : {M : Type 1} → statement M
 lane-spec =

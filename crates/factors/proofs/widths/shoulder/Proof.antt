@@ -1,48 +1,47 @@
 use borrow.Author.Needs.{needs}
-use native.Mathlib.Omega.{arith}
 use mathlib.Core.Path.{_≡_, ap, _∙_}
 use lib.Dec.{lit<, lit≤}
-use Prim.Native.Nat.{_+_, _*_}
-use Rattle.model.specs.Widths.{shoulderValue, typeValue, shoulderUnit, ofRelated, widthAt, typeAt}
-use Rattle.model.specs.FactorBounds.{MeansWithin, below-few, above-few, shoulder-value-within}
+use Prim.Native.Nat.{_+_, _*_, _<_}
+use Rattle.model.specs.Widths.{shoulderValue, typeValue, shoulderUnit, ofRelated}
+use Rattle.model.specs.Neighbours.{columns-few}
+use Rattle.model.specs.FactorBounds.{MeansWithin, shoulder-value-within}
 use Rattle.bracket.specs.Ratio.{coded}
 use Rattle.factors.proofs.widths.shoulder.Statement.{statement}
 use Rattle.factors.proofs.widths.shoulder.Tie as tie
 
--- both columns' widths added up are the width's value, and so of the types
-widths : (c : tie.After-values-at2) → let a = c .before .before .before .args in
-    c .before .values-at .result .width + c .values-at2 .result .width ≡ shoulderValue (a .feet) (a .traffic)
+few : (c : tie.After-columns-of) → (c .columns-of .result .below < 5) × (c .columns-of .result .above < 5)
+few c = rw (c .columns-of .ensures .0, c .columns-of .ensures .1) (columns-few (c .before .args .feet))
+
+-- both neighbours' widths added up are the width's value, and so of the types
+widths : (c : tie.After-widths-of) → let a = c .before .before .args in
+    c .widths-of .result .below + c .widths-of .result .above ≡ shoulderValue (a .feet) (a .traffic)
 unfolding shoulderValue
 widths c =
-    let columns = c .before .before .neighbours-of .ensures in
-    rw (c .before .values-at .ensures .0, c .values-at2 .ensures .0, columns .0, columns .1)
+    let columns = c .before .columns-of .ensures in
+    rw (c .widths-of .ensures .0, c .widths-of .ensures .1, columns .0, columns .1)
 
-types : (c : tie.After-values-at2) → let a = c .before .before .before .args in
-    c .before .values-at .result .multiplier + c .values-at2 .result .multiplier ≡ typeValue (a .surface) (a .feet)
+types : (c : tie.After-types-of) → let a = c .before .before .before .args in
+    c .types-of .result .below + c .types-of .result .above ≡ typeValue (a .surface) (a .feet)
 unfolding typeValue
 types c =
-    let columns = c .before .before .neighbours-of .ensures in
-    rw (c .before .values-at .ensures .1, c .values-at2 .ensures .1, columns .0, columns .1)
+    let columns = c .before .before .columns-of .ensures in
+    rw (c .types-of .ensures .0, c .types-of .ensures .1, columns .0, columns .1)
 
 within : (s : tie.Start) → MeansWithin (shoulderValue (s .args .feet) (s .args .traffic)) (typeValue (s .args .surface) (s .args .feet))
 within s = shoulder-value-within (s .args .surface) (s .args .feet) (s .args .traffic) (s .pre .1)
 
 value : (c : tie.After-product-of-means) → let a = c .before .before .before .before .args in
     c .product-of-means .result ≡ shoulderValue (a .feet) (a .traffic) * typeValue (a .surface) (a .feet)
-value c = rw (widths (c .before), types (c .before)) at (c .product-of-means .ensures)
+value c = rw (widths (c .before .before), types (c .before)) at (c .product-of-means .ensures)
 
-values-at-requires : tie.Need-values-at-requires
-values-at-requires c κs =
-    let s = c .before in
-    (omega (arith, c .neighbours-of .ensures .0, below-few (s .args .feet)), s .pre .1)
+widths-of-requires : tie.Need-widths-of-requires
+widths-of-requires c κs = few c
 
-values-at-requires-2 : tie.Need-values-at-requires-2
-values-at-requires-2 c κs =
-    let s = c .before .before in
-    (omega (arith, c .before .neighbours-of .ensures .1, above-few (s .args .feet)), s .pre .1)
+types-of-requires : tie.Need-types-of-requires
+types-of-requires c κs = let columns = c .before in (columns .before .pre .1, few columns .0, few columns .1)
 
 product-of-means-requires : tie.Need-product-of-means-requires
-product-of-means-requires c κs = rw (widths c, types c) (within (c .before .before .before))
+product-of-means-requires c κs = rw (widths (c .before), types c) (within (c .before .before .before))
 
 of-related-requires : tie.Need-of-related-requires
 of-related-requires c κs =
@@ -59,8 +58,8 @@ shoulder-spec =
     tie.close
     (tie.spec
     (λ c κs. search needs)
-    values-at-requires
-    values-at-requires-2
+    widths-of-requires
+    types-of-requires
     product-of-means-requires
     of-related-requires
     returns)

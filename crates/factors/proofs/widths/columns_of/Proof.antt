@@ -2,8 +2,8 @@ use borrow.Author.Needs.{needs}
 use native.Mathlib.Omega.{arith}
 use mathlib.Core.Path.{sym}
 use Rattle.model.specs.Neighbours.{narrow-below, narrow-above, wide-below, wide-above}
-use Rattle.factors.proofs.widths.neighbours_of.Statement.{statement}
-use Rattle.factors.proofs.widths.neighbours_of.Tie as tie
+use Rattle.factors.proofs.widths.columns_of.Statement.{statement}
+use Rattle.factors.proofs.widths.columns_of.Tie as tie
 
 returns : tie.Need-returns
 returns c =
@@ -15,5 +15,5 @@ returns-2 c =
     let feet = c .before .args .feet in
     (sym (narrow-below feet (omega arith)), sym (narrow-above feet (omega arith)))
 
-pub neighbours-of-spec : {M : Type 1} → statement M
-neighbours-of-spec = tie.close (tie.spec returns (λ c. search needs) returns-2)
+pub columns-of-spec : {M : Type 1} → statement M
+columns-of-spec = tie.close (tie.spec returns (λ c. search needs) returns-2)
