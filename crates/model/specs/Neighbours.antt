@@ -25,6 +25,7 @@ wide-below feet h = simp (le-leb 8 feet h)
 pub wide-above : (feet : ℕ) → 8 ≤ feet → columnAbove feet ≡ 4
 wide-above feet h = simp (le-leb 8 (feet + 1) (omega arith))
 
+-- either way they are among the five
 few : (test : Bool) (feet : ℕ) → leb 8 feet ≡ test → (columnBelow feet < 5) × (columnAbove feet < 5)
 few true feet e =
     let wide = leb-true 8 feet e in

@@ -67,7 +67,8 @@ none = column 0 0 0 0
 abbrev pub laneColumn : ℕ → ℕ
 laneColumn feet = cond (leb feet 9) 0 (cond (leb feet 12) (feet - 9) 3)
 
--- the two columns that a shoulder stands between, which are one where it has a column of its own; from 8 feet on the last
+-- the two columns that a shoulder stands between, which are one where it has a column of its own; from 8 feet on the last: "Nine
+-- feet stays in the last column"
 abbrev pub columnBelow : ℕ → ℕ
 columnBelow feet = cond (leb 8 feet) 4 (feet / 2)
 
