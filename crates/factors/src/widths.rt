@@ -3,10 +3,11 @@ ghost use mathlib.Core.Path.{_≡_};
 ghost use Prim.Native.Nat.{_+_, _*_, _≤_, _<_};
 ghost use lib.ListN.{getD};
 ghost use Rattle.model.specs.Widths.{laneColumns, laneColumn, laneValue, none, atTraffic, ofRelated, widthUnit};
-ghost use Rattle.model.specs.Widths.{columnBelow, columnAbove, widthAt, typeAt, shoulderValue, typeValue, shoulderUnit};
+ghost use Rattle.model.specs.Widths.{widthAt, typeAt, shoulderValue, typeValue, shoulderUnit};
 ghost use Rattle.model.specs.FactorBounds.{ColumnWithin, MeansWithin};
 ghost use Rattle.bracket.specs.Ratio.{coded};
 ghost use Rattle.factors.specs.Column.{columnOf};
+ghost use Rattle.factors.specs.Neighbours.{Beside, AtBoth};
 use bracket::Ratio;
 
 // A column, in hundred-millionths: the value below A = 400, what each vehicle above 400 adds to it or takes from it, and the
@@ -156,7 +157,7 @@ struct Neighbours {
 
 // The columns that a shoulder stands between: the same one for an even width, and from 8 feet on the last.
 fn columns_of(feet: u64) -> Neighbours
-    ensures { λ r. ⌜ (r .below ≡ columnBelow feet) × (r .above ≡ columnAbove feet) ⌝ }
+    ensures { λ r. ⌜ Beside feet r ⌝ }
 {
     if feet >= 8 {
         return Neighbours { below: 4, above: 4 };
@@ -170,7 +171,7 @@ fn columns_of(feet: u64) -> Neighbours
 // The widths' values at two columns, from a table that is written out once.
 fn widths_of(columns: Neighbours, traffic: u64) -> Neighbours
     requires { ⌜ (columns .below < 5) × (columns .above < 5) ⌝ }
-    ensures { λ r. ⌜ (r .below ≡ widthAt traffic (columns .below)) × (r .above ≡ widthAt traffic (columns .above)) ⌝ }
+    ensures { λ r. ⌜ AtBoth (widthAt traffic) columns r ⌝ }
 {
     let table = SHOULDER_COLUMNS;
     Neighbours {
@@ -182,7 +183,7 @@ fn widths_of(columns: Neighbours, traffic: u64) -> Neighbours
 // A type's multipliers at two columns, in hundredths.
 fn types_of(surface: u64, columns: Neighbours) -> Neighbours
     requires { ⌜ (surface ≤ 3) × (columns .below < 5) × (columns .above < 5) ⌝ }
-    ensures { λ r. ⌜ (r .below ≡ typeAt surface (columns .below)) × (r .above ≡ typeAt surface (columns .above)) ⌝ }
+    ensures { λ r. ⌜ AtBoth (typeAt surface) columns r ⌝ }
 {
     let table = TYPE_MULTIPLIERS;
     Neighbours {

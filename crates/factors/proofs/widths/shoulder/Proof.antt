@@ -2,30 +2,28 @@ use borrow.Author.Needs.{needs}
 use mathlib.Core.Path.{_≡_, ap, _∙_}
 use lib.Dec.{lit<, lit≤}
 use Prim.Native.Nat.{_+_, _*_, _<_}
-use Rattle.model.specs.Widths.{shoulderValue, typeValue, shoulderUnit, ofRelated}
+use Rattle.model.specs.Widths.{widthAt, typeAt, shoulderValue, typeValue, shoulderUnit, ofRelated}
 use Rattle.model.specs.Neighbours.{columns-few}
 use Rattle.model.specs.FactorBounds.{MeansWithin, shoulder-value-within}
 use Rattle.bracket.specs.Ratio.{coded}
+use Rattle.factors.specs.Neighbours.{twice-mean}
 use Rattle.factors.proofs.widths.shoulder.Statement.{statement}
 use Rattle.factors.proofs.widths.shoulder.Tie as tie
 
 few : (c : tie.After-columns-of) → (c .columns-of .result .below < 5) × (c .columns-of .result .above < 5)
 few c = rw (c .columns-of .ensures .0, c .columns-of .ensures .1) (columns-few (c .before .args .feet))
 
--- both neighbours' widths added up are the width's value, and so of the types
 widths : (c : tie.After-widths-of) → let a = c .before .before .args in
     c .widths-of .result .below + c .widths-of .result .above ≡ shoulderValue (a .feet) (a .traffic)
 unfolding shoulderValue
-widths c =
-    let columns = c .before .columns-of .ensures in
-    rw (c .widths-of .ensures .0, c .widths-of .ensures .1, columns .0, columns .1)
+widths c = let a = c .before .before .args in twice-mean (widthAt (a .traffic)) (a .feet) (c .before .columns-of .ensures) (c .widths-of .ensures)
 
 types : (c : tie.After-types-of) → let a = c .before .before .before .args in
     c .types-of .result .below + c .types-of .result .above ≡ typeValue (a .surface) (a .feet)
 unfolding typeValue
 types c =
-    let columns = c .before .before .columns-of .ensures in
-    rw (c .types-of .ensures .0, c .types-of .ensures .1, columns .0, columns .1)
+    let a = c .before .before .before .args in
+    twice-mean (typeAt (a .surface)) (a .feet) (c .before .before .columns-of .ensures) (c .types-of .ensures)
 
 within : (s : tie.Start) → MeansWithin (shoulderValue (s .args .feet) (s .args .traffic)) (typeValue (s .args .surface) (s .args .feet))
 within s = shoulder-value-within (s .args .surface) (s .args .feet) (s .args .traffic) (s .pre .1)

@@ -1,21 +1,22 @@
 use borrow.Author.Needs.{needs}
 use mathlib.Core.Path.{_≡_, ap, _∙_}
-use Prim.Native.Nat.{ℕ}
-use Rattle.model.specs.Widths.{shoulderColumns, atTraffic, widthAt}
-use Rattle.model.specs.FactorBounds.{shoulder-column-within}
-use Rattle.factors.specs.Column.{column-at}
+use mathlib.Core.List.{map}
+use Prim.Native.Nat.{ℕ, _<_}
+use lib.ListN.{getD}
+use Rattle.model.specs.Widths.{shoulderColumns, none, atTraffic, widthAt}
+use Rattle.model.specs.FactorBounds.{ColumnWithin, shoulder-column-within}
+use Rattle.factors.specs.Column.{columnOf, held, column-at}
 use Rattle.factors.proofs.widths.widths_of.Statement.{statement}
 use Rattle.factors.proofs.widths.widths_of.Tie as tie
 
+within : (place : ℕ) → place < 5 → ColumnWithin (columnOf (getD (map held shoulderColumns) place (held none)))
+within place h = rw (column-at shoulderColumns place) (shoulder-column-within place h)
+
 at-traffic-requires : tie.Need-at-traffic-requires
-at-traffic-requires c κs =
-    let s = c .before in
-    rw (column-at shoulderColumns (s .args .columns .below)) (shoulder-column-within (s .args .columns .below) (s .pre .0))
+at-traffic-requires c κs = let s = c .before in within (s .args .columns .below) (s .pre .0)
 
 at-traffic-requires-2 : tie.Need-at-traffic-requires-2
-at-traffic-requires-2 c κs =
-    let s = c .before .before .before in
-    rw (column-at shoulderColumns (s .args .columns .above)) (shoulder-column-within (s .args .columns .above) (s .pre .1))
+at-traffic-requires-2 c κs = let s = c .before .before .before in within (s .args .columns .above) (s .pre .1)
 
 returns : tie.Need-returns
 returns c =
