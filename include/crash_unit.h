@@ -40,7 +40,7 @@ extern "C" {
 
 /* Sizes: no accepted file, report or record is longer. */
 #define CRASH_HEADER_BYTES 8
-#define CRASH_MOST_SITES 1900
+#define CRASH_MOST_SITES 1200
 #define CRASH_LONGEST_RECORD 33                                                            /* bytes */
 #define CRASH_LONGEST_FILE (CRASH_HEADER_BYTES + CRASH_MOST_SITES * CRASH_LONGEST_RECORD)  /* bytes */
 #define CRASH_LINE_NUMBERS 4

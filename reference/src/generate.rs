@@ -240,7 +240,7 @@ pub fn project(random: &mut Random) -> Project {
 
 /// A project of the largest size.
 pub fn largest_project(random: &mut Random) -> Project {
-    project_of(random, usize::from(MOST_SITES))
+    project_of(random, MOST_SITES)
 }
 
 /// The records of a project, one list of bytes each.
@@ -349,7 +349,8 @@ fn damage_header(random: &mut Random, file: &mut [u8]) {
         2 => (2, random.pick(&zero_or_above).to_be_bytes().to_vec()),
         3 => (4, random.pick(&zero_or_above).to_be_bytes().to_vec()),
         _ => {
-            let sites = [MOST_SITES + 1, 65_535, MOST_SITES, 1, 0];
+            let most = MOST_SITES as u16;
+            let sites = [most + 1, 65_535, most, 1, 0];
             (6, random.pick(&sites).to_be_bytes().to_vec())
         }
     };

@@ -177,7 +177,7 @@ pub fn parse(text: &str) -> Result<Project, String> {
     let mut sites = Vec::new();
     for (at, line) in lines {
         let place = |what: String| format!("line {at}, site {}: {what}", sites.len() + 1);
-        if sites.len() == usize::from(MOST_SITES) {
+        if sites.len() == MOST_SITES {
             return Err(place(format!("there may be {MOST_SITES} sites at most")));
         }
         let site = site(line).map_err(place)?;

@@ -8,7 +8,7 @@ use crate::rules::{EDITION, MOST_CALIBRATION, MOST_SITES, MOST_YEARS};
 pub const HEADER: usize = 8;
 
 /// The longest project file: the header and the most sites with every bit.
-pub const LONGEST_FILE: usize = HEADER + MOST_SITES as usize * (3 + 2 * 15);
+pub const LONGEST_FILE: usize = HEADER + MOST_SITES * (3 + 2 * 15);
 
 /// The header's values apart from the count of sites.
 #[derive(Clone, Copy, Debug, PartialEq, Eq)]
@@ -66,7 +66,7 @@ fn limits_kept(header: &Header, sites: usize) -> bool {
     (1..=MOST_YEARS).contains(&header.years)
         && calibrated(header.segment_calibration)
         && calibrated(header.crossing_calibration)
-        && sites <= usize::from(MOST_SITES)
+        && sites <= MOST_SITES
 }
 
 /// Reads the header and the count of sites: refusals 1, 3 and 4.

@@ -3,11 +3,11 @@
 
 use std::ops::RangeInclusive;
 
-/// Limits of the header.
+/// Limits of the header; that of sites is document 02's.
 pub const EDITION: u8 = 1;
 pub const MOST_YEARS: u8 = 10;
 pub const MOST_CALIBRATION: u16 = 9_999;
-pub const MOST_SITES: u16 = 1_900;
+pub const MOST_SITES: usize = 1_200;
 
 /// Kinds of site, as their byte in a record.
 pub const SEGMENT: u8 = 0;

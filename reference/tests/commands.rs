@@ -1,5 +1,6 @@
 //! The commands, run as a user runs them.
 
+use reference::rules::MOST_SITES;
 use std::fs;
 use std::io::Write;
 use std::path::PathBuf;
@@ -196,6 +197,11 @@ const REFUSED_SITES: [(&str, &str); 17] = [
 
 const HEAD: &str = "edition 1\nyears 2\nsegment-calibration 1000\ncrossing-calibration 900\n";
 
+/// A project of so many sites, as lines.
+fn lines_of(sites: usize) -> String {
+    format!("{HEAD}{}", "segment traffic 5 length 6\n".repeat(sites))
+}
+
 /// Every command that takes lines tells the same of them.
 fn assert_refused(lines: &str, wanted: &str) {
     let commands = OF_EITHER.into_iter().chain([&["make"][..]]);
@@ -211,11 +217,10 @@ fn lines_are_refused_with_line_site_field_value_and_range() {
         let lines = format!("{HEAD}# A note.\n\n3st traffic 5 minor-traffic 6\n{line}\n");
         assert_refused(&lines, &format!("line 8, site 2: {what}"));
     }
-    let most = "segment traffic 5 length 6\n".repeat(1_901);
-    assert_refused(
-        &format!("{HEAD}{most}"),
-        "line 1905, site 1901: there may be 1900 sites at most",
-    );
+    let site = MOST_SITES + 1;
+    let line = HEAD.lines().count() + site;
+    let wanted = format!("line {line}, site {site}: there may be {MOST_SITES} sites at most");
+    assert_refused(&lines_of(site), &wanted);
 }
 
 #[test]
@@ -265,9 +270,8 @@ fn header_lines_are_refused_with_line_name_value_and_range() {
 /// A command whose output or message nobody reads ends without a word.
 #[test]
 fn a_closed_pipe_ends_a_command_quietly() {
-    let most = format!("{HEAD}{}", "segment traffic 5 length 6\n".repeat(1_900));
     let path = PathBuf::from(env!("CARGO_TARGET_TMPDIR")).join("most.lines");
-    fs::write(&path, most).expect("lines are written");
+    fs::write(&path, lines_of(MOST_SITES)).expect("lines are written");
     let lines = path.display();
     for command in [
         format!("dump '{lines}'"),

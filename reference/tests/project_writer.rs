@@ -44,7 +44,7 @@ fn accepted_files_come_back_from_their_header_and_sites() {
 fn what_is_written_is_read_as_the_same_sites() {
     let mut random = Random::new(52);
     let mut kinds = [0; KIND_NAMES.len()];
-    for count in (0..200).chain([usize::from(MOST_SITES)]) {
+    for count in (0..200).chain([MOST_SITES]) {
         let given = project_of(&mut random, count);
         let file = written(given.header.numbers(), &given.sites);
         for site in &given.sites {
@@ -84,10 +84,10 @@ fn limits_of_the_header() {
 
 #[test]
 fn limit_of_the_count_of_sites() {
-    let sites = vec![Site::plain(0, 1_000, 500); 1_901];
+    let sites = vec![Site::plain(0, 1_000, 500); MOST_SITES + 1];
     assert_eq!(
-        write_file(WITHIN, &sites[..1_900], LONGEST_FILE).map(|file| file.len()),
-        Ok(8 + 1_900 * 7)
+        write_file(WITHIN, &sites[..MOST_SITES], LONGEST_FILE).map(|file| file.len()),
+        Ok(8 + MOST_SITES * 7)
     );
     for room in [0, LONGEST_FILE] {
         assert_eq!(write_file(WITHIN, &sites, room), Err(OUTSIDE_LIMITS));
@@ -145,7 +145,7 @@ fn limits_then_sites_then_space() {
     let good = Site::plain(0, 1_000, 500);
     let bad = Site::empty(0);
     let (outside, few) = ([0, 1_100, 900], [good, bad, bad]);
-    let many = vec![bad; 1_901];
+    let many = vec![bad; MOST_SITES + 1];
     assert_eq!(write_file(outside, &few, 0), Err(OUTSIDE_LIMITS));
     assert_eq!(write_file(outside, &few[..1], 0), Err(OUTSIDE_LIMITS));
     assert_eq!(write_file(WITHIN, &many, 0), Err(OUTSIDE_LIMITS));

@@ -7,7 +7,7 @@ use reference::project::{
     encode_header, parse_project, read_project, write_project, Header, Project, LONGEST_FILE,
 };
 use reference::record::{encode_record, read_site, write_site, Refusal, Site};
-use reference::rules::{rules, Field, Presence, FIELD_NAMES};
+use reference::rules::{rules, Field, Presence, FIELD_NAMES, MOST_SITES};
 
 const HEADER: Header = Header {
     edition: 1,
@@ -113,8 +113,20 @@ fn four_header_limits() {
         refused(&encode_header(&segment, 0), 4, 0);
         refused(&encode_header(&crossing, 0), 4, 0);
     }
-    refused(&encode_header(&HEADER, 1_901), 4, 0);
-    refused(&encode_header(&HEADER, 1_900), 1, 8);
+}
+
+/// Document 02: "A header with 1,201 is refused with 4, and 1,200 is accepted."
+#[test]
+fn four_count_of_sites() {
+    let file = |sites: u16| {
+        let records = encode_record(0, 0b11, &PLAIN).repeat(sites.into());
+        [encode_header(&HEADER, sites), records].concat()
+    };
+    refused(&file(1_201), 4, 0);
+    refused(&encode_header(&HEADER, 1_201), 4, 0);
+    refused(&encode_header(&HEADER, 1_200), 1, 8);
+    let accepted = parse_project(&file(1_200)).map(|project| project.sites.len());
+    assert_eq!(accepted, Ok(1_200));
 }
 
 #[test]
@@ -393,7 +405,7 @@ fn the_longest_file_is_within_its_bound() {
     }
     let project = Project {
         header: HEADER,
-        sites: vec![full; 1_900],
+        sites: vec![full; MOST_SITES],
     };
     assert_eq!(
         write_project(&project).map(|file| file.len()),

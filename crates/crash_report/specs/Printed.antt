@@ -113,7 +113,7 @@ refusal-printed s text out room place {answer} {number} {at} l e refused p = by 
         let f : _≡_ {A = ℕ} 0 1 = cc in
         absurd (omega arith)
 
--- an accepted file is no longer than the longest: a header and 1,900 records of 33 bytes
+-- an accepted file is no longer than the longest
 starts-near : {s : List ℕ} {i p : ℕ} → Starts s i p → p ≤ headerLength + i * longest
 starts-near first = omega arith
 starts-near {s} (next {i} {p} {n} {value} r e) = omega (arith, starts-near r, read-length (drop p s) value n e .at-most)

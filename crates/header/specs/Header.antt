@@ -38,9 +38,9 @@ mostYears = 10
 abbrev pub mostCalibration : ℕ
 mostCalibration = 9999
 
--- "sites, 0 to 1,900"
+-- "sites, 0 to 1,900", which document 02, request 3, amends: "The limit becomes 1,200"
 abbrev pub mostSites : ℕ
-mostSites = 1900
+mostSites = 1200
 
 -- years and both calibrations within their limits
 unfoldable pub inLimits : Header → Bool

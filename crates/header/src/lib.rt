@@ -24,7 +24,7 @@ const MOST_YEARS: u64 = 10;
 
 const MOST_CALIBRATION: u64 = 9999;
 
-pub const MOST_SITES: usize = 1900;
+pub const MOST_SITES: usize = 1200;
 
 // A byte as a number of 64 bits.
 fn wide(byte: u8) -> u64

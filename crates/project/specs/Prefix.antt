@@ -23,7 +23,7 @@ use Rattle.project.specs.declared.ScanAnswer.the-variants.{Refused}
 use Rattle.project.specs.File.{afterRecord, scanRecords, scanFile}
 use Rattle.project.specs.Scan.{scan-past-header, scan-header}
 
--- a header and 1,900 records of 33 bytes
+-- a header and the most records, each the longest
 abbrev pub longestFile : ℕ
 longestFile = headerLength + mostSites * longest
 

@@ -114,9 +114,9 @@ module _ (s : List ℕ) (at : ℕ) (answer : SiteAnswer) (reads : ReadsSite (tak
       → Next line n ≡ recordLine c header (readSite (drop at s))
   a-line site n line e l = ap (λ (x : Line). Next x n) l ∙ ap (recordLine c header) (sym e ∙ answer-of)
 
--- no total is above ten thousand lines, more than the sites of a project
+-- no total is above the largest line times the most sites
 abbrev pub mostTotal : ℕ
-mostTotal = 10000 * mostPredicted
+mostTotal = mostSites * mostPredicted
 
 -- a file that a scan accepts, and room for its report
 pub record Acceptable (s : List ℕ) (room : ℕ) : Type 0 where

@@ -5,6 +5,7 @@
 use engine::program::full_project;
 use engine::projects::project_into;
 use reference::report::print_report;
+use reference::rules::MOST_SITES;
 use std::fs;
 use std::path::{Path, PathBuf};
 use std::process::Command;
@@ -73,7 +74,7 @@ fn refused_file() {
 #[test]
 fn surveys_of_no_site_and_of_the_most() {
     let program = compiled("surveys");
-    for sites in [0, 1, 1_900] {
+    for sites in [0, 1, MOST_SITES] {
         let file = full_project(sites);
         let mut report = vec![0; 4 * (sites + 1)];
         assert_eq!(project_into(&file, &mut report), Ok(report.len()));

@@ -8,6 +8,7 @@ use engine::projects::project_into;
 use engine::sites::{read_into, write_numbers};
 use engine::{power_into, DONE, TOO_SHORT};
 use reference::record::{cause, Refusal};
+use reference::rules::MOST_SITES;
 use std::collections::BTreeMap;
 use std::fs;
 use std::path::{Path, PathBuf};
@@ -152,10 +153,9 @@ fn refusals_are_document_01s() {
 fn sizes_of_a_project_are_the_engines() {
     let names = names_in_c("names_project");
     let size = |name: &str| names[name] as usize;
-    let sites = size("CRASH_MOST_SITES");
-    let file = full_project(sites);
+    assert_eq!(size("CRASH_MOST_SITES"), MOST_SITES);
+    let file = full_project(MOST_SITES);
     assert_eq!(file.len(), size("CRASH_LONGEST_FILE"));
-    assert_eq!(file.len(), 8 + 1_900 * 33);
     let mut report = vec![0; size("CRASH_LONGEST_REPORT")];
     let short = report.len() - 1;
     let number = |refusal: Refusal| refusal.number;
@@ -163,11 +163,7 @@ fn sizes_of_a_project_are_the_engines() {
     assert_eq!(refused, Err(cause::TOO_SHORT));
     assert_eq!(project_into(&file, &mut report), Ok(report.len()));
     // One site more is outside the limits.
-    let mut longer = file.clone();
-    let count = u16::try_from(sites + 1).expect("a count").to_be_bytes();
-    longer[6..8].copy_from_slice(&count);
-    longer.extend(&file[size("CRASH_HEADER_BYTES")..][..size("CRASH_LONGEST_RECORD")]);
-    let refused = project_into(&longer, &mut report).map_err(number);
+    let refused = project_into(&full_project(MOST_SITES + 1), &mut report).map_err(number);
     assert_eq!(refused, Err(cause::HEADER_LIMITS));
 }
 
@@ -212,7 +208,7 @@ fn answers_are_as_the_header_says() {
 fn stack_suffices_for_every_call() {
     let program = compiled("cc", &["-std=c11", "-O2"], &c_file("stack.c"), "stack");
     let longest = own("stack.project");
-    fs::write(&longest, full_project(1_900)).expect("a file is written");
+    fs::write(&longest, full_project(MOST_SITES)).expect("a file is written");
     let mut command = Command::new(program);
     command
         .arg(root().join("demo/corridor.project"))

@@ -4,6 +4,8 @@
 use engine::program::{full_project, CRASH_REPORT};
 use reference::lines;
 use reference::program::{check, judge, run, DEPTHS};
+use reference::project::{HEADER, LONGEST_FILE};
+use reference::rules::MOST_SITES;
 use std::fs::{self, File, OpenOptions};
 use std::io::{Read, Write};
 use std::path::{Path, PathBuf};
@@ -15,10 +17,6 @@ use std::time::Duration;
 const SIGNAL: [u8; 17] = [
     1, 5, 3, 0xE8, 3, 0xE8, 0, 1, 3, 0, 7, 0x27, 0x10, 3, 0xE8, 0, 5,
 ];
-
-/// A header and 1,900 records of 33 bytes.
-const MOST_SITES: usize = 1_900;
-const LONGEST_FILE: usize = 62_708;
 
 /// Files of each sort that the gate compares, and the seed that makes them.
 const FILES: usize = 5_000;
@@ -93,7 +91,17 @@ fn longest_file_and_longer_ones() {
     assert_eq!(judge(&file, &report, &[3]), Ok(()));
     for extra in [1, 2, 4_096, 1_000_000] {
         file.resize(LONGEST_FILE + extra, 0);
-        assert_eq!(printed(&file), "refused 2 at 62708\n");
+        assert_eq!(printed(&file), format!("refused 2 at {LONGEST_FILE}\n"));
+    }
+}
+
+/// One site more than the most is refused by the header, however much of it is
+/// there.
+#[test]
+fn one_site_too_many_at_its_longest() {
+    let file = full_project(MOST_SITES + 1);
+    for length in [HEADER, LONGEST_FILE, LONGEST_FILE + 1, file.len()] {
+        assert_eq!(printed(&file[..length]), "refused 4 at 0\n");
     }
 }
 

@@ -12,7 +12,7 @@ use reference::generate::{
 };
 use reference::project::{self, parse_project, write_project, Header, HEADER, LONGEST_FILE};
 use reference::record::{Refusal, Site};
-use reference::rules::KIND_NAMES;
+use reference::rules::{KIND_NAMES, MOST_SITES};
 use std::fs;
 use std::path::Path;
 
@@ -21,8 +21,6 @@ const LISTS: usize = 5_000;
 
 /// Random calls whose answers are the reference's.
 const CALLS: usize = 50_000;
-
-const MOST_SITES: usize = 1_900;
 
 /// Years and calibrations within their limits.
 const WITHIN: [u64; 3] = [5, 1_100, 900];
@@ -47,8 +45,8 @@ fn file_of(header: [u64; 3], sites: &[Site]) -> Vec<u8> {
     project::write_file(header, sites, usize::MAX).expect("a list that the reference takes")
 }
 
-/// The header's numbers and the sites' numbers of an accepted file, each site
-/// read by the engine.
+/// The header's numbers and the sites' numbers of a file, each site read by the
+/// engine.
 fn read_back(file: &[u8]) -> ([u64; 3], Vec<u64>) {
     let number = |at: usize| u64::from(u16::from_be_bytes([file[at], file[at + 1]]));
     let mut run = Vec::new();
@@ -98,7 +96,7 @@ fn random_lists_are_written_and_read_back() {
         longest = longest.max(sites.len());
     }
     assert!(kinds.iter().all(|count| *count > 20_000), "{kinds:?}");
-    assert!(empty > 20 && longest > 1_000, "{empty} {longest}");
+    assert!(empty > 20 && longest > MOST_SITES / 2, "{empty} {longest}");
 }
 
 /// A header's numbers, often with one at an edge of its limits or beyond.
@@ -349,6 +347,8 @@ fn the_most_sites_and_one_more() {
     }
     assert_refused(WITHIN, &run, OUTSIDE_LIMITS);
     assert_refused(WITHIN, &[7; 100 * MOST_SITES], OUTSIDE_LIMITS);
+    let (header, longest) = read_back(&full_project(MOST_SITES + 1));
+    assert_refused(header, &longest, OUTSIDE_LIMITS);
 }
 
 #[test]
@@ -389,7 +389,7 @@ fn limits_then_sites_then_space() {
     for way in 0..WAYS {
         let mut damaged = run.clone();
         put(&mut damaged, 11, &damaged_numbers(&mut random, way));
-        let too_many = damaged.repeat(96);
+        let too_many = damaged.repeat(MOST_SITES / sites.len() + 1);
         for (run, of_sites) in [
             (&run, None),
             (&damaged, Some(Refusal::of(8, 11))),

@@ -2,6 +2,7 @@
 //! its start to its end, beside its time for an empty project.
 
 use engine::program::{full_project, CRASH_REPORT};
+use reference::rules::MOST_SITES;
 use std::fs::{self, File};
 use std::process::{Command, Stdio};
 use std::time::{Duration, Instant};
@@ -25,7 +26,7 @@ fn main() {
     let file = std::env::temp_dir().join(format!("report_time.{}", std::process::id()));
     let path = file.to_str().expect("a plain path");
     println!("sites   bytes   best ms   median ms   of {RUNS} runs");
-    for sites in [0, 1_900] {
+    for sites in [0, MOST_SITES] {
         let bytes = full_project(sites);
         fs::write(path, &bytes).expect("a project is written");
         let mut times: Vec<Duration> = (0..RUNS).map(|_| run(path)).collect();

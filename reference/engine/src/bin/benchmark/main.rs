@@ -12,7 +12,7 @@ use intervals::{numbers_of_sites, Library, LIBRARIES};
 use reference::generate::{self, Random};
 use reference::project::{write_project, Header, Project, LONGEST_FILE};
 use reference::record::{write_site, Site};
-use reference::rules::{EDITION, KIND_NAMES};
+use reference::rules::{EDITION, KIND_NAMES, MOST_SITES};
 use std::hint::black_box;
 use std::io::Write;
 use std::iter;
@@ -156,8 +156,7 @@ const HEADER: Header = Header {
     crossing_calibration: 900,
 };
 
-/// Sites of all kinds, and the rounds over them by which two runs differ.
-const SITES: usize = 1_900;
+/// The rounds over the sites by which two runs differ.
 const ROUNDS: u16 = 300;
 
 /// One making round's sum by the exported call, which the program must print.
@@ -301,8 +300,8 @@ fn print_lines(mixed: &[Site]) {
 }
 
 /// Sites of a project in each row; the rows have the same sites.
-const SIZES: [usize; 4] = [10, 100, 1_000, 1_900];
-const SITES_OF_PROJECTS: usize = 19_000;
+const SIZES: [usize; 4] = [10, 100, 1_000, MOST_SITES];
+const SITES_OF_PROJECTS: usize = 15 * MOST_SITES;
 
 fn report_into(file: &[u8], report: &mut [u64]) -> usize {
     projects::project_into(file, report).expect("a project that the reader takes")
@@ -385,7 +384,7 @@ fn main() {
     }
     println!();
     let mut random = Random::new(41);
-    print_lines(&random_sites(&mut random, SITES));
+    print_lines(&random_sites(&mut random, MOST_SITES));
     println!();
     println!(
         "| Sites | Engine, a project, µs | Engine, a site, ns | Doubles, a site, ns \
