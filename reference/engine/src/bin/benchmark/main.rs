@@ -23,7 +23,7 @@ const PROGRAM: &str = concat!(env!("CARGO_MANIFEST_DIR"), "/../../target/bin/rou
 
 /// Each figure is the least of so many measurements, of a program's run or of
 /// work in this one.
-const TRIES: usize = 8;
+const TRIES: usize = 40;
 const TRIES_HERE: usize = 60;
 
 /// A kind of bracket: the brackets in a round, and the rounds by which two runs
