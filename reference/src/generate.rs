@@ -349,9 +349,9 @@ fn damage_header(random: &mut Random, file: &mut [u8]) {
         2 => (2, random.pick(&zero_or_above).to_be_bytes().to_vec()),
         3 => (4, random.pick(&zero_or_above).to_be_bytes().to_vec()),
         _ => {
-            let most = MOST_SITES as u16;
-            let sites = [most + 1, 65_535, most, 1, 0];
-            (6, random.pick(&sites).to_be_bytes().to_vec())
+            let sites = [MOST_SITES + 1, 65_535, MOST_SITES, 1, 0];
+            let count = u16::try_from(random.pick(&sites)).expect("a count of two bytes");
+            (6, count.to_be_bytes().to_vec())
         }
     };
     file[at..at + bytes.len()].copy_from_slice(&bytes);

@@ -12,9 +12,10 @@ use report::ProjectAnswer;
 use report::read_project;
 use report_text::put_refusal;
 use report_text::put_report;
+use site::rules::LONGEST_RECORD;
 
-// One byte more than the longest file, whose records have 33 bytes each: the bytes past it bear on nothing.
-const INPUT_ROOM: usize = HEADER_LENGTH + MOST_SITES * 33 + 1;
+// One byte more than the longest file: the bytes past it bear on nothing.
+const INPUT_ROOM: usize = HEADER_LENGTH + MOST_SITES * LONGEST_RECORD + 1;
 
 // The numbers of the longest report, and the bytes of its text.
 const REPORT_ROOM: usize = 4 * (MOST_SITES + 1);

@@ -10,7 +10,7 @@ use Rattle.header.specs.declared.Header.{Header}
 use Rattle.header.specs.Header.{inLimits, mostSites}
 use Rattle.project_writer.specs.ProjectFile.{fileOf}
 
--- "Header limits": document 01's, of years, calibrations and sites
+-- "Header limits": of years, calibrations and sites
 abbrev pub LimitsKept : Header → List Site → Type 0
 LimitsKept header sites = (inLimits header ≡ true) × (length sites ≤ mostSites)
 

@@ -11,6 +11,7 @@ ghost use Rattle.site.specs.Writing.{Valid};
 use exponential::exponential_with;
 use exponential::stored::stored_exponentials;
 use header::Header;
+use header::MOST_SITES;
 use libc::STDIN_FILENO;
 use libc::STDOUT_FILENO;
 use line::line_with;
@@ -18,6 +19,7 @@ use logarithm::logarithm_with;
 use logarithm::stored::stored_logarithms;
 use power::power_with;
 use power::stored::stored_powers;
+use site::rules::LONGEST_RECORD;
 use site::values::Site;
 use site::values::SiteAnswer;
 use site::words::word_at;
@@ -34,6 +36,9 @@ const CROSSINGS: u64 = 900;
 
 // The bytes before the records.
 const HEAD: usize = 10;
+
+// With the longest records of the most sites.
+const INPUT_ROOM: usize = HEAD + MOST_SITES * LONGEST_RECORD;
 
 // A sum and a pair, modulo 2^32 each, so that no sum overflows.
 fn added(sum: u64, low: u64, high: u64) -> u64 {
@@ -172,7 +177,7 @@ fn print_sums(input: &[u8]) {
 }
 
 fn main() {
-    let mut input = [0u8; 65536];
+    let mut input = [0u8; INPUT_ROOM];
     let n = io::read_full(STDIN_FILENO, &mut input);
     print_sums(&input[..n]);
 }

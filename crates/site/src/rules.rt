@@ -40,6 +40,9 @@ pub const SLOTS: usize = 20;
 
 pub const LAST_KIND: u8 = 3;
 
+// Kind, map and 15 fields, in bytes.
+pub const LONGEST_RECORD: usize = 33;
+
 // Document 01's ranges and defaults, each once.
 const TRAFFIC: Rule = Needed(1, 20000);
 

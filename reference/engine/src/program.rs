@@ -1,27 +1,39 @@
-//! The engine's program `crash_report`, and the longest files it is run on.
+//! The engine's program `crash_report`, and the longest files and reports it is
+//! run on.
 
 use reference::lines;
-use reference::project::HEADER;
+use reference::project::encode_header;
+use reference::record::write_site;
 
 /// The program, as `rt check` leaves it.
 pub const CRASH_REPORT: &str =
     concat!(env!("CARGO_MANIFEST_DIR"), "/../../target/bin/crash_report");
 
-/// A project of one site with every field.
+/// A project of one site with every field but the history.
 const FULL: &str = "edition 1
     years 10
     segment-calibration 9999
     crossing-calibration 9999
-    segment traffic 19999 length 20000 observed 500 lane 9 shoulder 1 \
-        shoulder-type 3 curve-length 1 radius 100 spiral-ends 1 deficiency 100 grade 11 \
-        driveways 49 two-way-lane 1 passing 1 hazard-rating 7";
+    segment traffic 19999 length 20000 lane 9 shoulder 1 shoulder-type 3 curve-length 1 \
+        radius 100 spiral-ends 1 deficiency 100 grade 11 driveways 49 two-way-lane 1 \
+        passing 1 hazard-rating 7";
 
-/// The file of so many such sites, of more than a project may have too.
-pub fn full_project(sites: usize) -> Vec<u8> {
-    let mut file = lines::make(FULL).expect("a project that the writer takes");
-    let record = file.split_off(HEADER);
+/// The file of so many sites like the one of a project's lines, even of more
+/// than a project may have.
+fn repeated(lines: &str, sites: usize) -> Vec<u8> {
+    let project = lines::parse(lines).expect("a project's lines");
+    let record = write_site(&project.sites[0], usize::MAX).expect("a site that the writer takes");
     let count = u16::try_from(sites).expect("a count of two bytes");
-    file[HEADER - 2..].copy_from_slice(&count.to_be_bytes());
-    file.extend(record.repeat(sites));
-    file
+    [encode_header(&project.header, count), record.repeat(sites)].concat()
+}
+
+/// The longest file of so many sites: every field of every record.
+pub fn full_project(sites: usize) -> Vec<u8> {
+    repeated(&format!("{FULL} observed 500"), sites)
+}
+
+/// The file of so many sites with the longest report: without a history the
+/// expected pair is as large as the predicted one.
+pub fn longest_report(sites: usize) -> Vec<u8> {
+    repeated(FULL, sites)
 }

@@ -1,7 +1,7 @@
 //! The program `crash_report`, run as a user runs it: known figures, the demo
 //! corridor, the largest files, and files that the reference makes.
 
-use engine::program::{full_project, CRASH_REPORT};
+use engine::program::{full_project, longest_report, CRASH_REPORT};
 use reference::lines;
 use reference::program::{check, judge, run, DEPTHS};
 use reference::project::{HEADER, LONGEST_FILE};
@@ -17,6 +17,9 @@ use std::time::Duration;
 const SIGNAL: [u8; 17] = [
     1, 5, 3, 0xE8, 3, 0xE8, 0, 1, 3, 0, 7, 0x27, 0x10, 3, 0xE8, 0, 5,
 ];
+
+/// Bytes that a pipe holds before its writer has to wait.
+const PIPE: usize = 65_536;
 
 /// Files of each sort that the gate compares, and the seed that makes them.
 const FILES: usize = 5_000;
@@ -95,8 +98,8 @@ fn longest_file_and_longer_ones() {
     }
 }
 
-/// One site more than the most is refused by the header, however much of it is
-/// there.
+/// A file of one site too many is refused for its header, however much of the
+/// file is there.
 #[test]
 fn one_site_too_many_at_its_longest() {
     let file = full_project(MOST_SITES + 1);
@@ -162,8 +165,9 @@ fn report_that_a_file_takes_in_part_is_told() {
 
 #[test]
 fn slow_reader_gets_the_whole_report() {
-    let file = full_project(MOST_SITES);
+    let file = longest_report(MOST_SITES);
     let whole = printed(&file);
+    assert!(whole.len() > PIPE);
     let path = stored_in("longest.project", &file);
     let mut child = Command::new(CRASH_REPORT)
         .stdin(File::open(&path).expect("the file"))

@@ -1,12 +1,14 @@
 //! The exported project reader against the reference: answers, reports, and
 //! what a call leaves as it was.
 
+use engine::program::full_project;
 use engine::projects::project_into;
 use reference::checker::report_faults;
 use reference::generate::{damaged_file, largest_project, project, Random};
 use reference::model::FIRST_EDITION;
 use reference::project::{parse_project, read_project, write_project};
 use reference::record::Refusal;
+use reference::rules::MOST_SITES;
 
 const UNTOUCHED: u64 = 0xA5A5_A5A5;
 const FILES: usize = 1_000;
@@ -65,6 +67,13 @@ fn largest_file() {
     let room = rooms(&file)[0];
     assert_read(&file, room);
     assert_read(&file, room - 1);
+}
+
+#[test]
+fn the_most_sites_and_one_more_at_their_longest() {
+    for sites in [MOST_SITES, MOST_SITES + 1] {
+        assert_read(&full_project(sites), 4 * (sites + 1));
+    }
 }
 
 #[test]

@@ -301,7 +301,7 @@ fn print_lines(mixed: &[Site]) {
 
 /// Sites of a project in each row; the rows have the same sites.
 const SIZES: [usize; 4] = [10, 100, 1_000, MOST_SITES];
-const SITES_OF_PROJECTS: usize = 15 * MOST_SITES;
+const SITES_OF_PROJECTS: usize = 10 * MOST_SITES;
 
 fn report_into(file: &[u8], report: &mut [u64]) -> usize {
     projects::project_into(file, report).expect("a project that the reader takes")
