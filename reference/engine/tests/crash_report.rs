@@ -85,13 +85,23 @@ fn stored_run_is_the_demo() {
     assert_eq!(report, stored("demo/corridor.report"));
 }
 
+/// A file of the most sites gets its whole report.
+fn assert_most_reported(file: &[u8]) {
+    let report = printed(file);
+    assert_eq!(report.lines().count(), MOST_SITES + 1);
+    assert_eq!(judge(file, &report, &[3]), Ok(()));
+}
+
+#[test]
+fn longest_report_of_the_most_sites() {
+    assert_most_reported(&longest_report(MOST_SITES));
+}
+
 #[test]
 fn longest_file_and_longer_ones() {
     let mut file = full_project(MOST_SITES);
     assert_eq!(file.len(), LONGEST_FILE);
-    let report = printed(&file);
-    assert_eq!(report.lines().count(), MOST_SITES + 1);
-    assert_eq!(judge(&file, &report, &[3]), Ok(()));
+    assert_most_reported(&file);
     for extra in [1, 2, 4_096, 1_000_000] {
         file.resize(LONGEST_FILE + extra, 0);
         assert_eq!(printed(&file), format!("refused 2 at {LONGEST_FILE}\n"));
