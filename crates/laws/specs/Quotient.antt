@@ -22,6 +22,9 @@ pub record RoundedUp (a d q : ℕ) : Type 0 where
 pub rounded-down : (a d : ℕ) → 0 < d → RoundedDown a d (quotientDown a d)
 rounded-down a d h = record { below = div-mul-le-self a d; near = lt-div-mul-add h }
 
+pub down-near : (a d : ℕ) → 0 < d → quotientDown a d * d < a + d
+down-near a d h = omega (arith, div-mul-le-self a d)
+
 pub rounded-up : {a d q : ℕ} → 0 < d → q ≡ quotientUp a d → RoundedUp a d q
 unfolding quotientUp
 rounded-up {a} {d} {q} h e =
@@ -36,13 +39,9 @@ quotient-up a d h = rounded-up h refl
 pub at-most : (q d b : ℕ) → q * d < (b + 1) * d → q ≤ b
 at-most q d b h = omega (arith, lt-of-mul-lt-mul-right d {m = q} {n = b + 1} h)
 
--- how large a rounded product of a ≤ A and b ≤ B is
-module _ {a b A B d q m : ℕ} (ha : a ≤ A) (hb : b ≤ B) where
-  pub product-down-≤ : RoundedDown (a * b) d q → A * B < (m + 1) * d → q ≤ m
-  product-down-≤ f h = at-most q d m (omega (arith, f .below, mul-le-mul ha hb, h))
-
-  pub product-up-≤ : RoundedUp (a * b) d q → A * B + d ≤ (m + 1) * d → q ≤ m
-  product-up-≤ f h = at-most q d m (omega (arith, f .near, mul-le-mul ha hb, h))
+-- how large a product of a ≤ A and b ≤ B is, divided and rounded either way
+pub product-≤ : {a b A B q m : ℕ} (d : ℕ) → a ≤ A → b ≤ B → q * d < a * b + d → A * B + d ≤ (m + 1) * d → q ≤ m
+product-≤ {q = q} {m = m} d ha hb near h = at-most q d m (omega (arith, near, mul-le-mul ha hb, h))
 
 -- a quotient rounded up is the only number that is one
 pub rounded-up-is : {a d q : ℕ} → 0 < d → RoundedUp a d q → q ≡ quotientUp a d

@@ -1,25 +1,31 @@
--- The scalings of a power fit 64 bits.
-use Prim.Native.Nat.{ℕ, _+_, _*_, _^_, _≤_, _<_}
-use native.Mathlib.Nat.{mul-le-mul}
+-- The parts of a power's two products fit 64 bits.
+use Prim.Native.Nat.{ℕ, _+_, _-_, _*_, _/_, _%_, _^_, _≤_, _<_}
+use mathlib.Core.Path.{_≡_, ap, _∙_}
+use native.Mathlib.Nat.{mul-le-mul, add-mul-div-right}
 use native.Mathlib.Omega.{arith}
-use Rattle.remainder.specs.Remainder.{Exponent, scale}
-use Rattle.power.specs.Stored.{billion, storedLow, storedHigh, stored-near, stored-small}
+use lib.Dec.{lit<}
+use Rattle.wide.specs.Scaling.{rounded}
+use Rattle.remainder.specs.Remainder.{scale, NearOne}
+use Rattle.power.specs.Stored.{billion}
+use Rattle.power.specs.Ends.{mostStored, mostProduct}
 
--- a stored bound of a number up to 256
-module _ (k p q : ℕ) (e : Exponent p q) (from : 1 ≤ k) (to : k ≤ 256) where
-  pub stored-low-fits : storedLow k p q ≤ 257 * billion
-  stored-low-fits = omega (arith, stored-small k p q e from)
+-- what `scale_by_parts` requires of a n / d, rounded by `up`
+abbrev pub PartsFit : (up a n d part : ℕ) → Type 0
+PartsFit up a n d part = (a % part * n + up * (d - 1) < 2 ^ 64) × ((a * n + up * (d - 1)) / part < 2 ^ 64)
 
-  pub stored-high-fits : storedHigh k p q ≤ 257 * billion
-  stored-high-fits = omega (arith, stored-small k p q e from, stored-near k p q e)
+module _ {up : ℕ} (h : up ≤ 1) where
+  pub product-fits : {s t : ℕ} → s ≤ mostStored → t ≤ mostStored → PartsFit up s t billion 512
+  product-fits {s} {t} hs ht = let left : s % 512 ≤ 511 = omega arith in (omega (arith, mul-le-mul left ht), omega (arith, mul-le-mul hs ht))
 
--- a product at the scale, rounded either way, and that times a remainder
-module _ {s t : ℕ} (u : ℕ) (hs : s ≤ 257 * billion) (ht : t ≤ 257 * billion) (near : u * billion < s * t + billion) where
-  small : u ≤ 66050 * billion
-  small = omega (arith, mul-le-mul hs ht)
+  pub end-fits : {u g : ℕ} → u ≤ mostProduct → NearOne g → PartsFit up u (g - scale) scale 4096
+  end-fits {u} {g} hu hg =
+      let left : u % 4096 ≤ 4095 = omega arith in
+      let rest : g - scale ≤ 5 * 10 ^ 9 = omega (arith, hg .to) in
+      (omega (arith, mul-le-mul left rest), omega (arith, mul-le-mul hu rest))
 
-  pub pair-fits : u < 2 ^ 64
-  pair-fits = omega (arith, small)
-
-  pub triple-fits : {g v : ℕ} → g ≤ 1005 * 10 ^ 9 → v * scale < u * g + scale → v < 2 ^ 64
-  triple-fits h n = omega (arith, mul-le-mul small h)
+-- u times a remainder g is u, and u times what g is above 1
+pub with-one : (up u g more : ℕ) → scale ≤ g → more ≡ (u * (g - scale) + up * (scale - 1)) / scale → u + more ≡ rounded up u g scale
+with-one up u g more h is =
+    let parts : g ≡ g - scale + scale = omega arith in
+    let sum : u * g + up * (scale - 1) ≡ u * (g - scale) + up * (scale - 1) + u * scale = ap (λ (x : ℕ). u * x + up * (scale - 1)) parts ∙ omega arith in
+    rw (sum, add-mul-div-right (u * (g - scale) + up * (scale - 1)) u {z = scale} (lit< tt), is) (omega arith)

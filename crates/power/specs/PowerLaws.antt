@@ -15,8 +15,8 @@ use Rattle.bracket.specs.Bracket.{Stands, RelativeWidth, powerWidth}
 use Rattle.remainder.specs.Split.{firstFactor, secondFactor, splitRest, Splits, split-is}
 use Rattle.remainder.specs.Remainder.{Exponent, scale, remainderLow, remainderHigh}
 use Rattle.remainder.specs.RemainderLaws.{remainder-low-stands, remainder-high-stands, remainder-near, remainder-near-to-nine-tenths}
-use Rattle.remainder.specs.RemainderLaws.{remainder-near-whole, remainder-low-from-one, remainder-high-small}
-use Rattle.power.specs.Stored.{billion, storedLow, storedHigh, stored-low-stands, stored-high-stands, stored-near, stored-from-one, stored-from-root}
+use Rattle.remainder.specs.RemainderLaws.{remainder-near-whole, remainder-low-near-one, remainder-high-near-one}
+use Rattle.power.specs.Stored.{billion, storedLow, stored-low-stands, stored-high-stands, stored-near, stored-from-one, stored-from-root}
 use Rattle.power.specs.Power.{powerLow, powerHigh, powerBracket, StandingPower}
 use Rattle.power.specs.PowerWidth.{floor-rounded, ceiling-rounded, at-least, ends-apart, RoundingsWithin, roundings-from-one, roundings-from-two}
 
@@ -25,37 +25,32 @@ unfoldable pub shownWidth : ℕ
 shownWidth = 10 ^ 8
 
 module _ (A p q : ℕ) (from : 1 ≤ A) (to : A ≤ 65536) (e : Exponent p q) where
-  parts : Splits A (firstFactor A) (secondFactor A) (splitRest A)
+  abbrev n : ℕ
+  n = firstFactor A
+
+  abbrev m : ℕ
+  m = secondFactor A
+
+  parts : Splits A n m (splitRest A)
   parts = split-is A from to
 
   -- (low/10^9)^q ≤ A^p
   pub power-low-≤ : powerLow A p q ^ q ≤ A ^ p * billion ^ q
   unfolding powerLow
   power-low-≤ =
-      let n = firstFactor A in
-      let m = secondFactor A in
-      let s = storedLow n p q in
-      let t = storedLow m p q in
-      let g = remainderLow (n * m) (splitRest A) p q in
-      power-low-remainder A (n * m) p q billion scale (floor s t billion) g (floor (floor s t billion) g scale) (lit< tt)
-      (power-low-product n m p q billion s t (floor s t billion) (lit< tt) (stored-low-stands n p q e) (stored-low-stands m p q e) (floor-le s t billion))
+      power-low-remainder A (n * m) p q billion scale _ _ _ (lit< tt)
+      (power-low-product n m p q billion _ _ _ (lit< tt) (stored-low-stands n p q e) (stored-low-stands m p q e) (floor-le _ _ billion))
       (rw (parts .is) at (remainder-low-stands (n * m) (splitRest A) p q (parts .rest) e))
-      (floor-le (floor s t billion) g scale)
+      (floor-le _ _ scale)
 
   -- A^p ≤ (high/10^9)^q
   pub power-high-≥ : A ^ p * billion ^ q ≤ powerHigh A p q ^ q
   unfolding powerHigh
   power-high-≥ =
-      let n = firstFactor A in
-      let m = secondFactor A in
-      let s = storedHigh n p q in
-      let t = storedHigh m p q in
-      let g = remainderHigh (n * m) (splitRest A) p q in
-      power-high-remainder A (n * m) p q billion scale (ceiling s t billion) g (ceiling (ceiling s t billion) g scale) (lit< tt)
-      (power-high-product n m p q billion s t (ceiling s t billion) (lit< tt) (stored-high-stands n p q e) (stored-high-stands m p q e)
-      (ceiling-ge s t billion (lit< tt)))
+      power-high-remainder A (n * m) p q billion scale _ _ _ (lit< tt)
+      (power-high-product n m p q billion _ _ _ (lit< tt) (stored-high-stands n p q e) (stored-high-stands m p q e) (ceiling-ge _ _ billion (lit< tt)))
       (rw (parts .is) at (remainder-high-stands (n * m) (splitRest A) p q (parts .rest) e))
-      (ceiling-ge (ceiling s t billion) g scale (lit< tt))
+      (ceiling-ge _ _ scale (lit< tt))
 
   pub power-in-order : powerLow A p q ≤ powerHigh A p q
   power-in-order = pow-le-cancel q (e .positive) (le-trans power-low-≤ power-high-≥)
@@ -80,12 +75,10 @@ module _ (A p q : ℕ) (from : 1 ≤ A) (to : A ≤ 65536) (e : Exponent p q) wh
     first-≤ : first ≤ powerLow A p q
 
   -- by how near the remainder's bounds are, and what the roundings add
-  ends : (c w : ℕ) → remainderHigh (firstFactor A * secondFactor A) (splitRest A) p q ≤ remainderLow (firstFactor A * secondFactor A) (splitRest A) p q + c
-      → RoundingsWithin billion w (storedLow (firstFactor A) p q) (storedLow (secondFactor A) p q) → Near (c + w)
+  ends : (c w : ℕ) → remainderHigh (n * m) (splitRest A) p q ≤ remainderLow (n * m) (splitRest A) p q + c
+      → RoundingsWithin billion w (storedLow n p q) (storedLow m p q) → Near (c + w)
   unfolding powerLow powerHigh
   ends c w near roundings =
-      let n = firstFactor A in
-      let m = secondFactor A in
       let s = storedLow n p q in
       let t = storedLow m p q in
       let u = floor s t billion in
@@ -96,14 +89,14 @@ module _ (A p q : ℕ) (from : 1 ≤ A) (to : A ≤ 65536) (e : Exponent p q) wh
       let f = floor-rounded u g scale (lit< tt) in
       let b = ceiling-rounded (s + 1) (t + 1) billion (lit< tt) in
       let apart = ends-apart billion scale s t u u' g g' (floor u g scale) (ceiling u' g' scale) c (lit< tt) a b near
-      (remainder-high-small (n * m) (splitRest A) p q (parts .rest) e) f (ceiling-rounded u' g' scale (lit< tt)) in
+      (remainder-high-near-one (n * m) (splitRest A) p q (parts .rest) e .to) f (ceiling-rounded u' g' scale (lit< tt)) in
       record {
         first = u;
         near = rw (stored-near n p q e, stored-near m p q e) (omega (arith, apart, roundings u a));
-        first-≤ = at-least u g scale (floor u g scale) (remainder-low-from-one (n * m) (splitRest A) p q (parts .rest) e) f;
+        first-≤ = at-least u g scale (floor u g scale) (remainder-low-near-one (n * m) (splitRest A) p q (parts .rest) e .from) f;
       }
 
-  roundings-any : RoundingsWithin billion 6021 (storedLow (firstFactor A) p q) (storedLow (secondFactor A) p q)
+  roundings-any : RoundingsWithin billion 6021 (storedLow n p q) (storedLow m p q)
   roundings-any =
       roundings-from-one billion _ _ (lit≤ tt) (stored-from-one _ p q e (parts .n-from)) (stored-from-one _ p q e (parts .m-from))
 
@@ -121,11 +114,11 @@ module _ (A p q : ℕ) (from : 1 ≤ A) (to : A ≤ 65536) (e : Exponent p q) wh
 
   module _ (from-fifth : q ≤ p * 5) (to-nine-tenths : 10 * p ≤ 9 * q) where
     -- a rest leaves n from 2 and m from 128 on: their powers are from 1.14 and 2.6 on
-    roundings-beside-rest : 0 < splitRest A → RoundingsWithin billion 2622 (storedLow (firstFactor A) p q) (storedLow (secondFactor A) p q)
+    roundings-beside-rest : 0 < splitRest A → RoundingsWithin billion 2622 (storedLow n p q) (storedLow m p q)
     roundings-beside-rest r =
-        let n = stored-from-root (firstFactor A) p q e (parts .n-from) 2 5 (114 * 10 ^ 7) (lit< tt) from-fifth (parts .n-from-two r) (lit≤ tt) in
-        let m = stored-from-root (secondFactor A) p q e (parts .m-from) 128 5 (260 * 10 ^ 7) (lit< tt) from-fifth (parts .m-from-128 r) (lit≤ tt) in
-        roundings-from-two billion _ _ (lit≤ tt) (mul-le-mul-left 100 n) (mul-le-mul-left 100 m)
+        let first = stored-from-root n p q e (parts .n-from) 2 5 (114 * 10 ^ 7) (lit< tt) from-fifth (parts .n-from-two r) (lit≤ tt) in
+        let second = stored-from-root m p q e (parts .m-from) 128 5 (260 * 10 ^ 7) (lit< tt) from-fifth (parts .m-from-128 r) (lit≤ tt) in
+        roundings-from-two billion _ _ (lit≤ tt) (mul-le-mul-left 100 first) (mul-le-mul-left 100 second)
 
     narrow : (c : ℕ) → c ≤ 10000 → Near c → RelativeWidth shownWidth 1 (powerBracket A p q)
     unfolding shownWidth powerBracket

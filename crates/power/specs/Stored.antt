@@ -9,6 +9,7 @@ use Rattle.estimate.specs.WholePower.{mul-pow, pow-mul, pow-le-cancel}
 use Rattle.estimate.specs.Power.{powerLargest, power-largest-is}
 use Rattle.estimate.specs.PowerLaws.{above-power}
 use Rattle.remainder.specs.Remainder.{Exponent}
+use Rattle.remainder.specs.declared.Bounds.{Bounds}
 use Rattle.power.specs.Exponents.{exponentAt}
 
 -- the bounds' denominator
@@ -22,6 +23,10 @@ storedLow k p q = powerLargest 9 k p q
 -- and the over-estimate
 unfoldable pub storedHigh : (k p q : ℕ) → ℕ
 storedHigh k p q = powerLargest 9 k p q + 1
+
+-- both
+abbrev pub storedBounds : (k p q : ℕ) → Bounds
+storedBounds k p q = record { low = storedLow k p q; high = storedHigh k p q }
 
 -- where the table has the bounds of k at the exponent of a place: the lower here, the upper next to it
 abbrev pub entry : (e k : ℕ) → ℕ
@@ -58,6 +63,10 @@ module _ (k p q : ℕ) (e : Exponent p q) where
   unfolding storedLow storedHigh
   stored-near = refl
 
+  -- at most c, where k^p is at most c^q
+  pub stored-below : (c : ℕ) → k ^ p ≤ c ^ q → storedLow k p q ≤ c * billion
+  stored-below c h = pow-le-cancel q (e .positive) (le-trans stored-low-stands (rw (mul-pow c billion q) (mul-le-mul-right (billion ^ q) h)))
+
   module _ (h : 1 ≤ k) where
     pub stored-from-one : billion ≤ storedLow k p q
     unfolding storedLow
@@ -68,9 +77,3 @@ module _ (k p q : ℕ) (e : Exponent p q) where
     unfolding storedLow
     stored-from-root b c w hc part hb hw =
         power-largest-is 9 k p q (e .positive) .most w (root-below-power k p q c w billion h hc part (le-trans hw (mul-le-mul-right (billion ^ c) hb)))
-
-    -- at most k itself
-    pub stored-small : storedLow k p q ≤ k * billion
-    stored-small =
-        pow-le-cancel q (e .positive)
-        (le-trans stored-low-stands (rw (mul-pow k billion q) (mul-le-mul-right (billion ^ q) (pow-le-pow-right h (e .at-most-one)))))

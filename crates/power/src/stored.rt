@@ -1,8 +1,10 @@
 // Stored bounds of the powers of 1 to 256 at five exponents, in billionths: made once, and lent to the calls that read them.
 ghost use mathlib.Core.Path.{_≡_};
-ghost use Prim.Native.Nat.{_*_, _≤_, _<_};
+ghost use Prim.Native.Nat.{_≤_, _<_};
 ghost use Rattle.power.specs.Exponents.{exponentAt, placeOf};
-ghost use Rattle.power.specs.Stored.{StoredPowers, billion, storedLow, storedHigh};
+ghost use Rattle.power.specs.Stored.{StoredPowers, storedBounds};
+ghost use Rattle.power.specs.Ends.{mostStored};
+use remainder::Bounds;
 
 // The exponents, in hundredths.
 const HUNDREDTHS: [u64; 5] = [79, 49, 60, 61, 20];
@@ -2601,22 +2603,15 @@ pub fn exponent_place(num: u64) -> u64
     e
 }
 
-// The lower bound of k to the exponent at a place.
-pub fn stored_low(stored: &[u64; 2560], exponent: u64, k: u64) -> u64
+// The bounds of k to the exponent at a place.
+pub fn stored_bounds(stored: &[u64; 2560], exponent: u64, k: u64) -> Bounds
     requires { ⌜ StoredPowers (now stored) × (exponent < 5) × (1 ≤ k) × (k ≤ 256) ⌝ }
-    ensures { λ r. ⌜ r ≡ storedLow k (exponentAt exponent) 100 ⌝ }
-    ensures small { λ r. ⌜ r ≤ 257 * billion ⌝ }
+    ensures { λ r. ⌜ r ≡ storedBounds k (exponentAt exponent) 100 ⌝ }
+    ensures small { λ r. ⌜ (r .low ≤ mostStored) × (r .high ≤ mostStored) ⌝ }
 {
     let i = (2 * (exponent * 256 + (k - 1))) as usize;
-    stored[i]
-}
-
-// The upper bound.
-pub fn stored_high(stored: &[u64; 2560], exponent: u64, k: u64) -> u64
-    requires { ⌜ StoredPowers (now stored) × (exponent < 5) × (1 ≤ k) × (k ≤ 256) ⌝ }
-    ensures { λ r. ⌜ r ≡ storedHigh k (exponentAt exponent) 100 ⌝ }
-    ensures small { λ r. ⌜ r ≤ 257 * billion ⌝ }
-{
-    let i = (2 * (exponent * 256 + (k - 1)) + 1) as usize;
-    stored[i]
+    Bounds {
+        low: stored[i],
+        high: stored[i + 1],
+    }
 }

@@ -1,11 +1,11 @@
 -- The bounds of e^x for an x up to 0.004: the sums of their rounded terms, over any scale R where that is possible.
-use Prim.Native.Nat.{ℕ, _+_, _*_, _^_, _≤_, _<_}
+use Prim.Native.Nat.{ℕ, _+_, _*_, _≤_, _<_}
 use native.Mathlib.Nat.{mul-le-mul, mul-le-mul-left, mul-le-mul-right}
 use native.Mathlib.Omega.{arith}
 use lib.Dec.{lit<, lit≤}
 use Rattle.estimate.specs.Exponential.{termNum, termDen, sumNum, term-den-positive}
-use Rattle.laws.specs.Quotient.{quotientDown, quotientUp, RoundedDown, RoundedUp, rounded-down, quotient-up, at-most, product-down-≤, product-up-≤}
-use Rattle.remainder.specs.Remainder.{scale, exponentialLow, exponentialHigh}
+use Rattle.laws.specs.Quotient.{quotientDown, quotientUp, RoundedDown, rounded-down, down-near, quotient-up, at-most, product-≤}
+use Rattle.remainder.specs.Remainder.{scale, exponentialLow, exponentialHigh, NearOne}
 
 -- THE LOW SUM
 
@@ -42,29 +42,20 @@ high-sum-near R x square cube fourth s t a b =
       mul-le-mul-left (R * R * R) t,
     )
 
--- HOW LARGE THE TERMS ARE
+-- HOW LARGE THE TERMS ARE, rounded either way
 
 module _ {x : ℕ} (h : x ≤ 4000000000) where
   pub square-fits : x * x ≤ 4000000000 * 4000000000
   square-fits = mul-le-mul h h
 
-  module _ {square : ℕ} (f : RoundedDown (x * x) (2 * scale) square) where
-    pub square-down-small : square ≤ 8000000
-    square-down-small = product-down-≤ h h f (lit< tt)
+  pub square-small : {square : ℕ} → square * (2 * scale) < x * x + 2 * scale → square ≤ 8000001
+  square-small near = product-≤ (2 * scale) h h near (lit≤ tt)
 
-    pub cube-down-small : {cube : ℕ} → RoundedDown (square * x) (3 * scale) cube → cube ≤ 10667
-    cube-down-small k = product-down-≤ square-down-small h k (lit< tt)
+  pub cube-small : {square cube : ℕ} → square ≤ 8000001 → cube * (3 * scale) < square * x + 3 * scale → cube ≤ 10668
+  cube-small s near = product-≤ (3 * scale) s h near (lit≤ tt)
 
-  module _ {square : ℕ} (f : RoundedUp (x * x) (2 * scale) square) where
-    pub square-up-small : square ≤ 8000001
-    square-up-small = product-up-≤ h h f (lit≤ tt)
-
-    module _ {cube : ℕ} (g : RoundedUp (square * x) (3 * scale) cube) where
-      pub cube-up-small : cube ≤ 10668
-      cube-up-small = product-up-≤ square-up-small h g (lit≤ tt)
-
-      pub fourth-small : {fourth : ℕ} → RoundedUp (cube * x) (4 * scale) fourth → fourth ≤ 13
-      fourth-small k = product-up-≤ cube-up-small h k (lit≤ tt)
+  pub fourth-small : {cube fourth : ℕ} → cube ≤ 10668 → fourth * (4 * scale) < cube * x + 4 * scale → fourth ≤ 13
+  fourth-small s near = product-≤ (4 * scale) s h near (lit≤ tt)
 
 -- a term up to the numeral t, times x
 pub term-fits : {x u t : ℕ} → x ≤ 4000000000 → u ≤ t → u * x ≤ t * 4000000000
@@ -75,13 +66,12 @@ term-fits h k = mul-le-mul k h
 pub record ExponentialLow (x w : ℕ) : Type 0 where
   pub stands : w * termDen scale 3 ≤ sumNum x scale 3 * scale
   pub near : sumNum x scale 3 * scale ≤ (w + 3) * termDen scale 3
-  pub from-one : scale ≤ w
-  pub small : w ≤ 1005 * 10 ^ 9
+  pub near-one : NearOne w
 
 pub record ExponentialHigh (x w : ℕ) : Type 0 where
   pub stands : (sumNum x scale 3 * (scale * 4) + 2 * termNum x 4) * scale ≤ w * termDen scale 4
   pub near : w * termDen scale 3 ≤ sumNum x scale 3 * scale + 30 * termDen scale 3
-  pub small : w ≤ 1005 * 10 ^ 9
+  pub near-one : NearOne w
 
 pub exponential-low-is : (x : ℕ) → x ≤ 4000000000 → ExponentialLow x (exponentialLow x)
 unfolding exponentialLow
@@ -90,11 +80,12 @@ exponential-low-is x h =
     let cube = quotientDown (square * x) (3 * scale) in
     let f : RoundedDown (x * x) (2 * scale) square = rounded-down (x * x) (2 * scale) (lit< tt) in
     let g : RoundedDown (square * x) (3 * scale) cube = rounded-down (square * x) (3 * scale) (lit< tt) in
+    let square-≤ = square-small h (down-near (x * x) (2 * scale) (lit< tt)) in
+    let cube-≤ = cube-small h square-≤ (down-near (square * x) (3 * scale) (lit< tt)) in
     record {
       stands = low-sum-stands scale x square cube (f .below) (g .below);
       near = low-sum-near scale x square cube (omega arith) (omega (arith, f .near)) (omega (arith, g .near));
-      from-one = omega arith;
-      small = omega (arith, square-down-small h f, cube-down-small h f g);
+      near-one = record { from = omega arith; to = omega (arith, square-≤, cube-≤) };
     }
 
 pub exponential-high-is : (x : ℕ) → x ≤ 4000000000 → ExponentialHigh x (exponentialHigh x)
@@ -106,10 +97,13 @@ exponential-high-is x h =
     let f = quotient-up (x * x) (2 * scale) (lit< tt) in
     let g = quotient-up (square * x) (3 * scale) (lit< tt) in
     let k = quotient-up (cube * x) (4 * scale) (lit< tt) in
+    let square-≤ = square-small h (f .near) in
+    let cube-≤ = cube-small h square-≤ (g .near) in
+    let fourth-≤ = fourth-small h cube-≤ (k .near) in
     record {
       stands = high-sum-stands scale x square cube fourth (f .above) (g .above) (k .above);
-      near = high-sum-near scale x square cube fourth (omega arith) (fourth-small h f g k) (omega (arith, f .near)) (omega (arith, g .near));
-      small = omega (arith, square-up-small h f, cube-up-small h f g, fourth-small h f g k);
+      near = high-sum-near scale x square cube fourth (omega arith) fourth-≤ (omega (arith, f .near)) (omega (arith, g .near));
+      near-one = record { from = omega arith; to = omega (arith, square-≤, cube-≤, fourth-≤) };
     }
 
 -- TWO CLOSE ARGUMENTS HAVE CLOSE SUMS

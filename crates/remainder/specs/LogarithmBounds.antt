@@ -8,8 +8,8 @@ use Rattle.estimate.specs.Fraction.{_≤ᶠ_, fraction, decimal}
 use Rattle.estimate.specs.FractionLaws.{≤ᶠ-refl}
 use Rattle.estimate.specs.ExponentialBounds.{AtMostExp, AtLeastExp, at-most-weaker, at-least-weaker}
 use Rattle.estimate.specs.Remainder.{ratio, twiceZ, twiceZAndCube, ratio-at-least, ratio-at-most}
-use Rattle.laws.specs.Quotient.{quotientUp, RoundedDown, RoundedUp, rounded-down, quotient-up, quotient-up-zero, half-up, at-most, product-up-≤}
-use Rattle.remainder.specs.Remainder.{SmallRest, scale, logLow, logHigh, withCube}
+use Rattle.laws.specs.Quotient.{quotientUp, RoundedDown, RoundedUp, rounded-down, quotient-up, quotient-up-zero, half-up, at-most, product-≤}
+use Rattle.remainder.specs.Remainder.{SmallRest, mostLog, scale, logLow, logHigh, withCube}
 
 module _ (N r : ℕ) (s : SmallRest N r) where
   log-low-rounded : RoundedDown (2 * r * scale) (2 * N + r) (logLow N r)
@@ -20,8 +20,8 @@ module _ (N r : ℕ) (s : SmallRest N r) where
   pub log-low-stands : logLow N r * (2 * N + r) ≤ 2 * r * scale
   log-low-stands = log-low-rounded .below
 
-  pub log-low-small : logLow N r ≤ 3914000000
-  log-low-small = at-most (logLow N r) (2 * N + r) 3914000000 (omega (arith, log-low-stands))
+  pub log-low-small : logLow N r ≤ mostLog
+  log-low-small = at-most (logLow N r) (2 * N + r) mostLog (omega (arith, log-low-stands))
 
 -- THE ROUNDINGS ON THE WAY TO THE HIGH BOUND: z, z^2 and z^3
 
@@ -34,13 +34,13 @@ module _ {z : ℕ} (h : z ≤ 1957000000) where
 
   module _ {square : ℕ} (g : RoundedUp (z * z) scale square) where
     square-small : square ≤ 3830000
-    square-small = product-up-≤ h h g (lit≤ tt)
+    square-small = product-≤ scale h h (g .near) (lit≤ tt)
 
     pub cube-fits : square * z ≤ 3830000 * 1957000000
     cube-fits = mul-le-mul square-small h
 
     pub cube-small : {cube : ℕ} → RoundedUp (square * z) scale cube → cube ≤ 7499
-    cube-small k = product-up-≤ square-small h k (lit≤ tt)
+    cube-small k = product-≤ scale square-small h (k .near) (lit≤ tt)
 
 pub log-high-with-cube : (N r : ℕ) → SmallRest N r → logHigh N r ≡ withCube (quotientUp (2 * r * scale) (2 * N + r))
 unfolding logHigh withCube
@@ -69,7 +69,7 @@ record LogHigh (N r y : ℕ) : Type 0 where
   stands : r * (2 * ((2 * N + r) * (2 * N + r)) + r * r) * scale ≤ y * ((2 * N + r) * ((2 * N + r) * (2 * N + r)))
   above : 2 * r * scale ≤ y * (2 * N + r)
   near : y * (2 * N + r) ≤ 2 * r * scale + 7500 * (2 * N + r)
-  small : y ≤ 3914000000
+  small : y ≤ mostLog
 
 module _ (N r : ℕ) (s : SmallRest N r) where
   log-high-by : {z square cube y : ℕ} → RoundedUp (r * scale) (2 * N + r) z → RoundedUp (z * z) scale square → RoundedUp (square * z) scale cube
@@ -93,7 +93,7 @@ module _ (N r : ℕ) (s : SmallRest N r) where
   pub log-high-stands : r * (2 * ((2 * N + r) * (2 * N + r)) + r * r) * scale ≤ logHigh N r * ((2 * N + r) * ((2 * N + r) * (2 * N + r)))
   log-high-stands = log-high-is .stands
 
-  pub log-high-small : logHigh N r ≤ 3914000000
+  pub log-high-small : logHigh N r ≤ mostLog
   log-high-small = log-high-is .small
 
   pub log-in-order : logLow N r ≤ logHigh N r

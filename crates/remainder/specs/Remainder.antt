@@ -2,7 +2,7 @@
 -- and e^x is between 1 + x + x^2/2 + x^3/6 and that + 2x^4/24.
 use Prim.Native.Nat.{ℕ, _+_, _*_, _^_, _≤_, _<_}
 use Rattle.laws.specs.Quotient.{quotientDown, quotientUp}
-use Rattle.remainder.specs.declared.LogBounds.{LogBounds}
+use Rattle.remainder.specs.declared.Bounds.{Bounds}
 
 -- a rest r that is small beside N, so that z is at most 1/511
 pub record SmallRest (N r : ℕ) : Type 0 where
@@ -18,6 +18,10 @@ pub record Exponent (p q : ℕ) : Type 0 where
 -- the largest denominator for which the calls' products fit 64 bits
 abbrev pub mostDenominator : ℕ
 mostDenominator = 1000
+
+-- no logarithm of (N+r)/N is above 0.003914
+abbrev pub mostLog : ℕ
+mostLog = 3914000000
 
 -- the bounds' denominator
 abbrev pub scale : ℕ
@@ -39,7 +43,8 @@ withCube twice =
     let z = quotientUp twice 2 in
     twice + quotientUp (quotientUp (z * z) scale * z) scale
 
-abbrev pub logBoundsOf : (N r : ℕ) → LogBounds
+-- both
+abbrev pub logBoundsOf : (N r : ℕ) → Bounds
 logBoundsOf N r = record { low = logLow N r; high = logHigh N r }
 
 -- 1 + x + x^2/2 + x^3/6, each term rounded down
@@ -62,3 +67,12 @@ remainderLow N r p q = exponentialLow (quotientDown (logLow N r * p) q)
 -- and at the high one
 unfoldable pub remainderHigh : (N r p q : ℕ) → ℕ
 remainderHigh N r p q = exponentialHigh (quotientUp (logHigh N r * p) q)
+
+-- both
+abbrev pub remainderBoundsOf : (N r p q : ℕ) → Bounds
+remainderBoundsOf N r p q = record { low = remainderLow N r p q; high = remainderHigh N r p q }
+
+-- from 1 to 1.005, as a bound of what a small rest adds to a power is
+pub record NearOne (w : ℕ) : Type 0 where
+  pub from : scale ≤ w
+  pub to : w ≤ 1005 * 10 ^ 9

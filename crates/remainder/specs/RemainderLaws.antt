@@ -1,29 +1,27 @@
 -- The bounds of ((N+r)/N)^(p/q), for every exponent p/q up to 1: that they are bounds, how near they are and how large.
 use Prim.Native.Nat.{ℕ, _+_, _*_, _^_, _≤_, _<_}
 use mathlib.Core.Path.{_≡_}
-use native.Mathlib.Nat.{mul-le-mul, mul-le-mul-left, mul-le-mul-right, le-of-mul-le-mul-right}
+use native.Mathlib.Nat.{mul-le-mul, mul-le-mul-left, mul-le-mul-right}
 use native.Mathlib.Omega.{arith}
 use lib.Dec.{lit<, lit≤}
 use Rattle.estimate.specs.Remainder.{ratio-power-low-whole, ratio-power-high-whole}
-use Rattle.laws.specs.Quotient.{quotientDown, quotientUp, RoundedDown, RoundedUp, rounded-down, quotient-up, at-most}
-use Rattle.remainder.specs.Remainder.{SmallRest, Exponent, mostDenominator, scale, logLow, logHigh, remainderLow, remainderHigh}
+use Rattle.laws.specs.Quotient.{quotientDown, quotientUp, RoundedDown, RoundedUp, rounded-down, down-near, quotient-up, at-most}
+use Rattle.remainder.specs.Remainder.{SmallRest, Exponent, mostDenominator, mostLog, scale, logLow, logHigh, remainderLow, remainderHigh, NearOne}
 use Rattle.remainder.specs.LogarithmBounds.{log-low-stands, log-low-small, log-high-stands, log-high-small, log-near, log-near-whole}
 use Rattle.remainder.specs.ExponentialBounds.{ExponentialLow, ExponentialHigh, exponential-low-is, exponential-high-is, exponentials-near}
 
 -- A NUMBER TIMES p/q
 
 module _ {p q : ℕ} (e : Exponent p q) where
-  part-down-≤ : {y x : ℕ} → RoundedDown (y * p) q x → x ≤ y
-  part-down-≤ {y} {x} f = le-of-mul-le-mul-right {k = q} (omega (arith, f .below, mul-le-mul-left y (e .at-most-one))) (e .positive)
-
-  part-up-≤ : {y x : ℕ} → RoundedUp (y * p) q x → x ≤ y
-  part-up-≤ {y} {x} f = at-most x q y (omega (arith, f .near, mul-le-mul-left y (e .at-most-one)))
+  -- rounded either way
+  pub part-small : {y x : ℕ} → y ≤ mostLog → x * q < y * p + q → x ≤ 4000000000
+  part-small {y} {x} h near = let x-≤ = at-most x q y (omega (arith, near, mul-le-mul-left y (e .at-most-one))) in omega arith
 
   parts-near : (y y' c d : ℕ) {x x' : ℕ} → y' ≤ y + c → c * p + q ≤ d * q → RoundedDown (y * p) q x → RoundedUp (y' * p) q x' → x' ≤ x + d
   parts-near y y' c d {x} {x'} h k f g = at-most x' q (x + d) (omega (arith, f .near, g .near, mul-le-mul-right p h))
 
   -- where the denominator is small, the product before the division fits
-  pub part-fits : {y : ℕ} → q ≤ mostDenominator → y ≤ 3914000000 → y * p ≤ 3914000000 * mostDenominator
+  pub part-fits : {y : ℕ} → q ≤ mostDenominator → y ≤ mostLog → y * p ≤ mostLog * mostDenominator
   part-fits few h = mul-le-mul {m₂ = mostDenominator} h (omega arith)
 
 module _ (N r p q : ℕ) (s : SmallRest N r) (e : Exponent p q) where
@@ -33,11 +31,11 @@ module _ (N r p q : ℕ) (s : SmallRest N r) (e : Exponent p q) where
   high-part : RoundedUp (logHigh N r * p) q (quotientUp (logHigh N r * p) q)
   high-part = quotient-up (logHigh N r * p) q (e .positive)
 
-  pub low-part-small : quotientDown (logLow N r * p) q ≤ 4000000000
-  low-part-small = omega (arith, part-down-≤ e low-part, log-low-small N r s)
+  low-part-small : quotientDown (logLow N r * p) q ≤ 4000000000
+  low-part-small = part-small e (log-low-small N r s) (down-near (logLow N r * p) q (e .positive))
 
-  pub high-part-small : quotientUp (logHigh N r * p) q ≤ 4000000000
-  high-part-small = omega (arith, part-up-≤ e high-part, log-high-small N r s)
+  high-part-small : quotientUp (logHigh N r * p) q ≤ 4000000000
+  high-part-small = part-small e (log-high-small N r s) (high-part .near)
 
   low-is : ExponentialLow (quotientDown (logLow N r * p) q) (remainderLow N r p q)
   unfolding remainderLow
@@ -75,12 +73,8 @@ module _ (N r p q : ℕ) (s : SmallRest N r) (e : Exponent p q) where
   pub remainder-near-whole : r ≡ 0 → remainderHigh N r p q ≤ remainderLow N r p q + 82
   remainder-near-whole h = remainder-near-by 0 1 (log-near-whole N r s h) (omega arith) (lit≤ tt)
 
-  -- from 1 to 1.005
-  pub remainder-low-from-one : scale ≤ remainderLow N r p q
-  remainder-low-from-one = low-is .from-one
+  pub remainder-low-near-one : NearOne (remainderLow N r p q)
+  remainder-low-near-one = low-is .near-one
 
-  pub remainder-low-small : remainderLow N r p q ≤ 1005 * 10 ^ 9
-  remainder-low-small = low-is .small
-
-  pub remainder-high-small : remainderHigh N r p q ≤ 1005 * 10 ^ 9
-  remainder-high-small = high-is .small
+  pub remainder-high-near-one : NearOne (remainderHigh N r p q)
+  remainder-high-near-one = high-is .near-one

@@ -1,11 +1,11 @@
 // A number up to 65536 as a product of two up to 256 and a small rest, and bounds of what the rest adds to its logarithm
-// and to its powers. Bounds are whole numbers over 10^12.
+// and to its powers, in whole numbers over 10^12.
 ghost use mathlib.Core.Path.{_≡_};
 ghost use Prim.Native.Nat.{_+_, _*_, _^_, _≤_, _<_};
 ghost use Rattle.laws.specs.Quotient.{quotientDown, quotientUp, RoundedUp};
 ghost use Rattle.remainder.specs.Split.{splitOf, Splits};
-ghost use Rattle.remainder.specs.Remainder.{SmallRest, Exponent, mostDenominator, withCube};
-ghost use Rattle.remainder.specs.Remainder.{logLow, logBoundsOf, exponentialLow, exponentialHigh, remainderLow, remainderHigh};
+ghost use Rattle.remainder.specs.Remainder.{SmallRest, Exponent, NearOne, mostDenominator, mostLog, withCube};
+ghost use Rattle.remainder.specs.Remainder.{logBoundsOf, exponentialLow, exponentialHigh, remainderBoundsOf};
 
 // The bounds' denominator.
 pub const SCALE: u64 = 1_000_000_000_000;
@@ -17,8 +17,8 @@ pub struct Parts {
     pub r: u64,
 }
 
-// Two numbers between which a logarithm is.
-pub struct LogBounds {
+// Two numbers between which a value is.
+pub struct Bounds {
     pub low: u64,
     pub high: u64,
 }
@@ -55,15 +55,6 @@ pub fn split(a: u64) -> Parts
     Parts { n, m, r: a % n }
 }
 
-// A number below ln((product + rest) / product).
-fn log_low(product: u64, rest: u64) -> u64
-    requires { ⌜ SmallRest product rest ⌝ }
-    ensures { λ y. ⌜ y ≡ logLow product rest ⌝ }
-    ensures small { λ y. ⌜ y ≤ 3914000000 ⌝ }
-{
-    2 * rest * SCALE / (2 * product + rest)
-}
-
 // 2z + z^3, from 2z.
 fn with_cube(twice: u64) -> u64
     requires { ⌜ twice ≤ 3913900000 ⌝ }
@@ -75,15 +66,17 @@ fn with_cube(twice: u64) -> u64
     twice + cube
 }
 
-// The same and a number above, from one division.
-pub fn log_bounds(product: u64, rest: u64) -> LogBounds
+// Bounds of ln((product + rest) / product), from one division.
+pub fn log_bounds(product: u64, rest: u64) -> Bounds
     requires { ⌜ SmallRest product rest ⌝ }
     ensures { λ y. ⌜ y ≡ logBoundsOf product rest ⌝ }
-    ensures small { λ y. ⌜ (y .low ≤ 3914000000) × (y .high ≤ 3914000000) ⌝ }
+    ensures small { λ y. ⌜ (y .low ≤ mostLog) × (y .high ≤ mostLog) ⌝ }
 {
-    let low = log_low(product, rest);
-    let twice = up_from(2 * rest * SCALE, 2 * product + rest, low);
-    LogBounds {
+    let dividend = 2 * rest * SCALE;
+    let divisor = 2 * product + rest;
+    let low = dividend / divisor;
+    let twice = up_from(dividend, divisor, low);
+    Bounds {
         low,
         high: with_cube(twice),
     }
@@ -110,21 +103,33 @@ fn exponential_high(x: u64) -> u64
     SCALE + x + square + cube + 2 * fourth
 }
 
-// A number below ((product + rest) / product)^(num / den).
-pub fn remainder_low(product: u64, rest: u64, num: u64, den: u64) -> u64
-    requires { ⌜ SmallRest product rest × Exponent num den × (den ≤ mostDenominator) ⌝ }
-    ensures { λ w. ⌜ w ≡ remainderLow product rest num den ⌝ }
-    ensures small { λ w. ⌜ w ≤ 1005 * 10 ^ 9 ⌝ }
+// A number below e^(log * num / den).
+pub fn raised_low(log: u64, num: u64, den: u64) -> u64
+    requires { ⌜ (log ≤ mostLog) × Exponent num den × (den ≤ mostDenominator) ⌝ }
+    ensures { λ w. ⌜ w ≡ exponentialLow (quotientDown (log * num) den) ⌝ }
+    ensures near_one { λ w. ⌜ NearOne w ⌝ }
 {
-    exponential_low(log_low(product, rest) * num / den)
+    exponential_low(log * num / den)
 }
 
-// A number above ((product + rest) / product)^(num / den).
-pub fn remainder_high(product: u64, rest: u64, num: u64, den: u64) -> u64
+// A number above it.
+pub fn raised_high(log: u64, num: u64, den: u64) -> u64
+    requires { ⌜ (log ≤ mostLog) × Exponent num den × (den ≤ mostDenominator) ⌝ }
+    ensures { λ w. ⌜ w ≡ exponentialHigh (quotientUp (log * num) den) ⌝ }
+    ensures near_one { λ w. ⌜ NearOne w ⌝ }
+{
+    exponential_high(up(log * num, den))
+}
+
+// Bounds of ((product + rest) / product)^(num / den), from those of the logarithm.
+pub fn remainder_bounds(product: u64, rest: u64, num: u64, den: u64) -> Bounds
     requires { ⌜ SmallRest product rest × Exponent num den × (den ≤ mostDenominator) ⌝ }
-    ensures { λ w. ⌜ w ≡ remainderHigh product rest num den ⌝ }
-    ensures small { λ w. ⌜ w ≤ 1005 * 10 ^ 9 ⌝ }
+    ensures { λ w. ⌜ w ≡ remainderBoundsOf product rest num den ⌝ }
+    ensures near_one { λ w. ⌜ NearOne (w .low) × NearOne (w .high) ⌝ }
 {
     let log = log_bounds(product, rest);
-    exponential_high(up(log.high * num, den))
+    Bounds {
+        low: raised_low(log.low, num, den),
+        high: raised_high(log.high, num, den),
+    }
 }

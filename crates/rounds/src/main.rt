@@ -1,13 +1,15 @@
-// Rounds with the stored numbers lent, for the benchmark. Standard input is five two-byte numbers, high byte first, and the
-// records of a project's sites. The numbers ask for so many rounds: of powers, of logarithms and of exponentials at every argument,
-// of lines, each with its record read, and of records that are only read. Prints a sum over all ends of the brackets, and one over
-// all numbers of the lines and the kinds of what was only read, so that none is left out.
+// Rounds with the stored numbers lent, for the benchmark. Standard input is six two-byte numbers, high byte first, and the
+// records of a project's sites. The numbers ask for so many rounds: of powers, of powers whose ends are found one by one, of
+// logarithms and of exponentials at every argument, of lines, each with its record read, and of records that are only read. Prints
+// a sum over all ends of the brackets, and one over all numbers of the lines and the kinds of what was only read, so that none is
+// left out.
 ghost use Prim.Native.Nat.{_≤_, _<_};
 ghost use lib.ListN.{length};
 ghost use Rattle.exponential.specs.Stored.{StoredExponentials};
 ghost use Rattle.logarithm.specs.Stored.{StoredLogarithms};
 ghost use Rattle.power.specs.Stored.{StoredPowers};
 ghost use Rattle.site.specs.Writing.{Valid};
+use bracket::Bracket;
 use exponential::exponential_with;
 use exponential::stored::stored_exponentials;
 use header::Header;
@@ -19,6 +21,7 @@ use logarithm::logarithm_with;
 use logarithm::stored::stored_logarithms;
 use power::power_with;
 use power::stored::stored_powers;
+use power_by_ends::power_by_ends_with;
 use site::rules::LONGEST_RECORD;
 use site::values::Site;
 use site::values::SiteAnswer;
@@ -35,7 +38,7 @@ const SEGMENTS: u64 = 1100;
 const CROSSINGS: u64 = 900;
 
 // The bytes before the records.
-const HEAD: usize = 10;
+const HEAD: usize = 12;
 
 // With the longest records of the most sites.
 const INPUT_ROOM: usize = HEAD + MOST_SITES * LONGEST_RECORD;
@@ -45,26 +48,37 @@ fn added(sum: u64, low: u64, high: u64) -> u64 {
     sum % MODULUS + low % MODULUS + high % MODULUS
 }
 
+// A power by one walk, or with each end by a walk of its own.
+fn power_by(stored: &[u64; 2560], base: u64, exponent: u64, by_ends: bool) -> Bracket
+    requires { ⌜ StoredPowers (now stored) × (1 ≤ base) × (base ≤ 20000) × (exponent < 5) ⌝ }
+{
+    if by_ends {
+        power_by_ends_with(stored, base, exponent)
+    } else {
+        power_with(stored, base, exponent)
+    }
+}
+
 // Every base at the exponent of a place.
-fn powers_at(stored: &[u64; 2560], exponent: u64, start: u64) -> u64
+fn powers_at(stored: &[u64; 2560], exponent: u64, by_ends: bool, start: u64) -> u64
     requires { ⌜ StoredPowers (now stored) × (exponent < 5) ⌝ }
 {
     let mut sum = start;
     for base in 1..20001 {
-        let b = power_with(stored, base, exponent);
+        let b = power_by(stored, base, exponent, by_ends);
         sum = added(sum, b.low_num, b.high_num);
     }
     sum
 }
 
-fn powers(stored: &[u64; 2560], start: u64) -> u64
+fn powers(stored: &[u64; 2560], by_ends: bool, start: u64) -> u64
     requires { ⌜ StoredPowers (now stored) ⌝ }
 {
-    let first = powers_at(stored, 0, start);
-    let second = powers_at(stored, 1, first);
-    let third = powers_at(stored, 2, second);
-    let fourth = powers_at(stored, 3, third);
-    powers_at(stored, 4, fourth)
+    let first = powers_at(stored, 0, by_ends, start);
+    let second = powers_at(stored, 1, by_ends, first);
+    let third = powers_at(stored, 2, by_ends, second);
+    let fourth = powers_at(stored, 3, by_ends, third);
+    powers_at(stored, 4, by_ends, fourth)
 }
 
 fn logarithms(stored: &[u64; 256], start: u64) -> u64
@@ -139,7 +153,7 @@ fn records(
 
 // The rounds that a number of the input asks for.
 fn rounds(input: &[u8], job: usize, start: u64) -> u64
-    requires { ⌜ (job < 5) × (10 ≤ length (now input)) ⌝ }
+    requires { ⌜ (job < 6) × (12 ≤ length (now input)) ⌝ }
 {
     let stored_powers = stored_powers();
     let stored_logarithms = stored_logarithms();
@@ -147,14 +161,15 @@ fn rounds(input: &[u8], job: usize, start: u64) -> u64
     let mut sum = start;
     for _ in 0..word_at(input, 2 * job) {
         sum = match job {
-            0 => powers(&stored_powers, sum),
-            1 => logarithms(&stored_logarithms, sum),
-            2 => exponentials(&stored_exponentials, sum),
+            0 => powers(&stored_powers, false, sum),
+            1 => powers(&stored_powers, true, sum),
+            2 => logarithms(&stored_logarithms, sum),
+            3 => exponentials(&stored_exponentials, sum),
             _ => records(
                 &stored_powers,
                 &stored_logarithms,
                 &stored_exponentials,
-                job == 3,
+                job == 4,
                 &input[HEAD..],
                 sum,
             ),
@@ -172,8 +187,9 @@ fn print_sums(input: &[u8]) {
     if input.len() < HEAD {
         return;
     }
-    print_sum(rounds(input, 2, rounds(input, 1, rounds(input, 0, 0))));
-    print_sum(rounds(input, 4, rounds(input, 3, 0)));
+    let sum = rounds(input, 1, rounds(input, 0, 0));
+    print_sum(rounds(input, 3, rounds(input, 2, sum)));
+    print_sum(rounds(input, 5, rounds(input, 4, 0)));
 }
 
 fn main() {

@@ -1,12 +1,12 @@
 -- What rounded scaling keeps of a bracket, for all whole numbers: a lower bound, an upper bound, their order and their width.
 -- A value x is the fraction xn / xd, a factor f is fn / fd, and a bound b stands for the fraction b / U.
-use mathlib.Core.Path.{ap, _∙_}
+use mathlib.Core.Path.{_≡_, ap, _∙_}
 use Prim.Native.Nat.{ℕ, zero, _+_, _-_, _*_, _/_, _≤_, _<_}
 use native.Mathlib.Nat.{le-of-eq, mul-le-mul, mul-le-mul-left, mul-le-mul-right, div-mul-le-self, lt-div-mul-add}
 use native.Mathlib.Nat.{le-of-mul-le-mul-right, lt-of-mul-lt-mul-right, mul-pos, eq-zero-or-pos, div-zero}
 use native.Mathlib.Omega.{arith}
 use mathlib.Core.Logic.{⊎-elim}
-use Rattle.wide.specs.Scaling.{floor, ceiling}
+use Rattle.wide.specs.Scaling.{floor, ceiling, rounded}
 
 -- THE WIDTH. A bracket low .. high is at most a + (r / R) * high wide
 pub record Narrow (R a r low high : ℕ) : Type 0 where
@@ -19,14 +19,18 @@ floor-le a n d = div-mul-le-self (a * n) d
 pub floor-lt : (a n d : ℕ) → zero < d → a * n < floor a n d * d + d
 floor-lt a n d h = lt-div-mul-add h
 
-pub floor-near : (a n d : ℕ) → zero < d → floor a n d * d < a * n + d
-floor-near a n d h = omega (arith, floor-le a n d)
-
 pub ceiling-ge : (a n d : ℕ) → zero < d → a * n ≤ ceiling a n d * d
 ceiling-ge a n d h = omega (arith, lt-div-mul-add {a = a * n + (d - 1)} {b = d} h)
 
 pub ceiling-lt : (a n d : ℕ) → zero < d → ceiling a n d * d < a * n + d
 ceiling-lt a n d h = omega (arith, div-mul-le-self (a * n + (d - 1)) d)
+
+-- both by the number that says which
+pub rounded-is-floor : (a n d : ℕ) → rounded 0 a n d ≡ floor a n d
+rounded-is-floor a n d = ap (λ (x : ℕ). x / d) (omega arith)
+
+pub rounded-is-ceiling : (a n d : ℕ) → rounded 1 a n d ≡ ceiling a n d
+rounded-is-ceiling a n d = ap (λ (x : ℕ). x / d) (omega arith)
 
 -- a whole number on one side of a fraction is on that side of its roundings
 module _ (a n d t : ℕ) (h : zero < d) where

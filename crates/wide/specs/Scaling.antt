@@ -17,6 +17,10 @@ floor a n d = (a * n) / d
 abbrev pub ceiling : (a n d : ℕ) → ℕ
 ceiling a n d = (a * n + (d - 1)) / d
 
+-- the first where `up` is 0, the second where it is 1
+abbrev pub rounded : (up a n d : ℕ) → ℕ
+rounded up a n d = (a * n + up * (d - 1)) / d
+
 -- a quotient q by d: the value where d is not 0 and q fits 64 bits
 abbrev pub answered : (d q : ℕ) → Scaled
 answered d q = cond (ltb 0 d && ltb q (2 ^ 64)) (Value q) TooLarge

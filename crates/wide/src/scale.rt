@@ -1,6 +1,6 @@
 // a * n / d, rounded down and rounded up, with the product exact.
 ghost use mathlib.Core.Path.{_≡_};
-ghost use Prim.Native.Nat.{_+_, _*_, _/_, _^_, _<_};
+ghost use Prim.Native.Nat.{_+_, _*_, _/_, _%_, _^_, _<_};
 ghost use Rattle.wide.specs.Scaling.{floor, ceiling, answered, scaledDown, scaledUp, valueOf};
 use crate::division::quotient;
 use crate::word::plus;
@@ -46,6 +46,15 @@ pub fn scale_up(a: u64, n: u64, d: u64) -> Scaled
         return Scaled::TooLarge;
     }
     scale(a, n, d, d - 1)
+}
+
+// (a * n + more) / (part * other), rounded down, for a caller that has shown that it fits on the way. It is divided by `part` first,
+// a's multiple of `part` and what is left of a each by itself, so that no product has two words.
+pub fn scale_by_parts(a: u64, n: u64, more: u64, part: u64, other: u64) -> u64
+    requires { ⌜ (0 < part) × (0 < other) × (a % part * n + more < 2 ^ 64) × ((a * n + more) / part < 2 ^ 64) ⌝ }
+    ensures { λ r. ⌜ r ≡ (a * n + more) / (part * other) ⌝ }
+{
+    (a / part * n + (a % part * n + more) / part) / other
 }
 
 // The value of a scaling that fits.

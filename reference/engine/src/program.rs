@@ -1,13 +1,61 @@
-//! The engine's program `crash_report`, and the longest files and reports it is
-//! run on.
+//! The engine's programs `crash_report` and `rounds`, and the longest files and
+//! reports that the first is run on.
 
 use reference::lines;
 use reference::project::encode_header;
-use reference::record::write_site;
+use reference::record::{write_site, Site};
+use std::io::Write;
+use std::process::{Command, Stdio};
 
-/// The program, as `rt check` leaves it.
+/// The program `crash_report`, as `rt check` leaves it.
 pub const CRASH_REPORT: &str =
     concat!(env!("CARGO_MANIFEST_DIR"), "/../../target/bin/crash_report");
+
+/// The program `rounds`.
+const ROUNDS: &str = concat!(env!("CARGO_MANIFEST_DIR"), "/../../target/bin/rounds");
+
+/// What `rounds` makes rounds of, in the order of the counts that its input
+/// starts with.
+#[derive(Clone, Copy)]
+pub enum Job {
+    Powers,
+    PowersByEnds,
+    Logarithms,
+    Exponentials,
+    Lines,
+    Records,
+}
+
+pub const JOBS: usize = Job::Records as usize + 1;
+
+/// The input of `rounds`: the rounds of the jobs that are asked for, and the
+/// records.
+pub fn rounds_of(asked: &[(Job, u16)], sites: &[Site]) -> Vec<u8> {
+    let mut counts = [0; JOBS];
+    for (job, rounds) in asked {
+        counts[*job as usize] = *rounds;
+    }
+    let mut input: Vec<u8> = counts.into_iter().flat_map(u16::to_be_bytes).collect();
+    for site in sites {
+        input.extend(write_site(site, usize::MAX).expect("a site that the writer takes"));
+    }
+    input
+}
+
+/// What `rounds` prints for an input.
+pub fn rounds(input: &[u8]) -> String {
+    let mut child = Command::new(ROUNDS)
+        .stdin(Stdio::piped())
+        .stdout(Stdio::piped())
+        .spawn()
+        .expect("the program of rounds runs; `rt check` makes it");
+    let mut stdin = child.stdin.take().expect("a piped input");
+    stdin.write_all(input).expect("rounds are asked for");
+    drop(stdin);
+    let output = child.wait_with_output().expect("it ends");
+    assert!(output.status.success());
+    String::from_utf8(output.stdout).expect("text")
+}
 
 /// A header at its upper limits.
 const HEAD: &str = "edition 1

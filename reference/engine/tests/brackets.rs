@@ -1,7 +1,8 @@
 //! Every bracket the engine can be asked for, against the reference's own
 //! estimates.
 
-use engine::Bracket;
+use engine::program::{rounds, rounds_of, Job};
+use engine::{power_into, Bracket};
 use reference::estimates::{self, Estimates};
 use reference::rational::Rational;
 
@@ -45,6 +46,24 @@ fn every_base_at_every_exponent() {
                 assert!(right, "{base}^({exponent}/100) at depth {depth}");
             }
         }
+    }
+}
+
+/// The program `rounds` makes every power by one walk or with each end by a
+/// walk of its own, and prints a sum over the ends: that of the exported call.
+#[test]
+fn both_forms_of_a_power_have_the_ends_of_the_call() {
+    let mut sum: u64 = 0;
+    for exponent in EXPONENTS {
+        for base in 1..=LARGEST_BASE {
+            let mut ends = [0; 4];
+            assert_eq!(power_into(base, exponent, 100, &mut ends), engine::DONE);
+            sum += ends[0] + ends[2];
+        }
+    }
+    let printed = format!("{}\n0\n", sum % (1 << 32));
+    for form in [Job::Powers, Job::PowersByEnds] {
+        assert_eq!(rounds(&rounds_of(&[(form, 1)], &[])), printed);
     }
 }
 
@@ -101,9 +120,9 @@ fn arguments_out_of_range_have_no_bracket() {
 #[test]
 fn a_short_buffer_is_left_as_it_was() {
     let mut ends = [7; 3];
-    assert_eq!(engine::power_into(2, 60, 100, &mut ends), engine::TOO_SHORT);
+    assert_eq!(power_into(2, 60, 100, &mut ends), engine::TOO_SHORT);
     assert_eq!(ends, [7; 3]);
     let mut ends = [7; 5];
-    assert_eq!(engine::power_into(2, 60, 100, &mut ends), engine::DONE);
+    assert_eq!(power_into(2, 60, 100, &mut ends), engine::DONE);
     assert_eq!(ends[4], 7);
 }

@@ -2,6 +2,7 @@
 //! depths, on random and extreme sites, and its refusals.
 
 use engine::lines::{line, line_into};
+use engine::program::{Job, JOBS};
 use engine::sites::{numbers_of, read_into};
 use engine::{DONE, OUTSIDE_LIMITS, OUT_OF_RANGE, TOO_SHORT};
 use reference::checker::{site_line_faults, site_standing_faults, Wrong};
@@ -372,8 +373,9 @@ fn the_stored_sum_of_rounds_is_that_of_the_call() {
     let input = include_bytes!("../../../crates/rounds/stdin");
     let stored = include_str!("../../../crates/rounds/stdout");
     let word = |at: usize| u64::from(u16::from_be_bytes([input[at], input[at + 1]]));
-    let (making, reading) = (word(6), word(8));
-    let mut rest = &input[10..];
+    let asked = |job: Job| word(2 * job as usize);
+    let (making, reading) = (asked(Job::Lines), asked(Job::Records));
+    let mut rest = &input[2 * JOBS..];
     let mut sum: u64 = 0;
     let mut sites = 0;
     while !rest.is_empty() {

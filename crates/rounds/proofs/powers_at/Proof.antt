@@ -4,10 +4,10 @@ use Rattle.rounds.proofs.powers_at.Statement.{statement}
 use Rattle.rounds.proofs.powers_at.Tie as tie
 
 abbrev Inv-loop : tie.InvT-loop
-Inv-loop stored exponent start sum₀ base₀ sum base = 1 ≤ base
+Inv-loop stored exponent by-ends start sum₀ base₀ sum base = 1 ≤ base
 
 abbrev μ-loop : tie.MeasureT-loop
-μ-loop stored exponent start sum₀ base₀ sum base = 20001 - base
+μ-loop stored exponent by-ends start sum₀ base₀ sum base = 20001 - base
 
 pub powers-at-spec : {M : Type 1} → statement M
 powers-at-spec =

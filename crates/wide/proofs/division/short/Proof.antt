@@ -6,7 +6,8 @@ use native.Mathlib.Nat.{lt-trans, mod-lt}
 use native.Mathlib.Omega.{arith}
 use mir.Facts.{fits-shl, fits-cat}
 use lib.Pow.{pow-pos}
-use Rattle.wide.proofs.division.Laws.{by-parts, digit-lt, upper}
+use Rattle.wide.proofs.Words.{by-parts}
+use Rattle.wide.proofs.division.Laws.{digit-lt, upper}
 use Rattle.wide.proofs.division.short.Statement.{statement}
 use Rattle.wide.proofs.division.short.Tie as tie
 

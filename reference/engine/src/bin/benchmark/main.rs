@@ -6,51 +6,57 @@
 
 mod intervals;
 
+use engine::program::{rounds, rounds_of, Job};
 use engine::sites::run_of;
 use engine::{doubles, lines, projects};
 use intervals::{numbers_of_sites, Library, LIBRARIES};
 use reference::generate::{self, Random};
 use reference::project::{write_project, Header, Project, LONGEST_FILE};
-use reference::record::{write_site, Site};
+use reference::record::Site;
 use reference::rules::{EDITION, KIND_NAMES, MOST_SITES};
 use std::hint::black_box;
-use std::io::Write;
 use std::iter;
-use std::process::{Command, Stdio};
 use std::time::{Duration, Instant};
-
-const PROGRAM: &str = concat!(env!("CARGO_MANIFEST_DIR"), "/../../target/bin/rounds");
 
 /// Each figure is the least of so many measurements, of a program's run or of
 /// work in this one.
 const TRIES: usize = 40;
 const TRIES_HERE: usize = 60;
 
-/// A kind of bracket: the brackets in a round, and the rounds by which two runs
-/// differ.
+/// A kind of bracket: the job that makes it, the brackets in a round, and the
+/// rounds by which two runs differ.
 struct Kind {
     name: &'static str,
+    job: Job,
     brackets: u32,
     rounds: u16,
     double: fn() -> f64,
 }
 
-/// In the order of the program's input.
-const KINDS: [Kind; 3] = [
-    Kind {
-        name: "power",
-        brackets: 100_000,
-        rounds: 20,
-        double: powers_in_doubles,
-    },
+const POWER: Kind = Kind {
+    name: "power",
+    job: Job::Powers,
+    brackets: 100_000,
+    rounds: 20,
+    double: powers_in_doubles,
+};
+
+const POWER_BY_ENDS: Kind = Kind {
+    job: Job::PowersByEnds,
+    ..POWER
+};
+
+const OTHERS: [Kind; 2] = [
     Kind {
         name: "logarithm",
+        job: Job::Logarithms,
         brackets: 20_000,
         rounds: 200,
         double: logarithms_in_doubles,
     },
     Kind {
         name: "exponential",
+        job: Job::Exponentials,
         brackets: 140_001,
         rounds: 20,
         double: exponentials_in_doubles,
@@ -80,66 +86,68 @@ fn exponentials_in_doubles() -> f64 {
         .sum()
 }
 
-/// How long the program takes for an input, and what it prints.
-fn run(input: &[u8]) -> (Duration, String) {
+/// How long the program takes for an input.
+fn time_of(input: &[u8]) -> Duration {
     let start = Instant::now();
-    let mut child = Command::new(PROGRAM)
-        .stdin(Stdio::piped())
-        .stdout(Stdio::piped())
-        .spawn()
-        .expect("the program of rounds runs; `rt check` makes it");
-    let mut stdin = child.stdin.take().expect("a piped input");
-    stdin.write_all(input).expect("rounds are asked for");
-    drop(stdin);
-    let output = child.wait_with_output().expect("it ends");
-    let time = start.elapsed();
-    assert!(output.status.success());
-    (time, String::from_utf8_lossy(&output.stdout).into_owned())
-}
-
-fn least(tries: usize, measure: impl FnMut() -> Duration) -> Duration {
-    let times = iter::repeat_with(measure).take(tries);
-    times.min().expect("some tries")
+    rounds(input);
+    start.elapsed()
 }
 
 /// The least time of work in this program, for each of so many things.
 fn time_here(count: f64, mut work: impl FnMut()) -> f64 {
-    let time = least(TRIES_HERE, || {
+    let timed = || {
         let start = Instant::now();
         work();
         start.elapsed()
-    });
-    nanoseconds(time, count)
+    };
+    let times = iter::repeat_with(timed).take(TRIES_HERE);
+    nanoseconds(times.min().expect("some tries"), count)
 }
 
 fn nanoseconds(time: Duration, count: f64) -> f64 {
     time.as_secs_f64() * 1e9 / count
 }
 
-/// The program's input: rounds of each kind of bracket, rounds that make lines,
-/// rounds that only read, and the records.
-fn rounds_of(brackets: [u16; KINDS.len()], lines: [u16; 2], sites: &[Site]) -> Vec<u8> {
-    let counts = brackets.into_iter().chain(lines);
-    let mut input: Vec<u8> = counts.flat_map(u16::to_be_bytes).collect();
-    for site in sites {
-        input.extend(write_site(site, usize::MAX).expect("a site that the writer takes"));
+/// The least times of some runs. They take turns, so that a slow spell of the
+/// machine meets all of them.
+fn times_in_turn<const N: usize>(inputs: &[Vec<u8>; N]) -> [Duration; N] {
+    let mut times = [Duration::MAX; N];
+    for _ in 0..TRIES {
+        for (time, input) in times.iter_mut().zip(inputs) {
+            *time = time_of(input).min(*time);
+        }
     }
-    input
+    times
 }
 
-fn engine_time(at: usize) -> f64 {
-    let Kind {
-        brackets, rounds, ..
-    } = KINDS[at];
-    let timed = |rounds| {
-        let mut asked = [0; KINDS.len()];
-        asked[at] = rounds;
-        let input = rounds_of(asked, [0; 2], &[]);
-        least(TRIES, || run(&input).0)
-    };
-    let (few, many) = (timed(1), timed(1 + rounds));
-    let brackets = f64::from(brackets) * f64::from(rounds);
+/// Nanoseconds for a bracket, from a run of one round and one of many.
+fn bracket_time(kind: &Kind, few: Duration, many: Duration) -> f64 {
+    let brackets = f64::from(kind.brackets) * f64::from(kind.rounds);
     nanoseconds(many.saturating_sub(few), brackets)
+}
+
+/// The inputs of these two runs.
+fn few_and_many(kind: &Kind) -> [Vec<u8>; 2] {
+    [1, 1 + kind.rounds].map(|rounds| rounds_of(&[(kind.job, rounds)], &[]))
+}
+
+fn engine_time(kind: &Kind) -> f64 {
+    let [few, many] = times_in_turn(&few_and_many(kind));
+    bracket_time(kind, few, many)
+}
+
+/// Nanoseconds for a power with both ends by one walk, and with each by a walk
+/// of its own. Both forms have the same ends.
+fn power_times() -> [f64; 2] {
+    let [one, many] = few_and_many(&POWER);
+    let [one_by_ends, many_by_ends] = few_and_many(&POWER_BY_ENDS);
+    assert_eq!(rounds(&one), rounds(&one_by_ends));
+    let times = times_in_turn(&[one, many, one_by_ends, many_by_ends]);
+    let [one, many, one_by_ends, many_by_ends] = times;
+    [
+        bracket_time(&POWER, one, many),
+        bracket_time(&POWER_BY_ENDS, one_by_ends, many_by_ends),
+    ]
 }
 
 fn double_time(kind: &Kind) -> f64 {
@@ -180,18 +188,14 @@ fn assert_same_figures(sites: &[Site]) {
     }
 }
 
-/// Nanoseconds for a site: reading its record, and making its line. The three
-/// runs take turns, so that a slow spell of the machine meets all of them.
+/// Nanoseconds for a site: reading its record, and making its line.
 fn line_times(sites: &[Site]) -> (f64, f64) {
     let rounds = [[1, 1], [1, 1 + ROUNDS], [1 + ROUNDS, 1]];
-    let inputs = rounds.map(|lines| rounds_of([0; KINDS.len()], lines, sites));
-    let mut times = [Duration::MAX; 3];
-    for _ in 0..TRIES {
-        for (time, input) in times.iter_mut().zip(&inputs) {
-            *time = run(input).0.min(*time);
-        }
-    }
-    let [none, read, made] = times;
+    let inputs = rounds.map(|[lines, records]| {
+        let asked = [(Job::Lines, lines), (Job::Records, records)];
+        rounds_of(&asked, sites)
+    });
+    let [none, read, made] = times_in_turn(&inputs);
     let count = sites.len() as f64 * f64::from(ROUNDS);
     let reading = nanoseconds(read.saturating_sub(none), count);
     let both = nanoseconds(made.saturating_sub(none), count);
@@ -250,7 +254,7 @@ struct Times {
 
 fn times_of(sites: &[Site]) -> Times {
     assert_same_figures(sites);
-    let (_, printed) = run(&rounds_of([0; KINDS.len()], [1, 0], sites));
+    let printed = rounds(&rounds_of(&[(Job::Lines, 1)], sites));
     assert_eq!(printed, format!("0\n{}\n", sum_of_lines(sites)));
     let (reading, making) = line_times(sites);
     Times {
@@ -375,14 +379,29 @@ fn random_sites(random: &mut Random, count: usize) -> Vec<Site> {
     (0..count).map(|_| generate::site(random)).collect()
 }
 
-fn main() {
+fn print_brackets() {
+    let [one_walk, by_ends] = power_times();
+    let print = |kind: &Kind, engine: f64| {
+        let double = double_time(kind);
+        println!("| {} | {engine:.0} | {double:.0} |", kind.name);
+    };
     println!("| Bracket | Engine, low and high, ns | One double, ns |");
     println!("|---|---|---|");
-    for (at, kind) in KINDS.iter().enumerate() {
-        let (engine, double) = (engine_time(at), double_time(kind));
-        println!("| {} | {engine:.0} | {double:.0} |", kind.name);
+    print(&POWER, one_walk);
+    for kind in &OTHERS {
+        print(kind, engine_time(kind));
     }
     println!();
+    println!("| Power, every base from 1 to 20,000 at the five exponents | ns |");
+    println!("|---|---|");
+    println!("| both ends by one walk, scaled in one word | {one_walk:.1} |");
+    println!("| each end by a walk of its own, scaled in two words | {by_ends:.1} |");
+    println!("| ratio | {:.2} |", one_walk / by_ends);
+    println!();
+}
+
+fn main() {
+    print_brackets();
     let mut random = Random::new(41);
     print_lines(&random_sites(&mut random, MOST_SITES));
     println!();
