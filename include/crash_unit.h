@@ -50,6 +50,19 @@ extern "C" {
 #define CRASH_BRACKET_NUMBERS 4
 #define CRASH_STACK 32768                                                                  /* bytes */
 
+/* Widths, proved for every line, report and bracket. high - low is at most
+ *   CRASH_PREDICTED_EACH * sites + high / CRASH_WIDTH_PARTS for a predicted pair,
+ *   CRASH_EXPECTED_EACH * (sites + observed crashes) + high / CRASH_WIDTH_PARTS for an expected pair,
+ * of a line, which has one site, and of a report's totals, all in millionths of a crash; and for a bracket
+ *   high / CRASH_POWER_PARTS of a power, high / CRASH_EXPONENTIAL_PARTS of e^x and of e^(-x),
+ *   1 / CRASH_LOGARITHM_PARTS of a logarithm, whatever its high. */
+#define CRASH_PREDICTED_EACH 4
+#define CRASH_EXPECTED_EACH 8
+#define CRASH_WIDTH_PARTS 1000000
+#define CRASH_POWER_PARTS 100000000
+#define CRASH_EXPONENTIAL_PARTS 10000000000
+#define CRASH_LOGARITHM_PARTS 100000000
+
 /* Reads a project file and makes its report from the start of report: four numbers for each site (predicted low, predicted
  * high, expected low, expected high, in millionths of a crash), then four totals; what follows them is untouched.
  * CRASH_OK: *value is the count of numbers written, 4(sites + 1).
@@ -94,9 +107,10 @@ uint64_t crash_line(uint64_t years, uint64_t segment_calibration, uint64_t cross
                     size_t values_len, uint64_t *line, size_t line_len);
 
 /* Brackets of powers, logarithms and exponentials, for any model: ends[0] / ends[1] is at most the exact figure, and
- * ends[2] / ends[3] at least; the rest of ends is as it was. CRASH_OUTSIDE_RANGE: an argument is out of range.
- * CRASH_TOO_SHORT, tried last: ends has fewer than CRASH_BRACKET_NUMBERS numbers. Powers: base 1 to 20,000, num one of 79, 49,
- * 60, 61 and 20, den 100. Logarithms: 1 to 20,000. Exponentials: x from 0 to 140,000 ten-thousandths, e^x and e^(-x). */
+ * ends[2] / ends[3] at least, no further apart than said above; the rest of ends is as it was. CRASH_OUTSIDE_RANGE: an argument
+ * is out of range. CRASH_TOO_SHORT, tried last: ends has fewer than CRASH_BRACKET_NUMBERS numbers. Powers: base 1 to 20,000, num
+ * one of 79, 49, 60, 61 and 20, den 100. Logarithms: 1 to 20,000. Exponentials: x from 0 to 140,000 ten-thousandths, e^x and
+ * e^(-x). */
 uint64_t crash_power(uint64_t base, uint64_t num, uint64_t den, uint64_t *ends, size_t ends_len);
 uint64_t crash_logarithm(uint64_t argument, uint64_t *ends, size_t ends_len);
 uint64_t crash_exponential(uint64_t x, uint64_t *ends, size_t ends_len);

@@ -64,27 +64,34 @@ impl fmt::Display for Fault {
     }
 }
 
-/// What a pair's width may be apart from its hundred-thousandth of high.
+/// The part of its high that a pair may be wide: document 02, request 8, "get a
+/// millionth of high in its place".
+pub const WIDTH_PARTS: u64 = 1_000_000;
+/// What a predicted pair may be wider for each site.
+pub const PREDICTED_EACH: u64 = 4;
+/// What an expected pair may be wider for each site and each observed crash.
+pub const EXPECTED_EACH: u64 = 8;
+
+/// What a pair's width may be apart from its part of high.
 struct Allowance {
     predicted: u128,
     expected: u128,
 }
 
 impl Allowance {
-    /// 4 for each site, and 8 for each site and each observed crash.
     fn new(sites: u64, observed: u64) -> Allowance {
         Allowance {
-            predicted: 4 * u128::from(sites),
-            expected: 8 * (u128::from(sites) + u128::from(observed)),
+            predicted: u128::from(PREDICTED_EACH) * u128::from(sites),
+            expected: u128::from(EXPECTED_EACH) * (u128::from(sites) + u128::from(observed)),
         }
     }
 }
 
-/// high - low is at most the allowance and a hundred-thousandth of high.
+/// high - low is at most the allowance and high's part.
 fn narrow(low: u64, high: u64, allowance: u128) -> bool {
-    const PART: u128 = 100_000;
+    let parts = u128::from(WIDTH_PARTS);
     let width = u128::from(high.saturating_sub(low));
-    PART * width <= PART * allowance + u128::from(high)
+    parts * width <= parts * allowance + u128::from(high)
 }
 
 /// Order and width of a line's two pairs.

@@ -228,13 +228,13 @@ fn moved(project: &Project, index: usize, low: i64, high: i64) -> Vec<u64> {
 }
 
 #[test]
-fn a_pair_may_be_as_wide_as_document_01_says_and_no_wider() {
+fn a_pair_may_be_as_wide_as_the_demand_says_and_no_wider() {
     let project = sample();
     for index in 0..4 {
         let right = report(MODEL, &project, 9);
         let (low, high) = (right[4 * index], right[4 * index + 1]);
-        // The most by which the low may fall: 4 + high / 100,000 in all.
-        let room = 4 + (high / 100_000) as i64 - (high - low) as i64;
+        // The most by which the low may fall: 4 + high / 1,000,000 in all.
+        let room = 4 + (high / 1_000_000) as i64 - (high - low) as i64;
         assert_eq!(faults(&project, &moved(&project, index, -room, 0)), []);
         let wrong = faults(&project, &moved(&project, index, -room - 1, 0));
         assert!(wrong.contains(&site_fault(index, Wrong::Wide(Pair::Predicted))));
@@ -313,12 +313,12 @@ fn too_wide(wrongs: &[Wrong]) -> (bool, bool) {
 }
 
 #[test]
-fn a_sites_widths_end_where_document_01_says() {
-    // 4 + high / 100,000 and 8 (1 + O) + high / 100,000, with a high that has
-    // a whole number of hundred-thousandths and one that falls just short.
+fn a_sites_widths_end_where_the_demand_says() {
+    // 4 + high / 1,000,000 and 8 (1 + O) + high / 1,000,000, with a high whose
+    // millionth is a whole number and one that falls just short of it.
     let signal = Site::plain(FOUR_LEG_SIGNAL, 10_000, 1_000);
     for (site, observed) in [(signal, 0), (signal.with(Field::Observed, 5), 5)] {
-        for (high, part) in [(700_000, 7), (699_999, 6)] {
+        for (high, part) in [(7_000_000, 7), (6_999_999, 6)] {
             let (predicted, expected) = (4 + part, 8 * (1 + observed) + part);
             let line = |more: u64| {
                 let lows = [high - predicted - more, high - expected - more];
@@ -331,10 +331,10 @@ fn a_sites_widths_end_where_document_01_says() {
 }
 
 #[test]
-fn the_totals_widths_end_where_document_01_says() {
+fn the_totals_widths_end_where_the_demand_says() {
     // Four sites with 35 observed crashes: 16 and 8 (4 + 35), and high's part.
     let project = sample();
-    let (high, part) = (900_000, 9);
+    let (high, part) = (9_000_000, 9);
     let totals = |more: u64| {
         let mut numbers = vec![0; 16];
         let lows = [high - 16 - part - more, high - 8 * 39 - part - more];

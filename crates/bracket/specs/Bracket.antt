@@ -20,12 +20,13 @@ pub record RelativeWidth (R r : ℕ) (b : Bracket) : Type 0 where
 pub record AbsoluteWidth (R : ℕ) (b : Bracket) : Type 0 where
   pub width : R * (b .«high_num» * b .«low_den») ≤ R * (b .«low_num» * b .«high_den») + b .«high_den» * b .«low_den»
 
--- THE STATED WIDTHS: powers and exponentials relative to their high, logarithms absolute
+-- THE STATED WIDTHS, 1 over these: powers and exponentials relative to their high, logarithms absolute. Document 02, request 8: "The
+-- power bracket, and those of the exponential and logarithm with it, must narrow"
 unfoldable pub powerWidth : ℕ
-powerWidth = 10 ^ 6
+powerWidth = 10 ^ 8
 
 unfoldable pub exponentialWidth : ℕ
-exponentialWidth = 10 ^ 6
+exponentialWidth = 10 ^ 10
 
 unfoldable pub logarithmWidth : ℕ
-logarithmWidth = 10 ^ 6
+logarithmWidth = 10 ^ 8

@@ -1,5 +1,5 @@
 -- The ends of the bracket of e^x at the scale: they are at most and at least e^x, close to each other, and of a known size.
-use Prim.Native.Nat.{ℕ, suc, _+_, _*_, _/_, _%_, _^_, _≤_, _<_}
+use Prim.Native.Nat.{ℕ, suc, _+_, _*_, _/_, _%_, _≤_, _<_}
 use native.Mathlib.Nat.{le-trans, mul-le-mul-left, lt-of-mul-lt-mul-right, le-of-suc-le-suc}
 use native.Mathlib.Omega.{arith}
 use lib.Dec.{lit<, lit≤}
@@ -7,6 +7,7 @@ use Rattle.estimate.specs.Fraction.{fraction, _≤ᶠ_, whole, _+ᶠ_, tenThous
 use Rattle.estimate.specs.FractionLaws.{≤ᶠ-refl}
 use Rattle.estimate.specs.ExponentialBounds.{AtMostExp, AtLeastExp, at-most-product, at-least-product, at-most-weaker, at-least-weaker, exp-bounds-in-order}
 use Rattle.wide.specs.Rounding.{floor-lt, ceiling-lt}
+use Rattle.bracket.specs.Bracket.{exponentialWidth}
 use Rattle.exponential.specs.Scale.{scale, scale-positive, scaled, product-down-≤, product-up-≥}
 use Rattle.exponential.specs.Stored.{storedExp}
 use Rattle.exponential.specs.StoredLaws.{storedMost, stored-bounds, stored-at-most, stored-at-least}
@@ -54,11 +55,9 @@ apart e l h a b R near r le ll fl cl = omega (arith, mul-le-mul-left (e + 1) nea
 at-least-stored : (e l a R : ℕ) → R ≤ l → e * l < a * R + R → e ≤ a
 at-least-stored e l a R ll fl = le-of-suc-le-suc (lt-of-mul-lt-mul-right R {m = e} {n = suc a} (omega (arith, mul-le-mul-left e ll)))
 
--- THE TRUE WIDTH: high - low is at most high / 10^10
-abbrev pub shownWidth : ℕ
-shownWidth = 10 ^ 10
-
-close : (e a b : ℕ) → b * scale ≤ a * scale + 56 * e → e ≤ a → shownWidth * b ≤ shownWidth * a + b
+-- apart by at most 5.6 * 10^-11 of the stored number
+close : (e a b : ℕ) → b * scale ≤ a * scale + 56 * e → e ≤ a → exponentialWidth * b ≤ exponentialWidth * a + b
+unfolding exponentialWidth
 close e a b h k = omega arith
 
 module _ (x : ℕ) (within : x ≤ exponentialLimit) where
@@ -73,7 +72,8 @@ module _ (x : ℕ) (within : x ≤ exponentialLimit) where
   exp-low-≥-stored : storedExp (x / 10000) ≤ expLow x
   exp-low-≥-stored = at-least-stored _ _ (expLow x) scale (taylor-least (x % 10000) (rest x within)) exp-low-near
 
-  pub exp-ends-close : shownWidth * expHigh x ≤ shownWidth * expLow x + expHigh x
+  -- THE STATED WIDTH
+  pub exp-ends-close : exponentialWidth * expHigh x ≤ exponentialWidth * expLow x + expHigh x
   exp-ends-close =
       close (storedExp (x / 10000)) (expLow x) (expHigh x)
       (apart _ (taylorLow (x % 10000)) (taylorHigh (x % 10000)) (expLow x) (expHigh x) scale (taylor-near (x % 10000) (rest x within)) (lit≤ tt)
@@ -93,4 +93,5 @@ module _ (x : ℕ) (within : x ≤ exponentialLimit) where
   exp-low-most = omega (arith, stored-bounds 14 (lit< tt) .most, exp-bounds-in-order (exp-low-at-most x) (stored-at-least 14 (lit< tt)) at-most-fourteen .cross)
 
   pub exp-high-most : expHigh x ≤ expMost
+  unfolding exponentialWidth
   exp-high-most = omega (arith, exp-low-most, exp-ends-close)

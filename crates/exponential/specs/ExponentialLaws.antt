@@ -1,9 +1,8 @@
--- The brackets of e^x and e^(-x) stand at every depth and are at most 10^-10 wide; what is answered stands.
-use Prim.Native.Nat.{ℕ, _+_, _-_, _*_, _≤_, _<_}
-use mathlib.Core.Path.{ap}
-use native.Mathlib.Nat.{mul-le-mul-left, lt-of-not-le, sub-add-cancel}
+-- The brackets of e^x and e^(-x) stand at every depth and have the stated width; what is answered stands.
+use Prim.Native.Nat.{ℕ, _≤_, _<_}
+use native.Mathlib.Nat.{lt-of-not-le}
 use native.Mathlib.Omega.{arith}
-use lib.Dec.{leb, leb→le, lit≤}
+use lib.Dec.{leb, leb→le}
 use borrow.Author.Tests.{le-leb}
 use Rattle.estimate.specs.Fraction.{fraction, tenThousandths}
 use Rattle.estimate.specs.Exponential.{expUnder, expOver, expNegUnder, expNegOver, exp-under-positive, exp-over-positive}
@@ -15,11 +14,7 @@ use Rattle.bracket.specs.Reciprocal.{reciprocal-stands, reciprocal-width}
 use Rattle.exponential.specs.Scale.{scale-positive, scaled}
 use Rattle.exponential.specs.Exponential.{expBracket, expNegBracket, exponentialLimit, exponentialAnswer, exponentialNegativeAnswer}
 use Rattle.exponential.specs.Exponential.{OfExponential, OfExponentialNegative, ExponentialStands, ExponentialNegativeStands}
-use Rattle.exponential.specs.ExponentialEnds.{exp-low-at-most, exp-high-at-least, exp-ends-in-order, exp-ends-close, exp-low-least, shownWidth}
-
--- THE STATED WIDTH follows from the true one: what is narrower than stated has the stated width
-narrower : (R S r L H : ℕ) → R ≤ S → L ≤ H → S * H ≤ S * L + r * H → R * H ≤ R * L + r * H
-narrower R S r L H le order w = omega (arith, mul-le-mul-left (S - R) order, ap (λ z. z * L) (sub-add-cancel le), ap (λ z. z * H) (sub-add-cancel le))
+use Rattle.exponential.specs.ExponentialEnds.{exp-low-at-most, exp-high-at-least, exp-ends-in-order, exp-ends-close, exp-low-least}
 
 module _ (x : ℕ) (within : x ≤ exponentialLimit) where
   exp-stands : Stands (expBracket x) (λ d. expUnder d (tenThousandths x)) (λ d. expOver d (tenThousandths x))
@@ -32,16 +27,12 @@ module _ (x : ℕ) (within : x ≤ exponentialLimit) where
     in-order = exp-ends-in-order x within;
   }
 
-  pub exp-shown-width : RelativeWidth shownWidth 1 (expBracket x)
+  exp-width : RelativeWidth exponentialWidth 1 (expBracket x)
   unfolding expBracket
-  exp-shown-width = record { width = omega (arith, exp-ends-close x within) }
+  exp-width = record { width = omega (arith, exp-ends-close x within) }
 
   pub exp-promised : OfExponential x (expBracket x)
-  unfolding exponentialWidth fraction
-  exp-promised = record {
-    stands = exp-stands;
-    width = record { width = narrower _ shownWidth 1 _ _ (lit≤ tt) (exp-stands .in-order .cross) (exp-shown-width .width) };
-  }
+  exp-promised = record { stands = exp-stands; width = exp-width }
 
   pub exp-neg-promised : OfExponentialNegative x (expNegBracket x)
   unfolding expNegBracket expNegUnder expNegOver expBracket

@@ -46,11 +46,11 @@ module _ (c : Coefficients) (header : Header) (site : Site) (line : Line) where
   pub expected-exchanged : line .«expected_high» < line .«expected_low» → Fails
   expected-exchanged l s = omega (arith, s .expected-in-order)
 
-  -- more than 4, or 8 (1 + O), and a hundred-thousandth of the high apart
-  pub predicted-too-wide : 100000 * (line .«predicted_low» + 4) + line .«predicted_high» < 100000 * line .«predicted_high» → Fails
+  -- more than 4, or 8 (1 + O), and a millionth of the high apart
+  pub predicted-too-wide : 1000000 * (line .«predicted_low» + 4) + line .«predicted_high» < 1000000 * line .«predicted_high» → Fails
   predicted-too-wide l s = omega (arith, s .predicted-narrow .width)
 
-  pub expected-too-wide : 100000 * (line .«expected_low» + 8 * (1 + number (site .observed))) + line .«expected_high» < 100000 * line .«expected_high» → Fails
+  pub expected-too-wide : 1000000 * (line .«expected_low» + 8 * (1 + number (site .observed))) + line .«expected_high» < 1000000 * line .«expected_high» → Fails
   expected-too-wide l s = omega (arith, s .expected-narrow .width)
 
   -- an expected number that is not between the prediction and the history

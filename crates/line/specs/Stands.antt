@@ -32,7 +32,7 @@ pub record LineStands (c : Coefficients) (header : Header) (site : Site) (line :
   -- "No low passes its high"
   pub predicted-in-order : line .«predicted_low» ≤ line .«predicted_high»
   pub expected-in-order : line .«expected_low» ≤ line .«expected_high»
-  -- at most 4 and a hundred-thousandth of the high apart; with O crashes, 8 (1 + O) and a hundred-thousandth
+  -- at most 4 and a millionth of the high apart; with O crashes, 8 (1 + O) and a millionth
   pub predicted-narrow : Narrow widthParts predictedEach 1 (line .«predicted_low») (line .«predicted_high»)
   pub expected-narrow : Narrow widthParts (expectedEach * (1 + observedWeight c site)) 1 (line .«expected_low») (line .«expected_high»)
   -- with a history, between the prediction and it

@@ -1,5 +1,5 @@
 -- The bracket of ln a stands at every depth and is narrow; how large its ends are.
-use Prim.Native.Nat.{ℕ, _+_, _*_, _^_, _≤_, _<_}
+use Prim.Native.Nat.{ℕ, _+_, _*_, _≤_, _<_}
 use mathlib.Core.Path.{_≡_, ap}
 use native.Mathlib.Nat.{mul-le-mul-right, one-le-pow}
 use native.Mathlib.Omega.{arith}
@@ -18,10 +18,6 @@ use Rattle.remainder.specs.Remainder.{scale, logLow, logHigh}
 use Rattle.remainder.specs.LogarithmBounds.{log-low-at-least, log-high-at-most, log-in-order, log-near}
 use Rattle.logarithm.specs.Stored.{storedLow, storedHigh, stored-low-at-least, stored-high-at-most, stored-in-order, stored-near}
 use Rattle.logarithm.specs.Logarithm.{logarithmLow, logarithmHigh, logarithmBracket, StandingLogarithm}
-
--- the width that is shown, 10^-8; the stated width follows from it
-unfoldable pub shownWidth : ℕ
-shownWidth = 10 ^ 8
 
 -- SUMS OF BOUNDS
 
@@ -131,13 +127,9 @@ module _ (a : ℕ) (from : 1 ≤ a) (to : a ≤ 20000) where
       high-within : decimal 12 (logarithmHigh a) ≤ᶠ whole 21
       high-within = unfold decimal whole fraction in omega (arith, logarithm-high-small)
 
-  pub logarithm-shown-width : AbsoluteWidth shownWidth (logarithmBracket a)
-  unfolding shownWidth logarithmBracket
-  logarithm-shown-width = record { width = omega (arith, logarithm-near) }
-
   pub logarithm-width : AbsoluteWidth logarithmWidth (logarithmBracket a)
-  unfolding shownWidth logarithmWidth
-  logarithm-width = let w = logarithm-shown-width in record { width = omega (arith, w .width) }
+  unfolding logarithmWidth logarithmBracket
+  logarithm-width = record { width = omega (arith, logarithm-near) }
 
   -- an end is at most 10, over at most 10^12
   pub logarithm-sizes : EndSizes (logarithmBracket a)

@@ -5,11 +5,11 @@ use Rattle.site.specs.declared.values.Site.{Site}
 use Rattle.model.specs.Coefficients.{Coefficients}
 use Rattle.site.specs.Numbers.{number}
 
--- a hundred-thousandth of the high
+-- document 02, request 8: "lose their hundred-thousandth and get a millionth of high in its place"
 abbrev pub widthParts : ℕ
-widthParts = 100000
+widthParts = 1000000
 
--- of a predicted pair, for each site
+-- "the terms for each site and crash remain": of a predicted pair, for each site
 abbrev pub predictedEach : ℕ
 predictedEach = 4
 

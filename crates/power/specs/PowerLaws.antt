@@ -3,6 +3,7 @@
 use Prim.Native.Nat.{ℕ, zero, suc, _+_, _*_, _^_, _≤_, _<_}
 use mathlib.Core.Path.{_≡_, refl}
 use native.Mathlib.Nat.{le-trans, mul-le-mul-left, mul-le-mul-right, pow-le-pow-left}
+use native.Mathlib.Decide.{decLe}
 use native.Mathlib.Omega.{arith}
 use lib.Dec.{lit<, lit≤}
 use Rattle.estimate.specs.Fraction.{fraction}
@@ -14,15 +15,11 @@ use Rattle.wide.specs.Rounding.{floor-le, ceiling-ge}
 use Rattle.bracket.specs.Bracket.{Stands, RelativeWidth, powerWidth}
 use Rattle.remainder.specs.Split.{firstFactor, secondFactor, splitRest, Splits, split-is}
 use Rattle.remainder.specs.Remainder.{Exponent, scale, remainderLow, remainderHigh}
-use Rattle.remainder.specs.RemainderLaws.{remainder-low-stands, remainder-high-stands, remainder-near, remainder-near-to-nine-tenths}
+use Rattle.remainder.specs.RemainderLaws.{remainder-low-stands, remainder-high-stands, remainder-near, remainder-near-to-half}
 use Rattle.remainder.specs.RemainderLaws.{remainder-near-whole, remainder-low-near-one, remainder-high-near-one}
 use Rattle.power.specs.Stored.{billion, storedLow, stored-low-stands, stored-high-stands, stored-near, stored-from-one, stored-from-root}
 use Rattle.power.specs.Power.{powerLow, powerHigh, powerBracket, StandingPower}
-use Rattle.power.specs.PowerWidth.{floor-rounded, ceiling-rounded, at-least, ends-apart, RoundingsWithin, roundings-from-one, roundings-from-two}
-
--- the width that is shown for an exponent from 1/5 to 9/10: 10^-8 of the high
-unfoldable pub shownWidth : ℕ
-shownWidth = 10 ^ 8
+use Rattle.power.specs.PowerWidth.{floor-rounded, ceiling-rounded, at-least, ends-apart, RoundingsWithin, roundings-from-one, roundings-from-roots}
 
 module _ (A p q : ℕ) (from : 1 ≤ A) (to : A ≤ 65536) (e : Exponent p q) where
   abbrev n : ℕ
@@ -68,7 +65,7 @@ module _ (A p q : ℕ) (from : 1 ≤ A) (to : A ≤ 65536) (e : Exponent p q) wh
 
   -- THE WIDTH
 
-  -- the ends are near each other
+  -- the ends are apart by at most c * 10^-12 of a number that is not above the low
   record Near (c : ℕ) : Type 0 where
     first : ℕ
     near : powerHigh A p q * scale ≤ powerLow A p q * scale + c * first
@@ -100,37 +97,36 @@ module _ (A p q : ℕ) (from : 1 ≤ A) (to : A ≤ 65536) (e : Exponent p q) wh
   roundings-any =
       roundings-from-one billion _ _ (lit≤ tt) (stored-from-one _ p q e (parts .n-from)) (stored-from-one _ p q e (parts .m-from))
 
-  ends-any : Near 13604
-  ends-any = ends 7583 6021 (remainder-near _ _ p q (parts .rest) e) roundings-any
+  -- a rest leaves n from 2 and m from 128 on: for an exponent from 1/2 on their powers are from 1.41 and 11.31 on
+  roundings-beside-rest : q ≤ p * 2 → 0 < splitRest A → RoundingsWithin billion 1055 (storedLow n p q) (storedLow m p q)
+  roundings-beside-rest from-half r =
+      let first = stored-from-root n p q e (parts .n-from) 2 2 (141 * 10 ^ 7) (lit< tt) from-half (parts .n-from-two r) (lit≤ tt) in
+      let second = stored-from-root m p q e (parts .m-from) 128 2 (1131 * 10 ^ 7) (lit< tt) from-half (parts .m-from-128 r) (lit≤ tt) in
+      roundings-from-roots billion _ _ (lit≤ tt) (mul-le-mul-left 100 first) (mul-le-mul-left 100 second)
+
+  nearer : (c : ℕ) → c ≤ 10000 → Near c → Near 10000
+  nearer c h w = record { first = w .first; near = omega (arith, w .near, mul-le-mul-right (w .first) h); first-≤ = w .first-≤ }
+
+  -- for an exponent up to 1/2 the remainder's bounds are nearer to each other; for a larger one the roundings add little beside a
+  -- rest, and are all there is without one
+  ends-near : Near 10000
+  ends-near = by-half (decLe (2 * p) q)
+    where
+      by-rest : q ≤ p * 2 → (r : ℕ) → splitRest A ≡ r → Near 10000
+      by-rest from-half zero is = nearer _ (lit≤ tt) (ends 82 6021 (remainder-near-whole _ _ p q (parts .rest) e is) roundings-any)
+      by-rest from-half (suc r) is =
+          nearer _ (lit≤ tt) (ends 7583 1055 (remainder-near _ _ p q (parts .rest) e) (roundings-beside-rest from-half (omega arith)))
+
+      by-half : Dec (2 * p ≤ q) → Near 10000
+      by-half (yes to-half) = nearer _ (lit≤ tt) (ends 3833 6021 (remainder-near-to-half _ _ p q (parts .rest) e to-half) roundings-any)
+      by-half (no above) = by-rest (omega arith) (splitRest A) refl
 
   pub power-width : RelativeWidth powerWidth 1 (powerBracket A p q)
   unfolding powerWidth powerBracket
-  power-width = let w = ends-any in record { width = omega (arith, w .near, w .first-≤, power-in-order) }
+  power-width = let w = ends-near in record { width = omega (arith, w .near, w .first-≤, power-in-order) }
 
   pub power-standing : StandingPower A p q (powerBracket A p q)
   power-standing = record { stands = power-stands; narrow = power-width }
-
-  -- FOR AN EXPONENT FROM 1/5 TO 9/10
-
-  module _ (from-fifth : q ≤ p * 5) (to-nine-tenths : 10 * p ≤ 9 * q) where
-    -- a rest leaves n from 2 and m from 128 on: their powers are from 1.14 and 2.6 on
-    roundings-beside-rest : 0 < splitRest A → RoundingsWithin billion 2622 (storedLow n p q) (storedLow m p q)
-    roundings-beside-rest r =
-        let first = stored-from-root n p q e (parts .n-from) 2 5 (114 * 10 ^ 7) (lit< tt) from-fifth (parts .n-from-two r) (lit≤ tt) in
-        let second = stored-from-root m p q e (parts .m-from) 128 5 (260 * 10 ^ 7) (lit< tt) from-fifth (parts .m-from-128 r) (lit≤ tt) in
-        roundings-from-two billion _ _ (lit≤ tt) (mul-le-mul-left 100 first) (mul-le-mul-left 100 second)
-
-    narrow : (c : ℕ) → c ≤ 10000 → Near c → RelativeWidth shownWidth 1 (powerBracket A p q)
-    unfolding shownWidth powerBracket
-    narrow c h w = record { width = omega (arith, w .near, mul-le-mul-right (w .first) h, w .first-≤, power-in-order) }
-
-    pub power-shown-width : RelativeWidth shownWidth 1 (powerBracket A p q)
-    power-shown-width = by-rest (splitRest A) refl
-      where
-        by-rest : (r : ℕ) → splitRest A ≡ r → RelativeWidth shownWidth 1 (powerBracket A p q)
-        by-rest zero is = narrow 6103 (lit≤ tt) (ends 82 6021 (remainder-near-whole _ _ p q (parts .rest) e is) roundings-any)
-        by-rest (suc r) is =
-            narrow 9455 (lit≤ tt) (ends 6833 2622 (remainder-near-to-nine-tenths _ _ p q (parts .rest) e to-nine-tenths) (roundings-beside-rest (omega arith)))
 
   -- HOW LARGE THE LOW END IS
 

@@ -59,6 +59,6 @@ module _ (S s t : ℕ) (big : 10000 ≤ S) where
   pub roundings-from-one : S ≤ s → S ≤ t → RoundingsWithin S 6021 s t
   roundings-from-one hs ht u a = let b = beside 100 100 S s t u (omega arith) (omega arith) (omega arith) a in omega arith
 
-  -- s from 1.14 S, t from 2.6 S on
-  pub roundings-from-two : 114 * S ≤ 100 * s → 260 * S ≤ 100 * t → RoundingsWithin S 2622 s t
-  roundings-from-two hs ht u a = let b = beside 114 260 S s t u (omega arith) hs ht a in omega arith
+  -- s from 1.41 S, t from 11.31 S on
+  pub roundings-from-roots : 141 * S ≤ 100 * s → 1131 * S ≤ 100 * t → RoundingsWithin S 1055 s t
+  roundings-from-roots hs ht u a = let b = beside 141 1131 S s t u (omega arith) hs ht a in omega arith

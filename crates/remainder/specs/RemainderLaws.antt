@@ -63,12 +63,12 @@ module _ (N r p q : ℕ) (s : SmallRest N r) (e : Exponent p q) where
       exponentials-near (quotientDown (logLow N r * p) q) (quotientUp (logHigh N r * p) q) d low-part-small high-part-small few
       (parts-near e (logLow N r) (logHigh N r) c d near part low-part high-part)
 
-  -- 7.583 * 10^-9 apart at most, 6.833 * 10^-9 for an exponent up to 9/10, and 0.082 * 10^-9 where there is no rest
+  -- 7.583 * 10^-9 apart at most, 3.833 * 10^-9 for an exponent up to 1/2, and 0.082 * 10^-9 where there is no rest
   pub remainder-near : remainderHigh N r p q ≤ remainderLow N r p q + 7583
   remainder-near = remainder-near-by 7501 7502 (log-near N r s) (omega arith) (lit≤ tt)
 
-  pub remainder-near-to-nine-tenths : 10 * p ≤ 9 * q → remainderHigh N r p q ≤ remainderLow N r p q + 6833
-  remainder-near-to-nine-tenths h = remainder-near-by 7501 6752 (log-near N r s) (omega arith) (lit≤ tt)
+  pub remainder-near-to-half : 2 * p ≤ q → remainderHigh N r p q ≤ remainderLow N r p q + 3833
+  remainder-near-to-half h = remainder-near-by 7501 3752 (log-near N r s) (omega arith) (lit≤ tt)
 
   pub remainder-near-whole : r ≡ 0 → remainderHigh N r p q ≤ remainderLow N r p q + 82
   remainder-near-whole h = remainder-near-by 0 1 (log-near-whole N r s h) (omega arith) (lit≤ tt)

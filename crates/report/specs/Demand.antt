@@ -47,7 +47,7 @@ unfoldable pub observedIn : Coefficients → List Site → ℕ
 observedIn c [] = 0
 observedIn c (site ∷ sites) = observedWeight c site + observedIn c sites
 
--- the totals of a list of sites: at most 4 a site, or 8 for sites and crashes together, and a hundred-thousandth of the high apart
+-- the totals of a list of sites: at most 4 a site, or 8 for sites and crashes together, and a millionth of the high apart
 pub record TotalsStand (c : Coefficients) (header : Header) (sites : List Site) (total : Line) : Type 0 where
   pub predicted-between : Between (millionths (total .«predicted_low»)) (millionths (total .«predicted_high»))
       (sumOfSites (predictedUnder c header) sites) (sumOfSites (predictedOver c header) sites)

@@ -58,10 +58,10 @@ module _ (bytes report : List ℕ) (i : ℕ) (h : i < length (sitesIn bytes)) wh
   pub site-expected-exchanged : expectedHigh < expectedLow → Fails
   site-expected-exchanged l m = line.expected-exchanged _ _ _ _ l (m .each i h)
 
-  pub site-predicted-too-wide : 100000 * (predictedLow + 4) + predictedHigh < 100000 * predictedHigh → Fails
+  pub site-predicted-too-wide : 1000000 * (predictedLow + 4) + predictedHigh < 1000000 * predictedHigh → Fails
   site-predicted-too-wide l m = line.predicted-too-wide _ _ _ _ l (m .each i h)
 
-  pub site-expected-too-wide : 100000 * (expectedLow + 8 * (1 + number (site .observed))) + expectedHigh < 100000 * expectedHigh → Fails
+  pub site-expected-too-wide : 1000000 * (expectedLow + 8 * (1 + number (site .observed))) + expectedHigh < 1000000 * expectedHigh → Fails
   site-expected-too-wide l m = line.expected-too-wide _ _ _ _ l (m .each i h)
 
   module _ (observed : ℕ) (history : site .observed ≡ Number observed) where
@@ -129,10 +129,10 @@ module _ (bytes report : List ℕ) where
   pub total-expected-exchanged : highExpected < lowExpected → Wrong
   total-expected-exchanged l m = omega (arith, m .totals .expected-in-order)
 
-  pub total-predicted-too-wide : 100000 * (low + 4 * n) + high < 100000 * high → Wrong
+  pub total-predicted-too-wide : 1000000 * (low + 4 * n) + high < 1000000 * high → Wrong
   total-predicted-too-wide l m = omega (arith, m .totals .predicted-narrow .width)
 
-  pub total-expected-too-wide : 100000 * (lowExpected + 8 * (n + crashesIn (sitesIn bytes))) + highExpected < 100000 * highExpected → Wrong
+  pub total-expected-too-wide : 1000000 * (lowExpected + 8 * (n + crashesIn (sitesIn bytes))) + highExpected < 1000000 * highExpected → Wrong
   total-expected-too-wide l m = omega (arith, m .totals .expected-narrow .width, counted-once (coefficientsIn bytes) (sitesIn bytes))
 
 -- A PAIR FROM ZERO TO THE TOP for the first site, whatever stands after it
@@ -148,7 +148,7 @@ order a b h = omega (arith, h .cross)
 pub one-report-for-two : (bytes others report : List ℕ) → 0 < length (sitesIn bytes) → 0 < length (sitesIn others) → (d a b : ℕ) → 1 ≤ d
     → predictedOver (coefficientsIn bytes) (headerIn bytes) (siteAt (sitesIn bytes) 0) d <ᶠ millionths a
     → millionths b <ᶠ predictedUnder (coefficientsIn others) (headerIn others) (siteAt (sitesIn others) 0) d
-    → 100000 * (a + 4) + b < 100000 * b → Demand bytes report → Demand others report → ⊥
+    → 1000000 * (a + 4) + b < 1000000 * b → Demand bytes report → Demand others report → ⊥
 one-report-for-two bytes others report h k d a b l over under apart m o =
     let first = m .each 0 h in
     let second = o .each 0 k in

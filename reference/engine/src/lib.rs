@@ -22,6 +22,13 @@ pub const OUTSIDE_LIMITS: u64 = 4;
 pub const OUT_OF_RANGE: u64 = 8;
 pub const TOO_SHORT: u64 = 10;
 
+/// A power is no wider than its high over this.
+pub const POWER_PARTS: u64 = 100_000_000;
+/// An exponential, rising or falling, is no wider than its high over this.
+pub const EXPONENTIAL_PARTS: u64 = 10_000_000_000;
+/// A logarithm is no wider than 1 over this.
+pub const LOGARITHM_PARTS: u64 = 100_000_000;
+
 /// Two fractions that a value stands between.
 #[derive(Clone, Debug)]
 pub struct Bracket {

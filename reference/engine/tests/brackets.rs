@@ -2,7 +2,7 @@
 //! estimates.
 
 use engine::program::{rounds, rounds_of, Job};
-use engine::{power_into, Bracket};
+use engine::{power_into, Bracket, EXPONENTIAL_PARTS, LOGARITHM_PARTS, POWER_PARTS};
 use reference::estimates::{self, Estimates};
 use reference::rational::Rational;
 
@@ -29,17 +29,37 @@ fn stands(bracket: &Bracket, estimates: &Estimates) -> bool {
     bracket.low <= estimates.over && estimates.under <= bracket.high && bracket.low <= bracket.high
 }
 
-/// Relative width at most 10^-6.
-fn is_narrow(bracket: &Bracket) -> bool {
-    &bracket.width() * &Rational::whole(1_000_000) <= bracket.high
+/// How wide brackets may be, and whether one of those that were tried is wider
+/// than a tenth of that: where none is, a tenth could be stated.
+struct Stated {
+    parts: u64,
+    is_tight: bool,
+}
+
+impl Stated {
+    fn new(parts: u64) -> Stated {
+        Stated {
+            parts,
+            is_tight: false,
+        }
+    }
+
+    /// Whether a bracket is at most its part of a figure wide.
+    fn admits(&mut self, bracket: &Bracket, figure: &Rational) -> bool {
+        let within = |parts| &bracket.width() * &Rational::whole(parts) <= *figure;
+        self.is_tight |= !within(10 * self.parts);
+        within(self.parts)
+    }
 }
 
 #[test]
 fn every_base_at_every_exponent() {
+    let mut stated = Stated::new(POWER_PARTS);
     for exponent in EXPONENTS {
         for base in 1..=LARGEST_BASE {
             let bracket = engine::power(base, exponent, 100).expect("a base in range");
-            assert!(is_narrow(&bracket), "{base}^({exponent}/100) is too wide");
+            let is_narrow = stated.admits(&bracket, &bracket.high);
+            assert!(is_narrow, "{base}^({exponent}/100) is too wide");
             for depth in depths(base) {
                 let estimates = estimates::power(base, exponent as u32, 100, depth);
                 let right = stands(&bracket, &estimates);
@@ -47,6 +67,7 @@ fn every_base_at_every_exponent() {
             }
         }
     }
+    assert!(stated.is_tight);
 }
 
 /// The program `rounds` makes every power by one walk or with each end by a
@@ -69,23 +90,27 @@ fn both_forms_of_a_power_have_the_ends_of_the_call() {
 
 #[test]
 fn every_logarithm() {
-    let widest = Rational::of(1, 1_000_000);
+    let mut stated = Stated::new(LOGARITHM_PARTS);
     for argument in 1..=LARGEST_BASE {
         let bracket = engine::logarithm(argument).expect("an argument in range");
-        assert!(bracket.width() <= widest, "ln {argument} is too wide");
+        let is_narrow = stated.admits(&bracket, &Rational::one());
+        assert!(is_narrow, "ln {argument} is too wide");
         for depth in depths(argument) {
             let estimates = estimates::logarithm(argument, depth);
             assert!(stands(&bracket, &estimates), "ln {argument} at {depth}");
         }
     }
+    assert!(stated.is_tight);
 }
 
 #[test]
 fn every_exponential_and_its_reciprocal() {
+    let mut stated = Stated::new(EXPONENTIAL_PARTS);
     for x in 0..=LARGEST_X {
         let rising = engine::exponential(x).expect("an x in range");
         let falling = engine::exponential_negative(x).expect("an x in range");
-        assert!(is_narrow(&rising) && is_narrow(&falling), "e^{x} too wide");
+        assert!(stated.admits(&rising, &rising.high), "e^{x} is too wide");
+        assert!(stated.admits(&falling, &falling.high), "e^-{x} is too wide");
         for depth in depths(x) {
             let estimates = estimates::exponential(&Rational::of(x, 10_000), depth);
             assert!(stands(&rising, &estimates), "e^{x} at {depth}");
@@ -93,6 +118,7 @@ fn every_exponential_and_its_reciprocal() {
             assert!(stands(&falling, &reciprocal), "e^-{x} at {depth}");
         }
     }
+    assert!(stated.is_tight);
 }
 
 #[test]

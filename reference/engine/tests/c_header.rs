@@ -1,12 +1,13 @@
 //! `include/crash_unit.h` compiles without a warning as C and as C++, its names
-//! are the engine's sizes and document 01's numbers, and what it says of stack
-//! and state is so.
+//! are the engine's sizes, document 01's numbers and the stated widths, and what
+//! it says of stack and state is so.
 
 use engine::lines::line_into;
 use engine::program::full_project;
 use engine::projects::project_into;
 use engine::sites::{read_into, write_numbers};
-use engine::{power_into, DONE, TOO_SHORT};
+use engine::{power_into, DONE, EXPONENTIAL_PARTS, LOGARITHM_PARTS, POWER_PARTS, TOO_SHORT};
+use reference::checker::{EXPECTED_EACH, PREDICTED_EACH, WIDTH_PARTS};
 use reference::record::{cause, Refusal};
 use reference::rules::MOST_SITES;
 use std::collections::BTreeMap;
@@ -194,6 +195,46 @@ fn sizes_of_a_site_are_the_engines() {
     assert_eq!(power_into(32, 60, 100, &mut ends), DONE);
     // A segment has no minor traffic.
     assert_eq!(site[3], names["CRASH_ABSENT"]);
+}
+
+/// The number of a definition: `NAME = 4` or `NAME = 10 ^ 8`.
+fn defined(file: &str, name: &str) -> u64 {
+    let text = fs::read_to_string(root().join(file)).expect("a file of definitions");
+    let start = format!("{name} = ");
+    let mut lines = text.lines().filter_map(|line| line.strip_prefix(&start));
+    let number = lines.next().expect("a definition");
+    let parts = number.split(" ^ ").map(|part| part.parse().expect(number));
+    match parts.collect::<Vec<u64>>()[..] {
+        [number] => number,
+        [base, exponent] => base.pow(exponent as u32),
+        _ => panic!("{number}"),
+    }
+}
+
+/// The header's widths and those to which the other tests hold pairs and
+/// brackets are the proved ones.
+#[test]
+fn widths_are_the_stated_ones() {
+    let names = names_in_c("names_widths");
+    let pairs = [
+        ("PREDICTED_EACH", PREDICTED_EACH, "predictedEach"),
+        ("EXPECTED_EACH", EXPECTED_EACH, "expectedEach"),
+        ("WIDTH_PARTS", WIDTH_PARTS, "widthParts"),
+    ];
+    let brackets = [
+        ("POWER_PARTS", POWER_PARTS, "powerWidth"),
+        ("EXPONENTIAL_PARTS", EXPONENTIAL_PARTS, "exponentialWidth"),
+        ("LOGARITHM_PARTS", LOGARITHM_PARTS, "logarithmWidth"),
+    ];
+    for (file, widths) in [
+        ("crates/model/specs/StatedWidths.antt", pairs),
+        ("crates/bracket/specs/Bracket.antt", brackets),
+    ] {
+        for (name, number, definition) in widths {
+            assert_eq!(names[&format!("CRASH_{name}")], number, "{name}");
+            assert_eq!(defined(file, definition), number, "{definition}");
+        }
+    }
 }
 
 /// The calls of a site and of a list of sites answer as the header says, tried

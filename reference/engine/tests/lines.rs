@@ -6,6 +6,7 @@ use engine::program::{Job, JOBS};
 use engine::sites::{numbers_of, read_into};
 use engine::{DONE, OUTSIDE_LIMITS, OUT_OF_RANGE, TOO_SHORT};
 use reference::checker::{site_line_faults, site_standing_faults, Wrong};
+use reference::checker::{PREDICTED_EACH, WIDTH_PARTS};
 use reference::generate::{self, Random};
 use reference::model::FIRST_EDITION;
 use reference::prediction::site_estimates;
@@ -235,7 +236,7 @@ fn a_moved_line_is_noticed() {
         let mut site = generate::site(&mut random);
         site.set(Field::Observed, None);
         let [low, high, ..] = made(&header, &site);
-        let step = 5 + high / 50_000;
+        let step = PREDICTED_EACH + high / WIDTH_PARTS + 1;
         let above = [low + step, high + step, low + step, high + step];
         let noticed = faults(&header, &site, &above);
         let is_above = |wrong: &Wrong| matches!(wrong, Wrong::LowAboveOver(..));
