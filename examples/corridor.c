@@ -33,9 +33,9 @@ static int first_record_comes_back(size_t file_len)
     uint64_t line[CRASH_LINE_NUMBERS];
     uint64_t written = 0;
 
-    if (crash_site_read(part, file_len - CRASH_HEADER_BYTES, values, CRASH_READ_NUMBERS) != CRASH_OK)
+    if (crash_site_read(file[1], part, file_len - CRASH_HEADER_BYTES, values, CRASH_READ_NUMBERS) != CRASH_OK)
         return 0;
-    if (crash_site_write(values, CRASH_READ_NUMBERS, record, sizeof record, &written) != CRASH_OK)
+    if (crash_site_write(file[1], values, CRASH_READ_NUMBERS, record, sizeof record, &written) != CRASH_OK)
         return 0;
     if (crash_line(file[1], two_bytes(2), two_bytes(4), values, CRASH_READ_NUMBERS, line, CRASH_LINE_NUMBERS) != CRASH_OK)
         return 0;
@@ -50,7 +50,7 @@ static size_t gather(size_t file_len)
     size_t numbers = 0;
 
     for (size_t at = CRASH_HEADER_BYTES; at < file_len; at += sites[numbers]) {
-        if (crash_site_read(file + at, file_len - at, sites + numbers, CRASH_READ_NUMBERS) != CRASH_OK)
+        if (crash_site_read(file[1], file + at, file_len - at, sites + numbers, CRASH_READ_NUMBERS) != CRASH_OK)
             break;
         numbers += CRASH_SITE_NUMBERS;
     }

@@ -33,7 +33,7 @@ extern "C" {
 #define CRASH_OUTSIDE_LIMITS 4  /* years, calibration or sites outside limits */
 #define CRASH_KIND_ABOVE 5      /* kind above 3 */
 #define CRASH_BIT_LACKED 6      /* bit the kind lacks */
-#define CRASH_BIT_MISSING 7     /* needed bit absent, or curve bits unmatched */
+#define CRASH_BIT_MISSING 7     /* needed bit absent, curve bits unmatched, or later years in a project of one year */
 #define CRASH_OUTSIDE_RANGE 8   /* field outside its range */
 #define CRASH_DEFAULT_SPELLED 9 /* default spelled out */
 #define CRASH_TOO_SHORT 10      /* report, record buffer or other lent run too short */
@@ -41,11 +41,13 @@ extern "C" {
 /* Sizes: no accepted file, report or record is longer. */
 #define CRASH_HEADER_BYTES 8
 #define CRASH_MOST_SITES 1200
-#define CRASH_LONGEST_RECORD 33                                                            /* bytes */
+#define CRASH_MOST_YEARS 10
+#define CRASH_LATER_YEARS (CRASH_MOST_YEARS - 1)
+#define CRASH_LONGEST_RECORD 53                                                            /* bytes */
 #define CRASH_LONGEST_FILE (CRASH_HEADER_BYTES + CRASH_MOST_SITES * CRASH_LONGEST_RECORD)  /* bytes */
 #define CRASH_LINE_NUMBERS 4
 #define CRASH_LONGEST_REPORT (CRASH_LINE_NUMBERS * (CRASH_MOST_SITES + 1))                 /* numbers */
-#define CRASH_SITE_NUMBERS 21
+#define CRASH_SITE_NUMBERS (21 + 2 * CRASH_LATER_YEARS)
 #define CRASH_READ_NUMBERS (CRASH_SITE_NUMBERS + 1)
 #define CRASH_BRACKET_NUMBERS 4
 #define CRASH_STACK 32768                                                                  /* bytes */
@@ -53,7 +55,8 @@ extern "C" {
 /* Widths, proved for every line, report and bracket. high - low is at most
  *   CRASH_PREDICTED_EACH * sites + high / CRASH_WIDTH_PARTS for a predicted pair,
  *   CRASH_EXPECTED_EACH * (sites + observed crashes) + high / CRASH_WIDTH_PARTS for an expected pair,
- * of a line, which has one site, and of a report's totals, all in millionths of a crash; and for a bracket
+ * of a line, which has one site, and of a report's totals, all in millionths of a crash; a site with traffic year by year counts
+ * as so many sites as the project has years, and each of its observed crashes as so many; and for a bracket
  *   high / CRASH_POWER_PARTS of a power, high / CRASH_EXPONENTIAL_PARTS of e^x and of e^(-x),
  *   1 / CRASH_LOGARITHM_PARTS of a logarithm, whatever its high. */
 #define CRASH_PREDICTED_EACH 4
@@ -71,22 +74,31 @@ uint64_t crash_project(const uint8_t *file, size_t file_len, uint64_t *report, s
 
 /* A site is CRASH_SITE_NUMBERS numbers: its kind (0 segment, 1 three-leg stop, 2 four-leg stop, 3 four-leg signal), then its
  * fields: traffic, length, minor traffic, observed, lane width, shoulder width, shoulder type, curve length, radius, spiral
- * ends, deficiency, grade, driveways, two-way lane, passing, hazard rating, skew, left lanes, right lanes, limited sight. A
- * field that holds no number is CRASH_ABSENT: an absent history, the four fields of a curve on a straight road, and the fields
- * of other kinds. Any other field holds its number, its default too. A call that takes a site reads the first
- * CRASH_SITE_NUMBERS numbers of values and nothing of what follows, so that the CRASH_READ_NUMBERS numbers that
- * crash_site_read leaves are handed on as they are; fewer numbers are a site outside its range. */
+ * ends, deficiency, grade, driveways, two-way lane, passing, hazard rating, skew, left lanes, right lanes, limited sight; then
+ * the traffic of years two to ten, and the minor traffic of years two to ten. A field that holds no number is CRASH_ABSENT: an
+ * absent history, the four fields of a curve on a straight road, and the fields of other kinds. Any other field holds its
+ * number, its default too. Later years are all CRASH_ABSENT where the site has one traffic for all years. Otherwise, in a
+ * project of Y years, years two to Y hold a number in the range of the first and the rest are CRASH_ABSENT, for the traffic and,
+ * at a crossing, for the minor traffic too; anything else, and any later year in a project of one year, is outside the range.
+ * A call that takes a site reads the first CRASH_SITE_NUMBERS numbers of values and nothing of what follows, so that the
+ * CRASH_READ_NUMBERS numbers that crash_site_read leaves are handed on as they are; fewer numbers are a site outside its
+ * range. */
 #define CRASH_ABSENT 65536
 
-/* Reads the record that part starts with.
- * CRASH_OK: values[0] to values[20] are the site, values[21] is the record's length in bytes; the rest of values is as it was.
- * 1, 5 to 9: the record is refused; CRASH_TOO_SHORT, tried last: values has fewer than CRASH_READ_NUMBERS numbers. */
-uint64_t crash_site_read(const uint8_t *part, size_t part_len, uint64_t *values, size_t values_len);
+/* Reads the record that part starts with, in a project of so many years.
+ * CRASH_OK: the first CRASH_SITE_NUMBERS numbers of values are the site, the next is the record's length in bytes; the rest of
+ * values is as it was.
+ * CRASH_OUTSIDE_LIMITS, tried first: years is not from 1 to CRASH_MOST_YEARS. 1, 5 to 9: the record is refused; later years in a
+ * project of one year are CRASH_BIT_MISSING, and a missing one is CRASH_RUNS_PAST. CRASH_TOO_SHORT, tried last: values has fewer
+ * than CRASH_READ_NUMBERS numbers. */
+uint64_t crash_site_read(uint64_t years, const uint8_t *part, size_t part_len, uint64_t *values, size_t values_len);
 
-/* Writes a site's record from the start of buffer; the rest of buffer is as it was.
- * CRASH_OK: *written is the record's length. CRASH_OUTSIDE_RANGE: the site is outside its range. CRASH_TOO_SHORT, tried after
- * that: buffer is too short. On any refusal *written is as it was. */
-uint64_t crash_site_write(const uint64_t *values, size_t values_len, uint8_t *buffer, size_t buffer_len, uint64_t *written);
+/* Writes a site's record from the start of buffer, for a project of so many years; the rest of buffer is as it was.
+ * CRASH_OK: *written is the record's length. CRASH_OUTSIDE_LIMITS, tried first: years is not from 1 to CRASH_MOST_YEARS.
+ * CRASH_OUTSIDE_RANGE, tried next: the site is outside its range. CRASH_TOO_SHORT, tried last: buffer is too short. On any
+ * refusal *written is as it was. */
+uint64_t crash_site_write(uint64_t years, const uint64_t *values, size_t values_len, uint8_t *buffer, size_t buffer_len,
+                          uint64_t *written);
 
 /* Writes the whole project file of a list of sites from the start of buffer; the rest of buffer is as it was. sites has the
  * CRASH_SITE_NUMBERS numbers of each site in turn, without the record's length that crash_site_read leaves after them, and the

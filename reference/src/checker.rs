@@ -73,17 +73,35 @@ pub const PREDICTED_EACH: u64 = 4;
 pub const EXPECTED_EACH: u64 = 8;
 
 /// What a pair's width may be apart from its part of high.
+#[derive(Default)]
 struct Allowance {
     predicted: u128,
     expected: u128,
 }
 
 impl Allowance {
-    fn new(sites: u64, observed: u64) -> Allowance {
+    /// A site counts once for each term of its prediction, and each of its
+    /// observed crashes as often.
+    fn of_site(site: &Site, years: u8) -> Allowance {
+        let sites = site.terms(years).len() as u128;
+        let observed = sites * u128::from(site.observed().unwrap_or(0));
         Allowance {
-            predicted: u128::from(PREDICTED_EACH) * u128::from(sites),
-            expected: u128::from(EXPECTED_EACH) * (u128::from(sites) + u128::from(observed)),
+            predicted: u128::from(PREDICTED_EACH) * sites,
+            expected: u128::from(EXPECTED_EACH) * (sites + observed),
         }
+    }
+
+    /// The totals' is that of all sites.
+    fn of_project(project: &Project) -> Allowance {
+        let years = project.header.years;
+        let sites = project.sites.iter();
+        sites.fold(Allowance::default(), |sum, site| {
+            let more = Allowance::of_site(site, years);
+            Allowance {
+                predicted: sum.predicted + more.predicted,
+                expected: sum.expected + more.expected,
+            }
+        })
     }
 }
 
@@ -229,11 +247,10 @@ fn sum_faults(lines: &[u64], totals: &[u64]) -> Vec<Wrong> {
     (0..4).filter(wrong).map(Wrong::NotSum).collect()
 }
 
-/// Every fault of a site's four numbers that shows without estimates: order,
-/// widths and the expected pair.
-pub fn site_line_faults(model: &Model, site: &Site, numbers: &[u64]) -> Vec<Wrong> {
-    let allowance = Allowance::new(1, site.observed().unwrap_or(0));
-    let mut faults = pair_faults(numbers, &allowance);
+/// Every fault of a site's four numbers over so many years that shows without
+/// estimates: order, widths and the expected pair.
+pub fn site_line_faults(model: &Model, years: u8, site: &Site, numbers: &[u64]) -> Vec<Wrong> {
+    let mut faults = pair_faults(numbers, &Allowance::of_site(site, years));
     faults.extend(history_faults(model, site, numbers));
     faults
 }
@@ -244,11 +261,10 @@ fn shape_faults(model: &Model, project: &Project, report: &[u64]) -> Vec<Fault> 
     let (lines, totals) = report.split_at(4 * project.sites.len());
     for (index, (site, numbers)) in project.sites.iter().zip(lines.chunks(4)).enumerate() {
         let line = Line::Site(index);
-        let wrongs = site_line_faults(model, site, numbers);
+        let wrongs = site_line_faults(model, project.header.years, site, numbers);
         faults.extend(wrongs.into_iter().map(|wrong| Fault { line, wrong }));
     }
-    let allowance = Allowance::new(project.sites.len() as u64, project.observed());
-    let mut wrongs = pair_faults(totals, &allowance);
+    let mut wrongs = pair_faults(totals, &Allowance::of_project(project));
     wrongs.extend(sum_faults(lines, totals));
     let line = Line::Totals;
     faults.extend(wrongs.into_iter().map(|wrong| Fault { line, wrong }));

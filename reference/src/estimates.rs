@@ -3,6 +3,7 @@
 
 use crate::natural::Natural;
 use crate::rational::Rational;
+use crate::sum::exact_sum;
 
 /// An under-estimate and an over-estimate of one value.
 #[derive(Clone, Debug, PartialEq, Eq)]
@@ -25,6 +26,16 @@ impl Estimates {
         Estimates {
             under: &self.under * &other.under,
             over: &self.over * &other.over,
+        }
+    }
+
+    /// The estimates of a sum.
+    pub fn sum(parts: impl IntoIterator<Item = Estimates>) -> Estimates {
+        let ends = parts.into_iter().map(|part| (part.under, part.over));
+        let (unders, overs): (Vec<_>, Vec<_>) = ends.unzip();
+        Estimates {
+            under: exact_sum(&unders),
+            over: exact_sum(&overs),
         }
     }
 

@@ -2,10 +2,10 @@
 //! them.
 
 use crate::project::{encode_header, write_project, Header, Project};
-use crate::record::{encode_record, write_site, Site, RECORD_HEAD};
+use crate::record::{encode_record, values_of, write_site, Site, RECORD_HEAD};
 use crate::rules::{
-    rules, Field, Presence, Rule, EDITION, FIELD_NAMES, KIND_NAMES, MOST_CALIBRATION, MOST_SITES,
-    MOST_YEARS, SEGMENT,
+    rules, Field, Presence, Rule, EDITION, FIELD_NAMES, KIND_NAMES, LATER_YEARS, MOST_CALIBRATION,
+    MOST_SITES, MOST_YEARS, SEGMENT, TRAFFIC_FIELDS, YEARLY_BIT,
 };
 
 /// A small generator of numbers (splitmix64): the same seed, the same run.
@@ -54,9 +54,8 @@ const TRAFFIC_EDGES: [u16; 12] = [
 
 /// A value in a rule's range, often at an edge.
 fn value(random: &mut Random, rule: &Rule) -> u16 {
-    let traffic = matches!(rule.field, Field::Traffic | Field::MinorTraffic);
     match random.below(4) {
-        0 if traffic => random.pick(&TRAFFIC_EDGES),
+        0 if rule.is_traffic() => random.pick(&TRAFFIC_EDGES),
         0 => random.pick(&[rule.low, rule.high]),
         1 => {
             let step = random.between(0, 2).min(rule.high - rule.low);
@@ -66,15 +65,42 @@ fn value(random: &mut Random, rule: &Rule) -> u16 {
     }
 }
 
-/// A site that the writer accepts.
-pub fn site(random: &mut Random) -> Site {
+/// A site that the writer accepts for so many years, half of them with traffic
+/// year by year where there is a second year.
+pub fn site(random: &mut Random, years: u8) -> Site {
+    let site = plain_site(random);
+    if random.once_in(2) {
+        yearly(random, site, years)
+    } else {
+        site
+    }
+}
+
+/// A site that the writer accepts for any years.
+pub fn plain_site(random: &mut Random) -> Site {
     let kind = random.below(KIND_NAMES.len()) as u8;
     let curve = random.once_in(2);
     site_of(random, kind, curve)
 }
 
-pub fn sites(random: &mut Random, count: usize) -> Vec<Site> {
-    (0..count).map(|_| site(random)).collect()
+pub fn sites(random: &mut Random, years: u8, count: usize) -> Vec<Site> {
+    (0..count).map(|_| site(random, years)).collect()
+}
+
+fn plain_sites(random: &mut Random, count: usize) -> Vec<Site> {
+    (0..count).map(|_| plain_site(random)).collect()
+}
+
+/// The same site with a traffic of its own in each later year.
+pub fn yearly(random: &mut Random, mut site: Site, years: u8) -> Site {
+    let table = rules(site.kind).unwrap_or(&[]);
+    for rule in table.iter().filter(|rule| rule.is_traffic()) {
+        for year in 2..=usize::from(years) {
+            let drawn = value(random, rule);
+            site.set_later(rule.field, year, Some(drawn));
+        }
+    }
+    site
 }
 
 /// A site of a kind, on a curve or straight.
@@ -102,16 +128,20 @@ fn site_of(random: &mut Random, kind: u8, curve: bool) -> Site {
 
 /// A site with some slots replaced, emptied or filled, which the writer may
 /// refuse.
-pub fn disturbed_site(random: &mut Random) -> Site {
-    let mut site = site(random);
+pub fn disturbed_site(random: &mut Random, years: u8) -> Site {
+    let mut site = site(random, years);
     for _ in 0..random.below(3) {
-        let (field, _) = random.pick(&FIELD_NAMES);
         let value = match random.below(4) {
             0 => None,
             1 => Some(random.next() as u16),
             _ => Some(random.between(0, 20)),
         };
-        site.set(field, value);
+        if random.once_in(4) {
+            let year = 2 + random.below(LATER_YEARS);
+            site.set_later(random.pick(&TRAFFIC_FIELDS), year, value);
+        } else {
+            site.set(random.pick(&FIELD_NAMES).0, value);
+        }
     }
     if random.once_in(20) {
         site.kind = random.next() as u8;
@@ -132,32 +162,52 @@ pub enum Damage {
     PartOfCurve,
     /// A value that the kind lacks.
     Foreign,
+    /// The later years of a project with other years, also of one with one year.
+    OtherYears,
+    /// A year that is not given before one that is.
+    SkippedYear,
+    /// A later year's value outside its range.
+    LaterValue,
+    /// A crossing whose one traffic has later years, and the other has not.
+    OneTraffic,
+    /// Later years of a traffic that a segment lacks.
+    ForeignYears,
 }
 
-pub const DAMAGES: [Damage; 6] = [
+pub const DAMAGES: [Damage; 11] = [
     Damage::Kind,
     Damage::Value,
     Damage::Missing,
     Damage::HalfCurve,
     Damage::PartOfCurve,
     Damage::Foreign,
+    Damage::OtherYears,
+    Damage::SkippedYear,
+    Damage::LaterValue,
+    Damage::OneTraffic,
+    Damage::ForeignYears,
 ];
 
 /// Kinds that there are not.
 const NO_KINDS: [u8; 5] = [4, 5, 6, 128, 255];
 
 /// A site that the writer refuses for this damage alone.
-pub fn damaged_site(random: &mut Random, damage: Damage) -> Site {
+pub fn damaged_site(random: &mut Random, years: u8, damage: Damage) -> Site {
     let mut site = match damage {
         Damage::HalfCurve => site_of(random, SEGMENT, true),
-        Damage::PartOfCurve => site_of(random, SEGMENT, false),
-        _ => site(random),
+        Damage::PartOfCurve | Damage::ForeignYears => site_of(random, SEGMENT, false),
+        Damage::OneTraffic => {
+            let kind = random.between(1, KIND_NAMES.len() as u16 - 1) as u8;
+            site_of(random, kind, false)
+        }
+        Damage::OtherYears | Damage::SkippedYear | Damage::LaterValue => plain_site(random),
+        _ => site(random, years),
     };
-    damage_site(random, &mut site, damage);
+    damage_site(random, years, &mut site, damage);
     site
 }
 
-fn damage_site(random: &mut Random, site: &mut Site, damage: Damage) {
+fn damage_site(random: &mut Random, years: u8, site: &mut Site, damage: Damage) {
     let table = rules(site.kind).unwrap_or(&[]);
     let curve = site.is_curve();
     let is_asked = |rule: &Rule| curve || !rule.is_of_curve();
@@ -181,6 +231,45 @@ fn damage_site(random: &mut Random, site: &mut Site, damage: Damage) {
         Damage::Foreign => {
             let field = foreign_field(random, table);
             site.set(field, Some(random.between(0, 20)));
+        }
+        _ => damage_years(random, years, site, damage),
+    }
+}
+
+/// Gives a plain site later years that the writer refuses, whatever the years.
+fn damage_years(random: &mut Random, years: u8, site: &mut Site, damage: Damage) {
+    let table = rules(site.kind).unwrap_or(&[]);
+    let traffic = pick_rule(random, table, Rule::is_traffic);
+    match damage {
+        Damage::OtherYears => {
+            let others: Vec<u8> = (2..=MOST_YEARS).filter(|other| *other != years).collect();
+            let other = random.pick(&others);
+            *site = yearly(random, *site, other);
+        }
+        Damage::SkippedYear => {
+            *site = yearly(random, *site, years.max(3));
+            site.set_later(traffic.field, 2, None);
+        }
+        Damage::LaterValue => {
+            let years = years.max(2);
+            *site = yearly(random, *site, years);
+            let year = random.between(2, years.into()).into();
+            site.set_later(traffic.field, year, Some(outside(random, &traffic)));
+        }
+        Damage::OneTraffic => {
+            *site = yearly(random, *site, years.max(2));
+            for year in 2..=usize::from(years.max(2)) {
+                site.set_later(traffic.field, year, None);
+            }
+        }
+        // Beside the segment's own later years or alone.
+        _ => {
+            if random.once_in(2) {
+                *site = yearly(random, *site, years);
+            }
+            for year in 2..=usize::from(years.max(2)) {
+                site.set_later(Field::MinorTraffic, year, Some(random.between(1, 20)));
+            }
         }
     }
 }
@@ -220,12 +309,16 @@ pub fn edges(most: u64) -> Vec<u64> {
     near.into_iter().chain(wide).collect()
 }
 
-/// A project with this many sites.
+/// A project with this many sites. A third of the projects have traffic year
+/// by year.
 pub fn project_of(random: &mut Random, count: usize) -> Project {
-    Project {
-        header: header(random),
-        sites: sites(random, count),
-    }
+    let header = header(random);
+    let sites = if random.once_in(3) {
+        sites(random, header.years, count)
+    } else {
+        plain_sites(random, count)
+    };
+    Project { header, sites }
 }
 
 /// A project, most often small.
@@ -245,7 +338,8 @@ pub fn largest_project(random: &mut Random) -> Project {
 
 /// The records of a project, one list of bytes each.
 fn records(project: &Project) -> Vec<Vec<u8>> {
-    let record = |site| write_site(site, usize::MAX).expect("a site that the writer takes");
+    let years = project.header.years.into();
+    let record = |site| write_site(years, site, usize::MAX).expect("a site that the writer takes");
     project.sites.iter().map(record).collect()
 }
 
@@ -255,25 +349,32 @@ fn assemble(header: &Header, count: u16, records: &[Vec<u8>]) -> Vec<u8> {
     file
 }
 
-/// A record taken apart, free to be made wrong.
+/// A record taken apart, free to be made wrong: the values of each standing
+/// field, more than one where a traffic has later years.
 struct RawRecord {
     kind: u8,
     map: u16,
-    fields: Vec<u16>,
+    fields: Vec<Vec<u16>>,
 }
 
 impl RawRecord {
-    fn of(record: &[u8]) -> RawRecord {
-        let fields = record[RECORD_HEAD..].chunks(2);
-        RawRecord {
-            kind: record[0],
-            map: u16::from_be_bytes([record[1], record[2]]),
-            fields: fields.map(|f| u16::from_be_bytes([f[0], f[1]])).collect(),
-        }
+    /// A record that the writer made for so many years.
+    fn of(record: &[u8], years: u8) -> RawRecord {
+        let (kind, map) = (record[0], u16::from_be_bytes([record[1], record[2]]));
+        let words = record[RECORD_HEAD..].chunks(2);
+        let mut values = words.map(|word| u16::from_be_bytes([word[0], word[1]]));
+        let table = rules(kind).unwrap_or(&[]).iter();
+        let standing = table.filter(|rule| map >> rule.bit & 1 == 1);
+        let fields = standing.map(|rule| {
+            let count = values_of(map, years, rule);
+            values.by_ref().take(count).collect()
+        });
+        let fields = fields.collect();
+        RawRecord { kind, map, fields }
     }
 
     fn encode(&self) -> Vec<u8> {
-        encode_record(self.kind, self.map, &self.fields)
+        encode_record(self.kind, self.map, &self.fields.concat())
     }
 
     /// The fields before a bit's own.
@@ -284,20 +385,30 @@ impl RawRecord {
     /// Makes a bit stand with this value.
     fn put(&mut self, bit: u32, value: u16) {
         let at = self.position(bit);
-        if self.map >> bit & 1 == 1 {
-            self.fields[at] = value;
-        } else {
+        if self.map >> bit & 1 == 0 {
             self.map |= 1 << bit;
-            self.fields.insert(at, value);
+            self.fields.insert(at, vec![value]);
+        } else if let Some(values) = self.fields.get_mut(at) {
+            values[0] = value;
         }
     }
 
-    /// Takes a bit and its field away.
+    /// Takes a bit and its values away.
     fn take(&mut self, bit: u32) {
-        if self.map >> bit & 1 == 1 {
-            let at = self.position(bit);
-            self.map &= !(1 << bit);
+        let at = self.position(bit);
+        if self.map >> bit & 1 == 1 && at < self.fields.len() {
             self.fields.remove(at);
+        }
+        self.map &= !(1 << bit);
+    }
+
+    /// Gives each traffic a value for each year.
+    fn make_yearly(&mut self, random: &mut Random, years: u8) {
+        self.map |= 1 << YEARLY_BIT;
+        let table = rules(self.kind).unwrap_or(&[]);
+        for rule in table.iter().filter(|rule| rule.is_traffic()) {
+            let at = self.position(rule.bit);
+            self.fields[at].resize_with(years.into(), || value(random, rule));
         }
     }
 }
@@ -312,12 +423,12 @@ fn outside(random: &mut Random, rule: &Rule) -> u16 {
     }
 }
 
-/// Makes one record wrong in its kind, its map or a field.
-fn damage_record(random: &mut Random, record: &[u8]) -> Vec<u8> {
-    let mut raw = RawRecord::of(record);
+/// Makes one record wrong in its kind, its map, a field or its later years.
+fn damage_record(random: &mut Random, years: u8, record: &[u8]) -> Vec<u8> {
+    let mut raw = RawRecord::of(record, years);
     let rules = rules(raw.kind).unwrap_or(&[]);
     let rule = random.pick(rules);
-    match random.below(8) {
+    match random.below(10) {
         0 => raw.kind = random.pick(&NO_KINDS),
         1 => raw.kind = random.below(4) as u8,
         2 => {
@@ -327,9 +438,28 @@ fn damage_record(random: &mut Random, record: &[u8]) -> Vec<u8> {
         3 => raw.take(random.below(16) as u32),
         4 => raw.map ^= 1 << random.below(16),
         5 => raw.put(rule.bit, outside(random, &rule)),
+        6 | 7 => damage_later(random, &mut raw, years),
         _ => spell_default(random, &mut raw, rules),
     }
     raw.encode()
+}
+
+/// Gives a record later years with one too few or too many of a traffic, or a
+/// year outside its range. In a project of one year any are wrong.
+fn damage_later(random: &mut Random, raw: &mut RawRecord, years: u8) {
+    raw.make_yearly(random, years);
+    let table = rules(raw.kind).unwrap_or(&[]);
+    let rule = pick_rule(random, table, Rule::is_traffic);
+    let at = raw.position(rule.bit);
+    let values = &mut raw.fields[at];
+    match random.below(4) {
+        0 => values.truncate(values.len() - 1),
+        1 => values.push(value(random, &rule)),
+        _ => {
+            let year = random.below(values.len());
+            values[year] = outside(random, &rule);
+        }
+    }
 }
 
 /// Writes out the default of one field.
@@ -389,15 +519,17 @@ pub fn damaged_file(random: &mut Random) -> Vec<u8> {
 
 /// The project's file with one record, or rarely two, made wrong.
 fn with_damaged_records(random: &mut Random, project: &Project) -> Vec<u8> {
+    let years = project.header.years;
     let mut records = records(project);
     if records.is_empty() {
-        records = vec![write_site(&site(random), usize::MAX).expect("a writable site")];
+        let site = site(random, years);
+        records = vec![write_site(years.into(), &site, usize::MAX).expect("a writable site")];
     }
     let first = random.below(records.len());
-    records[first] = damage_record(random, &records[first]);
+    records[first] = damage_record(random, years, &records[first]);
     if records.len() > 1 && random.once_in(4) {
         let second = (first + 1) % records.len();
-        records[second] = damage_record(random, &records[second]);
+        records[second] = damage_record(random, years, &records[second]);
     }
     let mut file = assemble(&project.header, records.len() as u16, &records);
     if random.once_in(8) {

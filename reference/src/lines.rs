@@ -2,6 +2,7 @@
 //!
 //! Four header lines, then one line for each site: the name of its kind and
 //! its fields, each a name and a number. A defaulted field may be left out.
+//! Traffic year by year is one number for each year, joined by commas.
 
 use crate::project::{write_project, Header, Project};
 use crate::record::Site;
@@ -42,12 +43,18 @@ pub fn dump(project: &Project) -> String {
 fn site_line(site: &Site) -> String {
     let mut line = KIND_NAMES[usize::from(site.kind)].to_string();
     for (field, name) in FIELD_NAMES {
+        let later = site.later(field).iter().flatten();
         if let Some(value) = site.get(field) {
-            line.push_str(&format!(" {name} {value}"));
+            let years = std::iter::once(&value).chain(later);
+            let years: Vec<String> = years.map(u16::to_string).collect();
+            line.push_str(&format!(" {name} {}", years.join(YEARS_APART)));
         }
     }
     line
 }
+
+/// What stands between the numbers of two years.
+const YEARS_APART: &str = ",";
 
 /// The numbers allowed, in words.
 fn range(allowed: &RangeInclusive<u16>) -> String {
@@ -61,7 +68,7 @@ fn range(allowed: &RangeInclusive<u16>) -> String {
 
 /// Reads a number that a name has, or says what it may be.
 fn number(name: &str, text: &str, allowed: &RangeInclusive<u16>) -> Result<u16, String> {
-    let plain = text.bytes().all(|b| b.is_ascii_digit());
+    let plain = !text.is_empty() && text.bytes().all(|b| b.is_ascii_digit());
     let found = text.parse().ok().filter(|n| plain && allowed.contains(n));
     let shown = || match plain {
         true => text.to_string(),
@@ -78,9 +85,9 @@ fn header_number(line: &str, name: &str, allowed: &RangeInclusive<u16>) -> Resul
     }
 }
 
-/// Reads a site's line and fills in its defaults. What the site writer would
-/// refuse is told in words.
-pub fn site(line: &str) -> Result<Site, String> {
+/// Reads a site's line in a project of so many years and fills in its defaults.
+/// What the site writer would refuse is told in words.
+pub fn site(years: u8, line: &str) -> Result<Site, String> {
     let words: Vec<&str> = line.split_whitespace().collect();
     let (kind_name, pairs) = words.split_first().ok_or("an empty line")?;
     let kind = KIND_NAMES.iter().position(|name| name == kind_name);
@@ -90,7 +97,7 @@ pub fn site(line: &str) -> Result<Site, String> {
     })?;
     let mut site = Site::empty(kind as u8);
     for pair in pairs.chunks(2) {
-        read_value(&mut site, pair)?;
+        read_value(&mut site, years, pair)?;
     }
     let table = rules(site.kind).unwrap_or(&[]);
     fill_defaults(&mut site, table);
@@ -98,8 +105,9 @@ pub fn site(line: &str) -> Result<Site, String> {
     Ok(site)
 }
 
-/// Reads a field's name and number into a site.
-fn read_value(site: &mut Site, pair: &[&str]) -> Result<(), String> {
+/// Reads a field's name and its number, or a traffic's number for each year,
+/// into a site.
+fn read_value(site: &mut Site, years: u8, pair: &[&str]) -> Result<(), String> {
     let name = pair[0];
     let known = FIELD_NAMES.iter().find(|(_, known)| *known == name);
     let (field, _) = *known.ok_or_else(|| format!("there is no field {name:?}"))?;
@@ -112,8 +120,27 @@ fn read_value(site: &mut Site, pair: &[&str]) -> Result<(), String> {
     if site.get(field).is_some() {
         return Err(format!("{name} stands twice"));
     }
-    site.set(field, Some(number(name, text, &rule.range())?));
+    if rule.is_traffic() && text.contains(YEARS_APART) {
+        *site = site.with_years(field, &yearly_numbers(rule, years, text)?);
+    } else {
+        site.set(field, Some(number(name, text, &rule.range())?));
+    }
     Ok(())
+}
+
+/// Reads the numbers of a traffic's years.
+fn yearly_numbers(rule: &Rule, years: u8, text: &str) -> Result<Vec<u16>, String> {
+    let name = rule.field.name();
+    let each: Vec<&str> = text.split(YEARS_APART).collect();
+    if each.len() != usize::from(years) {
+        let found = each.len();
+        return Err(format!("{name} has {found} numbers for {years} years"));
+    }
+    let numbers = (1..).zip(each).map(|(year, text)| {
+        let name = format!("{name} of year {year}");
+        number(&name, text, &rule.range())
+    });
+    numbers.collect()
 }
 
 fn fill_defaults(site: &mut Site, table: &[Rule]) {
@@ -130,6 +157,7 @@ fn fill_defaults(site: &mut Site, table: &[Rule]) {
 fn matched(site: &Site, rule: &Rule) -> Result<(), String> {
     let curve = site.is_curve() || site.get(Field::Radius).is_some();
     let name = rule.field.name();
+    let is_of_one_year = site.later(rule.field).iter().all(Option::is_none);
     match (rule.presence, site.get(rule.field)) {
         (Presence::Needed, None) => Err(format!("{name} is missing; {}", range(&rule.range()))),
         (Presence::Curve, None) if curve => Err(format!(
@@ -139,6 +167,11 @@ fn matched(site: &Site, rule: &Rule) -> Result<(), String> {
         (Presence::CurveDefault(_), Some(value)) if !curve => Err(format!(
             "{name} is {value} without a curve-length and a radius"
         )),
+        (_, Some(value)) if rule.is_traffic() && is_of_one_year && site.is_yearly() => {
+            Err(format!(
+                "{name} is {value}; it must have a number for each year, as the other traffic has"
+            ))
+        }
         _ => Ok(()),
     }
 }
@@ -174,15 +207,6 @@ pub fn parse(text: &str) -> Result<Project, String> {
         *found =
             header_number(line, name, &allowed).map_err(|what| format!("line {at}: {what}"))?;
     }
-    let mut sites = Vec::new();
-    for (at, line) in lines {
-        let place = |what: String| format!("line {at}, site {}: {what}", sites.len() + 1);
-        if sites.len() == MOST_SITES {
-            return Err(place(format!("there may be {MOST_SITES} sites at most")));
-        }
-        let site = site(line).map_err(place)?;
-        sites.push(site);
-    }
     let [edition, years, segment_calibration, crossing_calibration] = numbers;
     let header = Header {
         edition: edition as u8,
@@ -190,6 +214,15 @@ pub fn parse(text: &str) -> Result<Project, String> {
         segment_calibration,
         crossing_calibration,
     };
+    let mut sites = Vec::new();
+    for (at, line) in lines {
+        let place = |what: String| format!("line {at}, site {}: {what}", sites.len() + 1);
+        if sites.len() == MOST_SITES {
+            return Err(place(format!("there may be {MOST_SITES} sites at most")));
+        }
+        let site = site(header.years, line).map_err(place)?;
+        sites.push(site);
+    }
     Ok(Project { header, sites })
 }
 

@@ -20,37 +20,48 @@ pub struct SiteEstimates {
     pub expected: Estimates,
 }
 
-/// Estimates of the crashes predicted for a site over the header's years.
+/// Estimates of the crashes predicted for a site over the header's years: the
+/// sum of its terms. What does not rest on traffic is the same in each, so it
+/// is taken out of the sum, which keeps the fractions short.
 pub fn predicted(model: &Model, header: &Header, site: &Site, depth: u32) -> Estimates {
-    let (estimates, calibration) = match model.of_kind(site.kind) {
+    let (constant, calibration) = match model.of_kind(site.kind) {
         KindModel::Segment(segment) => (
-            segment_year(segment, site, depth),
+            segment_constant(segment, site, depth),
             header.segment_calibration,
         ),
         KindModel::Crossing(crossing) => (
-            crossing_year(crossing, site, depth),
+            crossing_constant(crossing, site, depth),
             header.crossing_calibration,
         ),
     };
-    let years = u64::from(header.years);
-    estimates.scaled(&Rational::of(years * u64::from(calibration), 1_000))
+    let terms = site.terms(header.years).into_iter().map(|(years, site)| {
+        let year = match model.of_kind(site.kind) {
+            KindModel::Segment(segment) => segment_traffic(segment, &site, depth),
+            KindModel::Crossing(crossing) => crossing_traffic(crossing, &site, depth),
+        };
+        year.scaled(&Rational::whole(years.into()))
+    });
+    Estimates::sum(terms)
+        .times(&constant)
+        .scaled(&Rational::of(calibration.into(), 1_000))
 }
 
-/// One year of a segment before calibration.
-fn segment_year(model: &SegmentModel, site: &Site, depth: u32) -> Estimates {
+/// What of a segment's year does not rest on traffic and is no fraction.
+fn segment_constant(model: &SegmentModel, site: &Site, depth: u32) -> Estimates {
+    exponential_of_negative(&model.base_exponent.exact(), depth).times(&hazard(
+        model,
+        site.value(Field::HazardRating),
+        depth,
+    ))
+}
+
+/// The rest of a segment's year before calibration.
+fn segment_traffic(model: &SegmentModel, site: &Site, depth: u32) -> Estimates {
     let traffic = site.value(Field::Traffic);
     let length = site.value(Field::Length);
     let exposure = &model.exposure.exact() * &Rational::of(traffic * length, 1_000);
     let exact = &exposure * &factors::of_segment(model, site);
-    exponential_of_negative(&model.base_exponent.exact(), depth)
-        .times(&hazard(model, site.value(Field::HazardRating), depth))
-        .times(&driveway(
-            model,
-            site.value(Field::Driveways),
-            traffic,
-            depth,
-        ))
-        .scaled(&exact)
+    driveway(model, site.value(Field::Driveways), traffic, depth).scaled(&exact)
 }
 
 /// e^(0.0668 (rating - 3)); a rating below 3 makes the exponent negative.
@@ -69,14 +80,17 @@ fn driveway(model: &SegmentModel, driveways: u64, traffic: u64, depth: u32) -> E
     logarithm(traffic, depth).through(|log| factors::driveway(model, driveways, log))
 }
 
-/// One year of a crossing before calibration.
-fn crossing_year(model: &CrossingModel, site: &Site, depth: u32) -> Estimates {
-    let raised = |field, exponent| power(site.value(field), exponent, model.power_unit, depth);
+/// What of a crossing's year does not rest on traffic.
+fn crossing_constant(model: &CrossingModel, site: &Site, depth: u32) -> Estimates {
     exponential_of_negative(&model.base_exponent.exact(), depth)
-        .times(&raised(Field::Traffic, model.major_power))
-        .times(&raised(Field::MinorTraffic, model.minor_power))
         .times(&skew(model, site, depth))
         .scaled(&factors::of_crossing(model, site))
+}
+
+/// The powers of a crossing's two traffics in a year.
+fn crossing_traffic(model: &CrossingModel, site: &Site, depth: u32) -> Estimates {
+    let raised = |field, exponent| power(site.value(field), exponent, model.power_unit, depth);
+    raised(Field::Traffic, model.major_power).times(&raised(Field::MinorTraffic, model.minor_power))
 }
 
 /// e^(slope skew), or 1 where skew does not count.

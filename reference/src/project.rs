@@ -1,14 +1,14 @@
 //! The project file: header and records, with document 01's refusals in
 //! their order, and those of document 02's writer.
 
-use crate::record::{cause, read_site, write_site, Refusal, Site};
-use crate::rules::{EDITION, MOST_CALIBRATION, MOST_SITES, MOST_YEARS};
+use crate::record::{cause, read_site, write_site, Refusal, Site, LONGEST_RECORD};
+use crate::rules::{years_within, EDITION, MOST_CALIBRATION, MOST_SITES, MOST_YEARS};
 
 /// Bytes of the header.
 pub const HEADER: usize = 8;
 
-/// The longest project file: the header and the most sites with every bit.
-pub const LONGEST_FILE: usize = HEADER + MOST_SITES * (3 + 2 * 15);
+/// The longest project file: the header and the most sites, each at its longest.
+pub const LONGEST_FILE: usize = HEADER + MOST_SITES * LONGEST_RECORD;
 
 /// The header's values apart from the count of sites.
 #[derive(Clone, Copy, Debug, PartialEq, Eq)]
@@ -50,11 +50,6 @@ impl Project {
     pub fn report_length(&self) -> usize {
         4 * (self.sites.len() + 1)
     }
-
-    /// The observed crashes of the sites that have a history.
-    pub fn observed(&self) -> u64 {
-        self.sites.iter().filter_map(Site::observed).sum()
-    }
 }
 
 fn refuse<T>(number: u8, place: usize) -> Result<T, Refusal> {
@@ -63,7 +58,7 @@ fn refuse<T>(number: u8, place: usize) -> Result<T, Refusal> {
 
 fn limits_kept(header: &Header, sites: usize) -> bool {
     let calibrated = |value| (1..=MOST_CALIBRATION).contains(&value);
-    (1..=MOST_YEARS).contains(&header.years)
+    years_within(header.years.into()).is_some()
         && calibrated(header.segment_calibration)
         && calibrated(header.crossing_calibration)
         && sites <= MOST_SITES
@@ -94,10 +89,12 @@ fn read_header(file: &[u8]) -> Result<(Header, usize), Refusal> {
 /// Reads a project file whose report has space: refusals 1 to 9.
 pub fn parse_project(file: &[u8]) -> Result<Project, Refusal> {
     let (header, count) = read_header(file)?;
+    let years = header.years.into();
     let mut sites = Vec::with_capacity(count);
     let mut at = HEADER;
     for _ in 0..count {
-        let (site, length) = read_site(&file[at..]).map_err(|number| Refusal::of(number, at))?;
+        let read = read_site(years, &file[at..]);
+        let (site, length) = read.map_err(|number| Refusal::of(number, at))?;
         sites.push(site);
         at += length;
     }
@@ -146,8 +143,8 @@ pub fn write_file(header: [u64; 3], sites: &[Site], room: usize) -> Result<Vec<u
     };
     let mut file = encode_header(&header, sites.len() as u16);
     for (index, site) in sites.iter().enumerate() {
-        let record = write_site(site, usize::MAX).map_err(|number| Refusal::of(number, index))?;
-        file.extend(record);
+        let record = write_site(header.years.into(), site, usize::MAX);
+        file.extend(record.map_err(|number| Refusal::of(number, index))?);
     }
     if room < file.len() {
         return refuse(cause::TOO_SHORT, 0);

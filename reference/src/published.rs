@@ -5,7 +5,8 @@
 //! - Factors ([`factors`]): tables 3 to 5 and the factors that the text
 //!   prints, as the ratio of two sites that differ in one field.
 //! - Crashes and rates ([`table`]): tables 6 to 22.
-//! - Histories ([`examples`]): tables 24, 25 and 27.
+//! - Years with their traffic, and histories ([`examples`]): tables 24, 25 and
+//!   27.
 
 mod cells;
 
@@ -13,14 +14,20 @@ use self::cells::*;
 use crate::estimates::Estimates;
 use crate::rational::Rational;
 use crate::record::Site;
-use crate::rules::{Field, FOUR_LEG_SIGNAL, FOUR_LEG_STOP, SEGMENT, THREE_LEG_STOP};
-use crate::sum::exact_sum;
+use crate::rules::{
+    Field, FOUR_LEG_SIGNAL, FOUR_LEG_STOP, SEGMENT, THREE_LEG_STOP, TRAFFIC_FIELDS,
+};
 
 /// Whether both estimates round to `printed` units of 1/`unit`.
 pub fn prints(estimates: &Estimates, printed: u64, unit: u64) -> bool {
+    prints_parts(estimates, &[printed], unit)
+}
+
+/// Whether both estimates may be the sum of values that round to these units.
+fn prints_parts(estimates: &Estimates, printed: &[u64], unit: u64) -> bool {
     let half = |count: u64| Rational::of(count, 2 * unit);
-    let least = half((2 * printed).saturating_sub(1));
-    least <= estimates.under && estimates.over <= half(2 * printed + 1)
+    let (halves, slack) = (2 * printed.iter().sum::<u64>(), printed.len() as u64);
+    half(halves.saturating_sub(slack)) <= estimates.under && estimates.over <= half(halves + slack)
 }
 
 /// Sites with their weights, which have the sum 1.
@@ -49,14 +56,9 @@ impl Cell {
                 Measure::Crashes => Rational::one(),
                 Measure::Rate => Rational::of(1_000_000, 365 * site.value(Field::Traffic)),
             };
-            let scale = weight * &unit;
-            (&scale * &found.under, &scale * &found.over)
+            found.scaled(&(weight * &unit))
         };
-        let (unders, overs): (Vec<_>, Vec<_>) = self.parts.iter().map(scaled).unzip();
-        Estimates {
-            under: exact_sum(&unders),
-            over: exact_sum(&overs),
-        }
+        Estimates::sum(self.parts.iter().map(scaled))
     }
 }
 
@@ -846,12 +848,14 @@ pub fn factors() -> Vec<Factor> {
 }
 
 /// A site over the nine years of the report's example, in thousandths of a
-/// crash. A project has one traffic and one calibration, so each year is a
-/// project of one year, and the sum of the nine is the report's sum.
+/// crash. A project has one calibration, so a year is a project, and so are the
+/// years of a period, which has one calibration, with their traffic year by
+/// year. The sums over the years and over the periods are the report's sum.
 pub struct Example {
     pub name: &'static str,
     pub calibrations: [u16; 9],
-    pub sites: Vec<Site>,
+    /// With the traffic of the nine years.
+    pub site: Site,
     pub printed: [u64; 9],
     pub printed_sum: u64,
     /// Predicted and observed crashes of the nine years and the expected ones:
@@ -860,12 +864,15 @@ pub struct Example {
     pub expected: [(u64, u16, u64); 3],
 }
 
+/// The years of a period.
+const PERIOD: usize = 3;
+
 impl Example {
     /// What a model predicts for each year, given calibration and site.
     pub fn years(&self, year: impl Fn(u16, &Site) -> Estimates) -> Vec<Estimates> {
-        let pairs = self.sites.iter().zip(self.calibrations);
-        pairs
-            .map(|(site, calibration)| year(calibration, site))
+        let years = (1..).zip(self.calibrations);
+        years
+            .map(|(at, calibration)| year(calibration, &self.site.in_year(at)))
             .collect()
     }
 
@@ -876,13 +883,36 @@ impl Example {
             let name = self.name;
             assert!(prints(found, printed, 1_000), "{name}, 19{}", 89 + index);
         }
-        let unders: Vec<Rational> = years.iter().map(|y| y.under.clone()).collect();
-        let overs: Vec<Rational> = years.iter().map(|y| y.over.clone()).collect();
-        let sum = Estimates {
-            under: exact_sum(&unders),
-            over: exact_sum(&overs),
-        };
+        self.check_sum(years);
+    }
+
+    fn check_sum(&self, parts: Vec<Estimates>) {
+        let sum = Estimates::sum(parts);
         assert!(prints(&sum, self.printed_sum, 1_000), "{}, sum", self.name);
+    }
+
+    /// The site with the traffic of a period that starts so many years on.
+    fn in_period(&self, start: usize) -> Site {
+        let years = || (start + 1..=start + PERIOD).map(|year| self.site.in_year(year));
+        TRAFFIC_FIELDS.iter().fold(self.site, |site, field| {
+            let traffic: Vec<u16> = years().filter_map(|year| year.get(*field)).collect();
+            site.with_years(*field, &traffic)
+        })
+    }
+
+    /// What a model predicts for each period, given its years, calibration and
+    /// site, is compared with the sum of its years, and the sum of all.
+    pub fn check_periods(&self, predicted: impl Fn(u8, u16, &Site) -> Estimates) {
+        let starts = (0..self.printed.len()).step_by(PERIOD);
+        let periods = starts.map(|start| {
+            let (years, calibration) = (start..start + PERIOD, self.calibrations[start]);
+            assert_eq!(self.calibrations[years.clone()], [calibration; PERIOD]);
+            let found = predicted(PERIOD as u8, calibration, &self.in_period(start));
+            let is_printed = prints_parts(&found, &self.printed[years], 1_000);
+            assert!(is_printed, "{}, from 19{}", self.name, 89 + start);
+            found
+        });
+        self.check_sum(periods.collect());
     }
 }
 
@@ -897,11 +927,11 @@ const MINOR_TRAFFIC: [u16; 9] = [500, 550, 550, 530, 550, 580, 600, 620, 600];
 /// Table 24. The report does not give the segment's geometry. Its cells bear
 /// on one factor common to all years, here put in as a curve of that size.
 pub fn table_24() -> Example {
-    let site = |traffic| Site::plain(SEGMENT, traffic, 1_000).with_curve(1_000, 3_214);
+    let site = Site::plain(SEGMENT, 1, 1_000).with_curve(1_000, 3_214);
     Example {
         name: "table 24",
         calibrations: SEGMENT_CALIBRATIONS,
-        sites: FIRST_TRAFFIC.map(site).to_vec(),
+        site: site.with_years(Field::Traffic, &FIRST_TRAFFIC),
         printed: [461, 415, 415, 425, 447, 469, 527, 551, 527],
         printed_sum: 4_234,
         expected: [(4_234, 6, 5_236), (1_359, 6, 2_735), (2_875, 0, 1_520)],
@@ -910,11 +940,11 @@ pub fn table_24() -> Example {
 
 /// Table 25, as table 24.
 pub fn table_25() -> Example {
-    let site = |traffic| Site::plain(SEGMENT, traffic, 5_000).with_curve(999, 421);
+    let site = Site::plain(SEGMENT, 1, 5_000).with_curve(999, 421);
     Example {
         name: "table 25",
         calibrations: SEGMENT_CALIBRATIONS,
-        sites: SECOND_TRAFFIC.map(site).to_vec(),
+        site: site.with_years(Field::Traffic, &SECOND_TRAFFIC),
         printed: [891, 764, 764, 803, 1_111, 1_235, 1_455, 1_588, 1_654],
         printed_sum: 10_263,
         expected: [(10_263, 14, 13_106), (3_295, 6, 4_662), (6_969, 8, 7_674)],
@@ -924,14 +954,13 @@ pub fn table_25() -> Example {
 /// Table 27. The cells show a factor of 1.05, which is one quadrant with
 /// limited sight.
 pub fn table_27() -> Example {
-    let site = |(traffic, minor): (u16, u16)| {
-        Site::plain(FOUR_LEG_STOP, traffic, minor).with(Field::LimitedQuadrants, 1)
-    };
-    let traffic = FIRST_TRAFFIC.into_iter().zip(MINOR_TRAFFIC);
+    let site = Site::plain(FOUR_LEG_STOP, 1, 1).with(Field::LimitedQuadrants, 1);
     Example {
         name: "table 27",
         calibrations: CROSSING_CALIBRATIONS,
-        sites: traffic.map(site).collect(),
+        site: site
+            .with_years(Field::Traffic, &FIRST_TRAFFIC)
+            .with_years(Field::MinorTraffic, &MINOR_TRAFFIC),
         printed: [402, 400, 400, 377, 398, 423, 481, 504, 481],
         printed_sum: 3_866,
         expected: [(3_866, 3, 3_449), (1_241, 2, 1_415), (2_625, 1, 1_997)],

@@ -1,6 +1,9 @@
 //! One site: its values, its record, the site reader and the site writer.
 
-use crate::rules::{rules, Field, Presence, Rule, FIELD_NAMES};
+use crate::rules::{
+    rules, years_within, Field, Presence, Rule, FIELD_NAMES, LATER_YEARS, SEGMENT, STOP_FIELDS,
+    TRAFFIC_FIELDS, YEARLY_BIT,
+};
 use std::fmt;
 
 /// A cause of document 01's table with its place.
@@ -48,7 +51,7 @@ const CAUSES: [(u8, &str); 10] = [
     ),
     (
         cause::UNMATCHED_BITS,
-        "a needed field is missing, or half a curve is given",
+        "a needed field is missing, half a curve is given, or a project of one year has later years",
     ),
     (cause::RANGE, "a field is outside its range"),
     (cause::DEFAULT_SPELLED, "a default is spelled out"),
@@ -72,11 +75,26 @@ pub mod cause {
 /// The kind byte and the two bytes of the map.
 pub const RECORD_HEAD: usize = 3;
 
-/// A site's values: the kind and one number, or none, for each field.
+/// The longest record: a stop crossing with every field and the most years of
+/// both traffics.
+pub const LONGEST_RECORD: usize =
+    RECORD_HEAD + 2 * (STOP_FIELDS + TRAFFIC_FIELDS.len() * LATER_YEARS);
+
+/// A traffic's values of the second year and the later ones, none for a year
+/// that is not given.
+type Later = [Option<u16>; LATER_YEARS];
+
+/// A site's values: the kind and one number, or none, for each field and for
+/// each later year of each traffic field.
 #[derive(Clone, Copy, Debug, PartialEq, Eq, Hash)]
 pub struct Site {
     pub kind: u8,
     values: [Option<u16>; FIELD_NAMES.len()],
+    later: [Later; TRAFFIC_FIELDS.len()],
+}
+
+fn traffic_place(field: Field) -> Option<usize> {
+    TRAFFIC_FIELDS.iter().position(|traffic| *traffic == field)
 }
 
 impl Site {
@@ -85,6 +103,7 @@ impl Site {
         Site {
             kind,
             values: [None; FIELD_NAMES.len()],
+            later: [[None; LATER_YEARS]; TRAFFIC_FIELDS.len()],
         }
     }
 
@@ -95,7 +114,7 @@ impl Site {
         for rule in rules(kind).unwrap_or(&[]) {
             site.set(rule.field, rule.default().filter(|_| !rule.is_of_curve()));
         }
-        let other = if kind == crate::rules::SEGMENT {
+        let other = if kind == SEGMENT {
             Field::Length
         } else {
             Field::MinorTraffic
@@ -117,12 +136,62 @@ impl Site {
             .with(Field::Deficiency, 0)
     }
 
+    /// The same site with a traffic for each year, the first included.
+    pub fn with_years(mut self, field: Field, traffic: &[u16]) -> Site {
+        self.set(field, traffic.first().copied());
+        for year in 2..=LATER_YEARS + 1 {
+            self.set_later(field, year, traffic.get(year - 1).copied());
+        }
+        self
+    }
+
     pub fn get(&self, field: Field) -> Option<u16> {
         self.values[field as usize]
     }
 
     pub fn set(&mut self, field: Field, value: Option<u16>) {
         self.values[field as usize] = value;
+    }
+
+    /// The later years of a field: the second year's value, or none, and so on.
+    /// A field that is no traffic has no later years.
+    pub fn later(&self, field: Field) -> &[Option<u16>] {
+        traffic_place(field).map_or(&[], |at| &self.later[at])
+    }
+
+    /// Sets the value of a traffic field in a year from 2 up.
+    pub fn set_later(&mut self, field: Field, year: usize, value: Option<u16>) {
+        self.later[traffic_place(field).expect("a traffic field")][year - 2] = value;
+    }
+
+    /// Whether the site holds a traffic for a later year.
+    pub fn is_yearly(&self) -> bool {
+        self.later.iter().flatten().any(Option::is_some)
+    }
+
+    /// The site as it is in a year from 1 up: with that year's traffic in every
+    /// year.
+    pub fn in_year(&self, year: usize) -> Site {
+        let mut site = *self;
+        for field in TRAFFIC_FIELDS {
+            let first = self.get(field);
+            let of_year = year
+                .checked_sub(2)
+                .map_or(first, |at| self.later(field)[at]);
+            site = site.with_years(field, of_year.as_slice());
+        }
+        site
+    }
+
+    /// The terms of the site's prediction, each with its years: one for each
+    /// year where each has its traffic, and otherwise one for all.
+    pub fn terms(&self, years: u8) -> Vec<(u8, Site)> {
+        if !self.is_yearly() {
+            return vec![(years, *self)];
+        }
+        (1..=years.into())
+            .map(|year| (1, self.in_year(year)))
+            .collect()
     }
 
     /// A value that the reader's rules say is there. Panics when it is not.
@@ -147,30 +216,52 @@ fn stands(map: u16, rule: &Rule) -> bool {
     map >> rule.bit & 1 == 1
 }
 
-/// Reads the record at the start of `part`: the site and the record's length,
-/// or the number of the refusal, whose place is 0.
-pub fn read_site(part: &[u8]) -> Result<(Site, usize), u8> {
+/// Reads the record at the start of `part` in a project of so many years: the
+/// site and the record's length, or the number of the refusal, whose place is
+/// 0.
+pub fn read_site(years: u64, part: &[u8]) -> Result<(Site, usize), u8> {
+    let years = years_within(years).ok_or(cause::HEADER_LIMITS)?;
     if part.len() < RECORD_HEAD {
         return Err(cause::RUNS_PAST_END);
     }
     let kind = part[0];
     let rules = rules(kind).ok_or(cause::KIND)?;
     let map = two_bytes(part, 1);
-    check_map(map, rules)?;
-    let length = RECORD_HEAD + 2 * map.count_ones() as usize;
+    check_map(map, years, rules)?;
+    let standing = rules.iter().filter(|rule| stands(map, rule));
+    let values: usize = standing.map(|rule| values_of(map, years, rule)).sum();
+    let length = RECORD_HEAD + 2 * values;
     if part.len() < length {
         return Err(cause::RUNS_PAST_END);
     }
-    let site = read_fields(kind, map, rules, &part[RECORD_HEAD..length])?;
+    let words = part[RECORD_HEAD..length].chunks_exact(2);
+    let mut values = words.map(|word| two_bytes(word, 0));
+    let site = read_fields(kind, map, years, &mut values)?;
     Ok((site, length))
 }
 
-/// Refuses a bit that the kind lacks (6), then a needed bit that is absent or
-/// curve bits that do not match (7).
-fn check_map(map: u16, rules: &[Rule]) -> Result<(), u8> {
-    let known = rules.iter().fold(0, |bits, rule| bits | 1 << rule.bit);
-    if map & !known != 0 {
+fn is_yearly(map: u16) -> bool {
+    map >> YEARLY_BIT & 1 == 1
+}
+
+/// The values that a standing field has in a record.
+pub fn values_of(map: u16, years: u8, rule: &Rule) -> usize {
+    if is_yearly(map) && rule.is_traffic() {
+        usize::from(years)
+    } else {
+        1
+    }
+}
+
+/// Refuses a bit that the kind lacks (6), then a needed bit that is absent,
+/// curve bits that do not match or later years in a project of one year (7).
+fn check_map(map: u16, years: u8, rules: &[Rule]) -> Result<(), u8> {
+    let fields = rules.iter().fold(0, |bits, rule| bits | 1 << rule.bit);
+    if map & !(fields | 1 << YEARLY_BIT) != 0 {
         return Err(cause::LACKING_BIT);
+    }
+    if is_yearly(map) && years == 1 {
+        return Err(cause::UNMATCHED_BITS);
     }
     let curve = rules
         .iter()
@@ -189,21 +280,30 @@ fn check_map(map: u16, rules: &[Rule]) -> Result<(), u8> {
     Ok(())
 }
 
-/// Reads the standing fields in rising bit order; each must be in its range
-/// (8) and no default (9). Absent fields take their defaults.
-fn read_fields(kind: u8, map: u16, rules: &[Rule], fields: &[u8]) -> Result<Site, u8> {
+/// Reads the standing fields in rising bit order, a traffic's later years
+/// after its first; each value must be in its range (8) and no default (9).
+/// Absent fields take their defaults.
+fn read_fields(
+    kind: u8,
+    map: u16,
+    years: u8,
+    values: &mut impl Iterator<Item = u16>,
+) -> Result<Site, u8> {
+    let rules = rules(kind).ok_or(cause::KIND)?;
     let mut site = Site::empty(kind);
-    let mut at = 0;
+    let mut next = |rule: &Rule| {
+        let value = values.next().ok_or(cause::RUNS_PAST_END)?;
+        rule.allows(value).then_some(value).ok_or(cause::RANGE)
+    };
     for rule in rules.iter().filter(|rule| stands(map, rule)) {
-        let value = two_bytes(fields, at);
-        at += 2;
-        if !rule.allows(value) {
-            return Err(cause::RANGE);
-        }
+        let value = next(rule)?;
         if rule.default() == Some(value) {
             return Err(cause::DEFAULT_SPELLED);
         }
         site.set(rule.field, Some(value));
+        for year in 2..=values_of(map, years, rule) {
+            site.set_later(rule.field, year, Some(next(rule)?));
+        }
     }
     let curve = site.is_curve();
     for rule in rules.iter().filter(|rule| !stands(map, rule)) {
@@ -213,23 +313,26 @@ fn read_fields(kind: u8, map: u16, rules: &[Rule], fields: &[u8]) -> Result<Site
     Ok(site)
 }
 
-/// Writes a site's record, dropping defaults, for a buffer of `room` bytes;
-/// or the number of the refusal, 8 and then 10, whose place is 0.
-pub fn write_site(site: &Site, room: usize) -> Result<Vec<u8>, u8> {
+/// Writes a site's record in a project of so many years, dropping defaults, for
+/// a buffer of `room` bytes; or the number of the refusal, 4, 8 and then 10,
+/// whose place is 0.
+pub fn write_site(years: u64, site: &Site, room: usize) -> Result<Vec<u8>, u8> {
+    let years = years_within(years).ok_or(cause::HEADER_LIMITS)?;
     let rules = rules(site.kind).ok_or(cause::RANGE)?;
-    if !values_allowed(site, rules) {
+    if !(values_allowed(site, rules) && later_allowed(site, years, rules)) {
         return Err(cause::RANGE);
     }
-    let mut map = 0;
-    let mut fields = Vec::new();
+    let mut map = u16::from(site.is_yearly()) << YEARLY_BIT;
+    let mut values = Vec::new();
     for rule in rules {
         let written = site.get(rule.field).filter(|v| rule.default() != Some(*v));
         if let Some(value) = written {
             map |= 1 << rule.bit;
-            fields.push(value);
+            values.push(value);
+            values.extend(site.later(rule.field).iter().flatten());
         }
     }
-    let record = encode_record(site.kind, map, &fields);
+    let record = encode_record(site.kind, map, &values);
     if room < record.len() {
         return Err(cause::TOO_SHORT);
     }
@@ -253,10 +356,23 @@ fn values_allowed(site: &Site, rules: &[Rule]) -> bool {
     })
 }
 
-/// A record from its parts, unchecked: the kind, the map and the fields.
-pub fn encode_record(kind: u8, map: u16, fields: &[u16]) -> Vec<u8> {
+/// Whether the site holds no later year at all or, for each traffic field of
+/// its kind, just those of the project, each in the field's range.
+fn later_allowed(site: &Site, years: u8, rules: &[Rule]) -> bool {
+    let fits = |field: &Field| {
+        let rule = rules.iter().find(|rule| rule.field == *field);
+        let asked = rule.map_or(0, |_| usize::from(years) - 1);
+        let allowed = |value| rule.is_some_and(|rule| rule.allows(value));
+        let (given, rest) = site.later(*field).split_at(asked);
+        given.iter().all(|value| value.is_some_and(allowed)) && rest.iter().all(Option::is_none)
+    };
+    !site.is_yearly() || TRAFFIC_FIELDS.iter().all(fits)
+}
+
+/// A record from its parts, unchecked: the kind, the map and the values.
+pub fn encode_record(kind: u8, map: u16, values: &[u16]) -> Vec<u8> {
     let mut record = vec![kind];
     record.extend(map.to_be_bytes());
-    record.extend(fields.iter().flat_map(|value| value.to_be_bytes()));
+    record.extend(values.iter().flat_map(|value| value.to_be_bytes()));
     record
 }

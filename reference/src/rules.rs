@@ -1,5 +1,6 @@
-//! The limits, kinds, fields and defaults of document 01: one table for each
-//! kind, read by the reader, the writer, the generator and the text form.
+//! The limits, kinds, fields and defaults of document 01 as document 02 amends
+//! it: one table for each kind, read by the reader, the writer, the generator
+//! and the text form.
 
 use std::ops::RangeInclusive;
 
@@ -8,6 +9,13 @@ pub const EDITION: u8 = 1;
 pub const MOST_YEARS: u8 = 10;
 pub const MOST_CALIBRATION: u16 = 9_999;
 pub const MOST_SITES: usize = 1_200;
+
+/// The years after the first.
+pub const LATER_YEARS: usize = MOST_YEARS as usize - 1;
+
+/// The bit of every kind that has no field of its own: it says that each
+/// traffic field is followed by the values of the later years.
+pub const YEARLY_BIT: u32 = 15;
 
 /// Kinds of site, as their byte in a record.
 pub const SEGMENT: u8 = 0;
@@ -68,6 +76,9 @@ pub const FIELD_NAMES: [(Field, &str); 20] = [
     (Field::LimitedQuadrants, "limited-quadrants"),
 ];
 
+/// The fields that may have a value for each year.
+pub const TRAFFIC_FIELDS: [Field; 2] = [Field::Traffic, Field::MinorTraffic];
+
 /// When a field stands in a record, and what its absence means.
 #[derive(Clone, Copy, Debug, PartialEq, Eq)]
 pub enum Presence {
@@ -116,6 +127,11 @@ impl Rule {
             Presence::Default(value) | Presence::CurveDefault(value) => Some(value),
             _ => None,
         }
+    }
+
+    /// Whether the field may have a value for each year.
+    pub fn is_traffic(&self) -> bool {
+        TRAFFIC_FIELDS.contains(&self.field)
     }
 
     /// Whether the field says something about a curve.
@@ -181,6 +197,9 @@ const FOUR_LEG_STOP_RULES: [Rule; 7] = [
     count(6, Field::LimitedQuadrants, 4),
 ];
 
+/// The fields of a stop crossing, both of whose traffics may be yearly.
+pub const STOP_FIELDS: usize = FOUR_LEG_STOP_RULES.len();
+
 const FOUR_LEG_SIGNAL_RULES: [Rule; 5] = [
     TRAFFIC,
     MINOR_TRAFFIC,
@@ -198,4 +217,10 @@ pub fn rules(kind: u8) -> Option<&'static [Rule]> {
         FOUR_LEG_SIGNAL => Some(&FOUR_LEG_SIGNAL_RULES),
         _ => None,
     }
+}
+
+/// Years within the header's limits.
+pub fn years_within(years: u64) -> Option<u8> {
+    let years = u8::try_from(years).ok()?;
+    (1..=MOST_YEARS).contains(&years).then_some(years)
 }

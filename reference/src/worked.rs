@@ -16,7 +16,7 @@ use crate::rational::Rational;
 use crate::record::Site;
 use crate::rules::{
     Field, EDITION, FOUR_LEG_SIGNAL, FOUR_LEG_STOP, KIND_NAMES, MOST_CALIBRATION, MOST_YEARS,
-    SEGMENT, THREE_LEG_STOP,
+    SEGMENT, THREE_LEG_STOP, TRAFFIC_FIELDS,
 };
 
 /// What is found may be as wide as the figure over this.
@@ -151,15 +151,15 @@ fn header(years: u8, segment_calibration: u16, crossing_calibration: u16) -> Hea
 /// A value of a field and the figure worked for it.
 type Row = (u16, &'static str);
 
-/// The header that gives the most digits.
-fn largest() -> Header {
-    header(MOST_YEARS, MOST_CALIBRATION, MOST_CALIBRATION)
-}
-
 /// The ratio of two sites.
 fn ratio(name: String, site: Site, base: Site, worked: &'static str) -> Figure {
-    let [case, base] = [site, base].map(|site| Case {
-        header: largest(),
+    ratio_over(name, [(MOST_YEARS, site), (MOST_YEARS, base)], worked)
+}
+
+/// The ratio of a site over its years to another over its years.
+fn ratio_over(name: String, cases: [(u8, Site); 2], worked: &'static str) -> Figure {
+    let [case, base] = cases.map(|(years, site)| Case {
+        header: header(years, MOST_CALIBRATION, MOST_CALIBRATION),
         site,
     });
     Figure {
@@ -725,11 +725,13 @@ const WHOLE_SITES: [(&str, &str, &str); 7] = [
         "segment traffic 7600 length 900 shoulder 8 shoulder-type 2 driveways 24 two-way-lane 1",
         "9.5685095534..",
     ),
-    // 5 x 1.1 x 350 x 1.250 x 0.000365 e^-0.4865 x 1.0175 x 1.035 x e^0.2672.
+    // 1.1 x 1.250 x 0.000365 e^-0.4865 x e^0.2672 x
+    // (2 x 350 x 1.0175 x 1.035 + 3 x 700 x 1.047005 x 1.06125): lane and
+    // shoulder of 1.05 and 1.10, and from the third year of 1.1343 and 1.175.
     (
         "the back road along the river",
-        "segment traffic 350 length 1250 lane 9 shoulder 0 hazard-rating 7",
-        "0.7427926524..",
+        "segment traffic 350,350,700,700,700 length 1250 lane 9 shoulder 0 hazard-rating 7",
+        "1.2375775107..",
     ),
     // 5 x 0.95 e^-10.9 x 728.3949722 x 16.6252135 x 0.78 x e^0.1.
     (
@@ -755,10 +757,141 @@ const WHOLE_SITES: [(&str, &str, &str); 7] = [
 
 fn whole_sites() -> Vec<Figure> {
     let figure = |(name, line, worked)| {
-        let site = lines::site(line).expect("a site's line");
+        let site = lines::site(5, line).expect("a site's line");
         predicted(header(5, 1_100, 950), (name, site, worked))
     };
     WHOLE_SITES.into_iter().map(figure).collect()
+}
+
+/// The years of a segment with traffic year by year, each figure over as many
+/// years of the same road with 1,000 vehicles and every factor 1.
+fn yearly_factors() -> Vec<Figure> {
+    let rows: [(&str, Field, u16, &[u16], &str); 4] = [
+        // (2 x 1 + 8 x 2)/10.
+        (
+            "doubled in the third year",
+            Field::LaneWidth,
+            12,
+            &[
+                1_000, 1_000, 2_000, 2_000, 2_000, 2_000, 2_000, 2_000, 2_000, 2_000,
+            ],
+            "1.8",
+        ),
+        // (399 x 1.0175 + 1,000 x 1.07651 + 2,001 x 1.175)/3,000.
+        (
+            "lane",
+            Field::LaneWidth,
+            9,
+            &[399, 1_000, 2_001],
+            "38336675/30000000",
+        ),
+        // (400 x 1.035 + 1,000 x 1.0875 + 2,000 x 1.175)/3,000.
+        (
+            "shoulder",
+            Field::ShoulderWidth,
+            0,
+            &[400, 1_000, 2_000],
+            "38515/30000",
+        ),
+        // (1 x 6 + 400 x 4.0042646930 + 20,000 x 1.1072822444)/3,000.
+        (
+            "driveways",
+            Field::Driveways,
+            50,
+            &[1, 400, 20_000],
+            "7.9177835884..",
+        ),
+    ];
+    let figure = |(name, field, value, traffic, worked): (&str, Field, u16, &[u16], _)| {
+        let site = road(1)
+            .with(field, value)
+            .with_years(Field::Traffic, traffic);
+        let years = traffic.len() as u8;
+        let cases = [site, road(1_000)].map(|site| (years, site));
+        ratio_over(format!("yearly segment, {name}"), cases, worked)
+    };
+    rows.into_iter().map(figure).collect()
+}
+
+/// "The sum of its Y one-year predictions": with 1,000 vehicles in the first
+/// year and 1,000 more in each, 1 + 2 + ... + Y times a year of 1,000.
+fn yearly_sums() -> Vec<Figure> {
+    const SUMS: [&str; 9] = ["3", "6", "10", "15", "21", "28", "36", "45", "55"];
+    let traffic: Vec<u16> = (1..=10).map(|year| 1_000 * year).collect();
+    let figure = |(years, worked): (u8, &'static str)| {
+        let site = road(1).with_years(Field::Traffic, &traffic[..years.into()]);
+        let name = format!("yearly segment of {years} years");
+        ratio_over(name, [(years, site), (1, road(1_000))], worked)
+    };
+    (2..).zip(SUMS).map(figure).collect()
+}
+
+/// The most years of a crossing with traffic year by year, over as many with
+/// 10,000 vehicles on both roads. A power of 100 vehicles is that of 10,000 over
+/// 10^(2p).
+fn yearly_crossings() -> Vec<Figure> {
+    const BUSY: [u16; 10] = [10_000; 10];
+    // 100 vehicles in the first five years, and in the last five.
+    const LATE: [u16; 10] = [
+        100, 100, 100, 100, 100, 10_000, 10_000, 10_000, 10_000, 10_000,
+    ];
+    const EARLY: [u16; 10] = [
+        10_000, 10_000, 10_000, 10_000, 10_000, 100, 100, 100, 100, 100,
+    ];
+    // The major road late: (10^(-2p) + 1)/2. The minor road late: the same of
+    // its power q. The major late and the minor early: (10^(-2p) + 10^(-2q))/2.
+    let rows = [
+        (
+            THREE_LEG_STOP,
+            ["0.5131513399..", "0.5523564274..", "0.0655077673.."],
+        ),
+        (
+            FOUR_LEG_STOP,
+            ["0.5315478672..", "0.5301279793..", "0.0616758465.."],
+        ),
+        (
+            FOUR_LEG_SIGNAL,
+            ["0.5315478672..", "0.6990535852..", "0.2306014525.."],
+        ),
+    ];
+    let mut figures = Vec::new();
+    for (kind, [major, minor, both]) in rows {
+        for (name, years, worked) in [
+            ("the same every year", [BUSY, BUSY], "1"),
+            ("major road late", [LATE, BUSY], major),
+            ("minor road late", [BUSY, LATE], minor),
+            ("major road late, minor early", [LATE, EARLY], both),
+        ] {
+            let site = TRAFFIC_FIELDS.iter().zip(years);
+            let site = site.fold(crossing(kind), |site, (field, traffic)| {
+                site.with_years(*field, &traffic)
+            });
+            let name = format!("yearly {}, {name}", kind_name(kind));
+            figures.push(ratio(name, site, crossing(kind), worked));
+        }
+    }
+    figures
+}
+
+/// Traffic year by year that is the same every year, and "the history still
+/// covers the whole period": k at the sum over the years.
+fn yearly_histories() -> Vec<Figure> {
+    let name = "yearly segment, the same every year".to_string();
+    let same = road(5_000).with_years(Field::Traffic, &[5_000; 10]);
+    let rising: Vec<u16> = (1..=10).map(|year| 100 * year).collect();
+    let histories = [0, 500].map(|observed| Figure {
+        name: format!("yearly segment k at observed {observed}"),
+        measure: Measure::Overdispersion(Case {
+            header: header(10, 1_000, 1_000),
+            site: road(1)
+                .with_years(Field::Traffic, &rising)
+                .with(Field::Observed, observed),
+        }),
+        worked: "0.31",
+    });
+    let mut figures = vec![ratio(name, same, road(5_000), "1")];
+    figures.extend(histories);
+    figures
 }
 
 /// Every worked figure.
@@ -778,6 +911,10 @@ pub fn figures() -> Vec<Figure> {
         headers(),
         overdispersions(),
         whole_sites(),
+        yearly_factors(),
+        yearly_sums(),
+        yearly_crossings(),
+        yearly_histories(),
     ];
     groups.into_iter().flatten().collect()
 }

@@ -70,6 +70,23 @@ fn dump_and_make_are_inverse() {
     assert_eq!(made.stdout, SIGNAL);
 }
 
+/// A signal whose traffic doubled in the second of two years.
+const YEARLY_SIGNAL: [u8; 19] = [
+    1, 2, 3, 0xE8, 3, 0xE8, 0, 1, 3, 0x80, 3, 0x13, 0x88, 0x27, 0x10, 3, 0xE8, 7, 0xD0,
+];
+
+#[test]
+fn traffic_year_by_year_is_numbers_joined_by_commas() {
+    let lines = run(&["dump", "-"], &YEARLY_SIGNAL);
+    assert!(text(&lines).contains("4sg traffic 5000,10000 minor-traffic 1000,2000 "));
+    assert_eq!(run(&["make"], &lines.stdout).stdout, YEARLY_SIGNAL);
+    let estimates = [&YEARLY_SIGNAL[..], &lines.stdout].map(|project| {
+        let printed = run(&["estimate", "-", "3"], project);
+        text(&printed)
+    });
+    assert_eq!(estimates[0], estimates[1]);
+}
+
 /// A command that ends with a message and a status that is not 0, having
 /// printed nothing.
 fn refusal(arguments: &[&str], input: &[u8]) -> String {
@@ -86,11 +103,13 @@ const OF_EITHER: [&[&str]; 2] = [&["dump", "-"], &["estimate", "-", "2"]];
 
 /// Document 01's causes, each in a file.
 fn refused_files() -> Vec<(u8, usize, Vec<u8>)> {
-    let with = |at: usize, byte: u8| {
-        let mut file = SIGNAL.to_vec();
+    let changed = |file: &[u8], at: usize, byte: u8| {
+        let mut file = file.to_vec();
         file[at] = byte;
         file
     };
+    let with = |at: usize, byte: u8| changed(&SIGNAL, at, byte);
+    let yearly_with = |at: usize, byte: u8| changed(&YEARLY_SIGNAL, at, byte);
     let mut spelled = with(10, 0x17);
     spelled.extend([0, 0]);
     vec![
@@ -106,6 +125,9 @@ fn refused_files() -> Vec<(u8, usize, Vec<u8>)> {
         (6, 8, with(10, 15)),
         (7, 8, with(10, 5)),
         (8, 8, with(11, 0xFF)),
+        (7, 8, yearly_with(1, 1)),
+        (8, 8, yearly_with(13, 0xFF)),
+        (1, 8, YEARLY_SIGNAL[..18].to_vec()),
         (9, 8, spelled),
     ]
 }
@@ -130,7 +152,7 @@ fn a_file_is_refused_as_the_reader_refuses_it() {
 /// Lines that are refused, after the four of a header, and what is told. The
 /// first site is sound, the second has the fault, and a note and an empty line
 /// stand before them.
-const REFUSED_SITES: [(&str, &str); 17] = [
+const REFUSED_SITES: [(&str, &str); 23] = [
     (
         "segment traffic 5 length 6 lane 7",
         "lane is 7; it must be from 8 to 14",
@@ -182,6 +204,30 @@ const REFUSED_SITES: [(&str, &str); 17] = [
     (
         "4sg traffic 5 minor-traffic 6 skew 3",
         "skew is 3; a 4sg has no such field",
+    ),
+    (
+        "segment traffic 5,7,9 length 6",
+        "traffic has 3 numbers for 2 years",
+    ),
+    (
+        "segment traffic 5,20001 length 6",
+        "traffic of year 2 is 20001; it must be from 1 to 20000",
+    ),
+    (
+        "segment traffic 5, length 6",
+        "traffic of year 2 is \"\"; it must be from 1 to 20000",
+    ),
+    (
+        "segment traffic 5,7 length 6,6",
+        "length is \"6,6\"; it must be from 1 to 20000",
+    ),
+    (
+        "4st traffic 5,7 minor-traffic 6",
+        "minor-traffic is 6; it must have a number for each year, as the other traffic has",
+    ),
+    (
+        "4st traffic 5 minor-traffic 6,8",
+        "traffic is 5; it must have a number for each year, as the other traffic has",
     ),
     ("segment traffic 5 length 6 lane", "lane has no number"),
     (

@@ -8,10 +8,11 @@ use reference::generate::{
 };
 use reference::project::{parse_project, write_file, write_project, Header, HEADER, LONGEST_FILE};
 use reference::record::{write_site, Refusal, Site};
-use reference::rules::{EDITION, KIND_NAMES, MOST_SITES};
+use reference::rules::{Field, EDITION, KIND_NAMES, MOST_SITES, MOST_YEARS};
 
 /// Years and calibrations within their limits.
-const WITHIN: [u64; 3] = [5, 1_100, 900];
+const WITHIN: [u64; 3] = [YEARS as u64, 1_100, 900];
+const YEARS: u8 = 5;
 
 const OUTSIDE_LIMITS: Refusal = Refusal::of(4, 0);
 const TOO_SHORT: Refusal = Refusal::of(10, 0);
@@ -59,10 +60,12 @@ fn what_is_written_is_read_as_the_same_sites() {
 #[test]
 fn a_file_is_its_header_and_its_records() {
     let mut random = Random::new(53);
-    let sites = sites(&mut random, 300);
+    let sites = sites(&mut random, YEARS, 300);
     let mut wanted = vec![1, 5, 0x04, 0x4C, 0x03, 0x84, 0x01, 0x2C];
     for site in &sites {
-        wanted.extend(write_site(site, usize::MAX).expect("a site that the writer takes"));
+        wanted.extend(
+            write_site(YEARS.into(), site, usize::MAX).expect("a site that the writer takes"),
+        );
     }
     assert_eq!(written(WITHIN, &sites), wanted);
     assert_eq!(written(WITHIN, &[]), [1, 5, 0x04, 0x4C, 0x03, 0x84, 0, 0]);
@@ -99,8 +102,10 @@ fn every_damage_is_outside_its_range() {
     let mut random = Random::new(54);
     for damage in DAMAGES {
         for _ in 0..2_000 {
-            let site = damaged_site(&mut random, damage);
-            assert_eq!(write_site(&site, 0), Err(8), "{damage:?} {site:?}");
+            let years = random.between(1, MOST_YEARS.into()) as u8;
+            let site = damaged_site(&mut random, years, damage);
+            let answer = write_site(years.into(), &site, 0);
+            assert_eq!(answer, Err(8), "{damage:?} {years} {site:?}");
         }
     }
 }
@@ -113,11 +118,11 @@ fn the_first_damaged_site_has_its_index() {
     for damage in DAMAGES {
         for _ in 0..200 {
             let count = 1 + random.below(30);
-            let mut sites = sites(&mut random, count);
+            let mut sites = sites(&mut random, YEARS, count);
             let first = random.below(count);
             let later = first + random.below(count - first);
-            sites[later] = damaged_site(&mut random, damage);
-            sites[first] = damaged_site(&mut random, damage);
+            sites[later] = damaged_site(&mut random, YEARS, damage);
+            sites[first] = damaged_site(&mut random, YEARS, damage);
             for room in [0, HEADER, LONGEST_FILE] {
                 let answer = write_file(WITHIN, &sites, room);
                 assert_eq!(answer, Err(Refusal::of(8, first)), "{damage:?}");
@@ -126,12 +131,55 @@ fn the_first_damaged_site_has_its_index() {
     }
 }
 
+/// The years are the header's: later years of other years are outside their
+/// range, and of the same years they come back.
+#[test]
+fn later_years_are_those_of_the_header() {
+    let traffic = |years: u64| vec![700; years as usize];
+    for years in 1..=u64::from(MOST_YEARS) {
+        for given in 1..=u64::from(MOST_YEARS) {
+            let segment = Site::plain(0, 1, 500).with_years(Field::Traffic, &traffic(given));
+            let sites = [Site::plain(3, 1, 1), segment];
+            let file = write_file([years, 1_100, 900], &sites, LONGEST_FILE);
+            if given == 1 || given == years {
+                let project = parse_project(&file.expect("a project that the writer takes"));
+                assert_eq!(project.map(|project| project.sites), Ok(sites.to_vec()));
+            } else {
+                assert_eq!(file, Err(Refusal::of(8, 1)), "{given} of {years}");
+            }
+        }
+    }
+}
+
+/// A third of the projects, where there is a second year, have traffic year by
+/// year in half of their sites.
+#[test]
+fn generated_projects_have_yearly_sites() {
+    let mut random = Random::new(58);
+    let (mut with, mut without, mut yearly_sites) = (0, 0, 0);
+    for _ in 0..1_000 {
+        let project = project_of(&mut random, 10);
+        let yearly = project.sites.iter().filter(|site| site.is_yearly()).count();
+        assert!(yearly == 0 || project.header.years > 1);
+        with += u32::from(yearly > 0);
+        without += u32::from(yearly == 0 && project.header.years > 1);
+        yearly_sites += yearly;
+    }
+    let projects = with + without;
+    assert!(
+        (projects / 4..projects / 2).contains(&with),
+        "{with} of {projects}"
+    );
+    assert!(yearly_sites > 3 * with as usize, "{yearly_sites}");
+}
+
 #[test]
 fn a_file_needs_just_its_length() {
     let mut random = Random::new(56);
     for count in 0..60 {
-        let sites = sites(&mut random, count);
-        let header = header(&mut random).numbers();
+        let header = header(&mut random);
+        let sites = sites(&mut random, header.years, count);
+        let header = header.numbers();
         let file = written(header, &sites);
         for room in [0, HEADER - 1, file.len() - 2, file.len() - 1] {
             assert_eq!(write_file(header, &sites, room), Err(TOO_SHORT));

@@ -25,15 +25,19 @@ use reference::sum::exact_sum;
 const MODEL: &Model = &FIRST_EDITION;
 const DEPTH: u32 = 6;
 
-/// One year with one calibration for both kinds, in thousandths.
-fn year(calibration: u16, site: &Site) -> Estimates {
+/// So many years with one calibration for both kinds, in thousandths.
+fn period(years: u8, calibration: u16, site: &Site) -> Estimates {
     let header = Header {
         edition: 1,
-        years: 1,
+        years,
         segment_calibration: calibration,
         crossing_calibration: calibration,
     };
     predicted(MODEL, &header, site, DEPTH)
+}
+
+fn year(calibration: u16, site: &Site) -> Estimates {
+    period(1, calibration, site)
 }
 
 /// The cells compared of a table's blocks.
@@ -77,6 +81,13 @@ fn tables_24_25_and_27_predicted_by_year_and_in_sum() {
     }
 }
 
+#[test]
+fn tables_24_25_and_27_predicted_with_traffic_year_by_year() {
+    for example in published::examples() {
+        example.check_periods(period);
+    }
+}
+
 /// The same segment without its curve.
 fn straight(site: &Site) -> Site {
     Site::plain(
@@ -109,7 +120,7 @@ fn tables_24_and_25_leave_a_narrow_common_factor() {
         let (least, greatest) = factors_allowed(&example);
         assert!(least < greatest);
         assert!(&greatest - &least < Rational::of(1, 10_000));
-        let site = &example.sites[0];
+        let site = &example.site;
         let length = site.value(Field::CurveLength);
         let curve = factors::curve(&MODEL.segment, length, site.value(Field::Radius), 0);
         assert!(least < curve && curve < greatest);
@@ -120,7 +131,7 @@ fn tables_24_and_25_leave_a_narrow_common_factor() {
 fn tables_24_25_and_27_expected_before_period() {
     for example in published::examples() {
         for (predicted, observed, printed) in example.expected {
-            let site = Site::plain(example.sites[0].kind, 1, 1).with(Field::Observed, observed);
+            let site = Site::plain(example.site.kind, 1, 1).with(Field::Observed, observed);
             let millionths = 1_000 * predicted;
             let (low, high) = expected_pair(MODEL, &site, millionths, millionths);
             let found = Estimates {

@@ -1,13 +1,17 @@
 //! Every refusal with its place and its order, for the project reader, the
 //! site reader and the site writer; round trips.
 
-use reference::generate::{damaged_file, disturbed_site, largest_project, project, site, Random};
+use reference::generate::{
+    damaged_file, disturbed_site, edges, largest_project, project, site, Random,
+};
 use reference::lines;
 use reference::project::{
     encode_header, parse_project, read_project, write_project, Header, Project, LONGEST_FILE,
 };
-use reference::record::{encode_record, read_site, write_site, Refusal, Site};
-use reference::rules::{rules, Field, Presence, FIELD_NAMES, MOST_SITES};
+use reference::record::{encode_record, read_site, write_site, Refusal, Site, LONGEST_RECORD};
+use reference::rules::{
+    rules, Field, Presence, Rule, FIELD_NAMES, MOST_SITES, MOST_YEARS, TRAFFIC_FIELDS, YEARLY_BIT,
+};
 
 const HEADER: Header = Header {
     edition: 1,
@@ -15,6 +19,8 @@ const HEADER: Header = Header {
     segment_calibration: 1_000,
     crossing_calibration: 1_000,
 };
+
+const YEARS: u64 = HEADER.years as u64;
 
 /// Needed bits with traffic 500 and length (or minor traffic) 600.
 const PLAIN: [u16; 2] = [500, 600];
@@ -37,7 +43,7 @@ fn refused(file: &[u8], number: u8, place: usize) {
 /// The second record of a file and the record alone are refused alike.
 fn record_refused(record: &[u8], number: u8) {
     refused(&after_segment(2, record), number, SECOND);
-    assert_eq!(read_site(record), Err(number));
+    assert_eq!(read_site(YEARS, record), Err(number));
 }
 
 #[test]
@@ -141,14 +147,15 @@ fn five_kind() {
 #[test]
 fn six_bit_that_the_kind_lacks() {
     for (kind, lacking) in [
-        (0, vec![15]),
-        (1, (7..16).collect()),
-        (2, (7..16).collect()),
-        (3, vec![3, 6, 7, 15]),
+        (1, (7..15).collect()),
+        (2, (7..15).collect()),
+        (3, vec![3, 6, 7, 14]),
     ] {
         for bit in lacking {
             record_refused(&encode_record(kind, 1 << bit, &[]), 6);
             record_refused(&encode_record(kind, 0b11 | 1 << bit, &[500, 600, 1]), 6);
+            // Tried before later years that are missing.
+            record_refused(&encode_record(kind, 0x8003 | 1 << bit, &[]), 6);
         }
     }
 }
@@ -187,7 +194,7 @@ fn record_with(kind: u8, bit: u32, value: u16) -> Vec<u8> {
 fn eight_and_nine_for_every_field() {
     for kind in 0..4 {
         for rule in rules(kind).expect("a kind") {
-            let outcome = |value| read_site(&record_with(kind, rule.bit, value));
+            let outcome = |value| read_site(YEARS, &record_with(kind, rule.bit, value));
             for value in [rule.low, rule.high] {
                 let default = rule.default() == Some(value);
                 assert_eq!(outcome(value).err(), default.then_some(9));
@@ -231,16 +238,16 @@ fn ten_comes_last() {
 #[test]
 fn nothing_past_a_record_bears_on_it() {
     let record = encode_record(2, 0b101_0011, &[500, 600, 2, 4]);
-    let (wanted, length) = read_site(&record).expect("a record");
+    let (wanted, length) = read_site(YEARS, &record).expect("a record");
     assert_eq!(length, record.len());
     let mut longer = record.clone();
     longer.extend([0xFF; 9]);
-    assert_eq!(read_site(&longer), Ok((wanted, length)));
+    assert_eq!(read_site(YEARS, &longer), Ok((wanted, length)));
 }
 
 #[test]
 fn absent_fields_read_as_document_01_says() {
-    let (straight, _) = read_site(&encode_record(0, 0b11, &PLAIN)).expect("a record");
+    let (straight, _) = read_site(YEARS, &encode_record(0, 0b11, &PLAIN)).expect("a record");
     assert_eq!(straight, Site::plain(0, 500, 600));
     let held = |site: &Site| {
         let names = FIELD_NAMES
@@ -252,9 +259,10 @@ fn absent_fields_read_as_document_01_says() {
         held(&straight),
         "traffic length lane shoulder shoulder-type grade driveways two-way-lane passing hazard-rating"
     );
-    let (curve, _) = read_site(&encode_record(0, 0xC3, &[500, 600, 7, 100])).expect("a record");
+    let (curve, _) =
+        read_site(YEARS, &encode_record(0, 0xC3, &[500, 600, 7, 100])).expect("a record");
     assert_eq!(curve, Site::plain(0, 500, 600).with_curve(7, 100));
-    let (signal, _) = read_site(&encode_record(3, 0b111, &[1, 2, 0])).expect("a record");
+    let (signal, _) = read_site(YEARS, &encode_record(3, 0b111, &[1, 2, 0])).expect("a record");
     assert_eq!(
         held(&signal),
         "traffic observed minor-traffic left-turn-lanes right-turn-lanes"
@@ -267,7 +275,7 @@ fn absent_fields_read_as_document_01_says() {
 fn the_writer_refuses_what_the_kind_has_not() {
     for kind in 0..4 {
         let good = Site::plain(kind, 500, 600);
-        assert!(write_site(&good, 7).is_ok());
+        assert!(write_site(YEARS, &good, 7).is_ok());
         for (field, _) in FIELD_NAMES {
             let known = rules(kind)
                 .expect("a kind")
@@ -280,17 +288,17 @@ fn the_writer_refuses_what_the_kind_has_not() {
                 Some(rule) if rule.is_of_curve() => changed.set(field, Some(rule.high)),
                 Some(_) => changed.set(field, None),
             }
-            assert_eq!(write_site(&changed, 99), Err(8), "{kind} {field:?}");
+            assert_eq!(write_site(YEARS, &changed, 99), Err(8), "{kind} {field:?}");
         }
     }
-    assert_eq!(write_site(&Site::plain(4, 1, 1), 99), Err(8));
-    assert_eq!(write_site(&Site::empty(255), 0), Err(8));
+    assert_eq!(write_site(YEARS, &Site::plain(4, 1, 1), 99), Err(8));
+    assert_eq!(write_site(YEARS, &Site::empty(255), 0), Err(8));
 }
 
 #[test]
 fn the_writer_refuses_parts_of_a_curve() {
     let curve = Site::plain(0, 500, 600).with_curve(700, 800);
-    assert!(write_site(&curve, 11).is_ok());
+    assert!(write_site(YEARS, &curve, 11).is_ok());
     for field in [
         Field::CurveLength,
         Field::Radius,
@@ -299,7 +307,7 @@ fn the_writer_refuses_parts_of_a_curve() {
     ] {
         let mut part = curve;
         part.set(field, None);
-        assert_eq!(write_site(&part, 99), Err(8), "{field:?}");
+        assert_eq!(write_site(YEARS, &part, 99), Err(8), "{field:?}");
     }
 }
 
@@ -314,14 +322,17 @@ fn the_writer_refuses_values_outside_their_ranges() {
                 plain
             };
             for value in [rule.low, rule.high] {
-                assert!(write_site(&good.with(rule.field, value), 99).is_ok());
+                assert!(write_site(YEARS, &good.with(rule.field, value), 99).is_ok());
             }
             assert_eq!(
-                write_site(&good.with(rule.field, rule.high + 1), 99),
+                write_site(YEARS, &good.with(rule.field, rule.high + 1), 99),
                 Err(8)
             );
             if rule.low > 0 {
-                assert_eq!(write_site(&good.with(rule.field, rule.low - 1), 99), Err(8));
+                assert_eq!(
+                    write_site(YEARS, &good.with(rule.field, rule.low - 1), 99),
+                    Err(8)
+                );
             }
         }
     }
@@ -331,12 +342,12 @@ fn the_writer_refuses_values_outside_their_ranges() {
 fn the_writer_needs_just_the_records_length() {
     let mut random = Random::new(11);
     for _ in 0..500 {
-        let site = site(&mut random);
-        let record = write_site(&site, usize::MAX).expect("a site");
-        assert_eq!(write_site(&site, record.len()), Ok(record.clone()));
-        assert_eq!(write_site(&site, record.len() - 1), Err(10));
+        let site = site(&mut random, HEADER.years);
+        let record = write_site(YEARS, &site, usize::MAX).expect("a site");
+        assert_eq!(write_site(YEARS, &site, record.len()), Ok(record.clone()));
+        assert_eq!(write_site(YEARS, &site, record.len() - 1), Err(10));
         // 8 is tried before 10.
-        assert_eq!(write_site(&site.with(Field::Traffic, 0), 0), Err(8));
+        assert_eq!(write_site(YEARS, &site.with(Field::Traffic, 0), 0), Err(8));
     }
 }
 
@@ -344,9 +355,9 @@ fn the_writer_needs_just_the_records_length() {
 fn sites_come_back_from_their_records() {
     let mut random = Random::new(12);
     for _ in 0..5_000 {
-        let site = site(&mut random);
-        let record = write_site(&site, usize::MAX).expect("a site");
-        assert_eq!(read_site(&record), Ok((site, record.len())));
+        let site = site(&mut random, HEADER.years);
+        let record = write_site(YEARS, &site, usize::MAX).expect("a site");
+        assert_eq!(read_site(YEARS, &record), Ok((site, record.len())));
     }
 }
 
@@ -386,31 +397,233 @@ fn damaged_files_meet_every_number() {
     assert!(seen[0] < 900, "{seen:?}");
 }
 
+/// A site of a kind with every field and the most years of traffic.
+fn full(kind: u8) -> Site {
+    let table = rules(kind).expect("a kind");
+    let filled = table.iter().fold(Site::empty(kind), |site, rule| {
+        let is_default = rule.default() == Some(rule.high);
+        site.with(rule.field, if is_default { rule.low } else { rule.high })
+    });
+    let traffic = table.iter().filter(|rule| rule.is_traffic());
+    traffic.fold(filled, |site, rule| {
+        site.with_years(rule.field, &[rule.high; MOST_YEARS as usize])
+    })
+}
+
+/// Document 02: "longer records", the longest of them 3 + 2 x 7 + 2 x 18 bytes.
 #[test]
 fn the_longest_file_is_within_its_bound() {
-    let mut full = Site::plain(0, 20_000, 20_000)
-        .with_curve(20_000, 30_000)
-        .with(Field::Observed, 500);
-    for rule in rules(0)
-        .expect("a kind")
-        .iter()
-        .filter(|rule| rule.default().is_some())
-    {
-        let other = if rule.default() == Some(rule.low) {
-            rule.high
-        } else {
-            rule.low
-        };
-        full.set(rule.field, Some(other));
-    }
+    let lengths = [0, 1, 2, 3].map(|kind| {
+        let record = write_site(MOST_YEARS.into(), &full(kind), usize::MAX);
+        record.expect("a site").len()
+    });
+    assert_eq!(lengths, [51, 53, 53, 49]);
+    assert_eq!(LONGEST_RECORD, 53);
     let project = Project {
-        header: HEADER,
-        sites: vec![full; MOST_SITES],
+        header: Header {
+            years: MOST_YEARS,
+            ..HEADER
+        },
+        sites: vec![full(2); MOST_SITES],
     };
     assert_eq!(
         write_project(&project).map(|file| file.len()),
         Ok(LONGEST_FILE)
     );
+    assert_eq!(LONGEST_FILE, 8 + 1_200 * 53);
+}
+
+/// A record with bit 15: the values in their order.
+fn yearly(kind: u8, bits: u16, values: &[u16]) -> Vec<u8> {
+    encode_record(kind, 1 << YEARLY_BIT | bits, values)
+}
+
+/// Traffic 1 to 5, length 600; and both traffics of a crossing.
+const SEGMENT_YEARS: [u16; 6] = [1, 2, 3, 4, 5, 600];
+const CROSSING_YEARS: [u16; 10] = [1, 2, 3, 4, 5, 11, 12, 13, 14, 15];
+
+fn yearly_segment() -> Site {
+    Site::plain(0, 1, 600).with_years(Field::Traffic, &SEGMENT_YEARS[..5])
+}
+
+fn yearly_crossing(kind: u8) -> Site {
+    Site::plain(kind, 1, 11)
+        .with_years(Field::Traffic, &CROSSING_YEARS[..5])
+        .with_years(Field::MinorTraffic, &CROSSING_YEARS[5..])
+}
+
+/// Document 02: "each traffic field is followed by Y - 1 more values, for years
+/// two to Y", and a writer "drops" nothing of them.
+#[test]
+fn later_years_stand_after_their_traffic() {
+    let mut records = vec![(yearly(0, 0b11, &SEGMENT_YEARS), yearly_segment())];
+    for kind in 1..4 {
+        let record = yearly(kind, 0b11, &CROSSING_YEARS);
+        records.push((record, yearly_crossing(kind)));
+    }
+    // A history and a lane follow the length; bit 15 has no field of its own.
+    records.push((
+        yearly(0, 0b1111, &[1, 2, 3, 4, 5, 600, 7, 11]),
+        yearly_segment()
+            .with(Field::Observed, 7)
+            .with(Field::LaneWidth, 11),
+    ));
+    for (record, site) in records {
+        assert_eq!(read_site(YEARS, &record), Ok((site, record.len())));
+        assert_eq!(write_site(YEARS, &site, record.len()), Ok(record.clone()));
+        assert_eq!(write_site(YEARS, &site, record.len() - 1), Err(10));
+        for length in 0..record.len() {
+            record_refused(&record[..length], 1);
+        }
+    }
+    // A site holds no number for a year that is not given.
+    let held = |site: &Site| TRAFFIC_FIELDS.map(|field| site.later(field).to_vec());
+    let [traffic, minor] = held(&yearly_segment());
+    assert_eq!(traffic[..4], [2, 3, 4, 5].map(Some));
+    assert_eq!(
+        (&traffic[4..], &minor[..]),
+        (&[None; 5][..], &[None; 9][..])
+    );
+    assert_eq!(held(&Site::plain(3, 1, 1)), [vec![None; 9], vec![None; 9]]);
+}
+
+/// The length of the same bytes rests on the years.
+#[test]
+fn later_years_are_those_of_the_project() {
+    for years in 2..=u64::from(MOST_YEARS) {
+        let traffic: Vec<u16> = (1..=years as u16).collect();
+        let record = yearly(0, 0b11, &[&traffic[..], &[600]].concat());
+        let site = Site::plain(0, 1, 600).with_years(Field::Traffic, &traffic);
+        assert_eq!(read_site(years, &record), Ok((site, record.len())));
+        assert_eq!(write_site(years, &site, record.len()), Ok(record.clone()));
+        for other in (1..=u64::from(MOST_YEARS)).filter(|other| *other != years) {
+            let taken = read_site(other, &record).map(|(_, length)| length);
+            let shorter = (1 < other && other < years).then_some(3 + 2 * (other as usize + 1));
+            assert_eq!(taken.ok(), shorter, "{other} of {years}");
+            assert_eq!(write_site(other, &site, 99), Err(8), "{other} of {years}");
+        }
+    }
+}
+
+/// "Bit 15 with Y = 1 is refused with 7", after a bit that the kind lacks and
+/// before a missing field.
+#[test]
+fn seven_later_years_of_one_year() {
+    for kind in 0..4 {
+        for values in [&[500, 600][..], &[500], &[], &[0, 0]] {
+            assert_eq!(read_site(1, &yearly(kind, 0b11, values)), Err(7));
+        }
+        assert_eq!(read_site(1, &yearly(kind, 0b01, &[500, 600])), Err(7));
+        let one = Header { years: 1, ..HEADER };
+        let record = yearly(kind, 0b11, &PLAIN);
+        let file = [encode_header(&one, 1), record].concat();
+        refused(&file, 7, 8);
+    }
+    assert_eq!(read_site(1, &yearly(1, 0x83, &PLAIN)), Err(6));
+    // With more years a needed bit or half a curve is still 7.
+    record_refused(&yearly(0, 0b01, &SEGMENT_YEARS), 7);
+    record_refused(&yearly(0, 0x43, &SEGMENT_YEARS), 7);
+}
+
+/// Each value "has the range of the first", and is tried in its turn: after its
+/// own traffic and before the next field.
+#[test]
+fn eight_a_later_year_outside_its_range() {
+    for (kind, values) in [(0, &SEGMENT_YEARS[..]), (1, &CROSSING_YEARS)]
+        .into_iter()
+        .chain([(2, &CROSSING_YEARS[..]), (3, &CROSSING_YEARS)])
+    {
+        for at in 0..values.len() {
+            for wrong in [0, 20_001, 65_535] {
+                let mut values = values.to_vec();
+                values[at] = wrong;
+                record_refused(&yearly(kind, 0b11, &values), 8);
+            }
+            for end in [1, 20_000] {
+                let mut values = values.to_vec();
+                values[at] = end;
+                assert!(read_site(YEARS, &yearly(kind, 0b11, &values)).is_ok());
+            }
+        }
+    }
+    // A missing value is tried before any range; a lane's default before a
+    // shoulder, and after the years.
+    record_refused(&yearly(0, 0b11, &[1, 0, 3, 4, 5]), 1);
+    record_refused(&yearly(0, 0b1011, &[1, 0, 3, 4, 5, 600, 12]), 8);
+    record_refused(&yearly(0, 0b1011, &[1, 2, 3, 4, 5, 600, 12]), 9);
+    // No later year has a default.
+    assert!(read_site(YEARS, &yearly(0, 0b11, &[12, 12, 12, 12, 12, 600])).is_ok());
+}
+
+/// "Years outside its limits is 4 at place 0, tried first."
+#[test]
+fn four_years_of_the_site_reader_and_writer() {
+    let sites = [yearly_segment(), Site::plain(3, 1, 1), Site::empty(9)];
+    let parts = [&[][..], &[9], &yearly(0, 0b11, &SEGMENT_YEARS)];
+    for years in edges(MOST_YEARS.into()) {
+        let is_within = (1..=10).contains(&years);
+        for part in parts {
+            assert_eq!(read_site(years, part).err() == Some(4), !is_within);
+        }
+        for site in &sites {
+            for room in [0, 99] {
+                let number = write_site(years, site, room).err();
+                assert_eq!(number == Some(4), !is_within, "{years}");
+            }
+        }
+    }
+}
+
+/// "Yearly values with Y = 1, or not Y - 1 of them for each traffic field, as
+/// outside the range."
+#[test]
+fn the_writer_refuses_other_years() {
+    let refused = |years: u64, site: &Site| {
+        assert_eq!(write_site(years, site, 0), Err(8), "{years}: {site:?}");
+    };
+    for site in [yearly_segment(), yearly_crossing(1), yearly_crossing(3)] {
+        let fields: Vec<Field> = rules(site.kind)
+            .expect("a kind")
+            .iter()
+            .filter(|rule| rule.is_traffic())
+            .map(|rule: &Rule| rule.field)
+            .collect();
+        assert!(write_site(YEARS, &site, 99).is_ok());
+        for years in [1, 2, 3, 4, 6, 10] {
+            refused(years, &site);
+        }
+        for field in fields {
+            // One too few at either end, one too many, and a gap.
+            for (year, value) in [(2, None), (5, None), (6, Some(1)), (10, Some(1))] {
+                let mut other = site;
+                other.set_later(field, year, value);
+                refused(YEARS, &other);
+            }
+            for value in [0, 20_001] {
+                let mut other = site;
+                other.set_later(field, 5, Some(value));
+                refused(YEARS, &other);
+            }
+            // The first year's value is still needed.
+            let mut other = site;
+            other.set(field, None);
+            refused(YEARS, &other);
+        }
+    }
+    // One traffic with later years and the other without.
+    refused(YEARS, &yearly_crossing(2).with_years(Field::Traffic, &[7]));
+    refused(
+        YEARS,
+        &yearly_crossing(2).with_years(Field::MinorTraffic, &[7]),
+    );
+    // A segment has no minor traffic.
+    let mut minor = yearly_segment();
+    minor.set_later(Field::MinorTraffic, 2, Some(1));
+    refused(YEARS, &minor);
+    let mut alone = Site::plain(0, 500, 600);
+    alone.set_later(Field::MinorTraffic, 2, Some(1));
+    refused(2, &alone);
+    refused(1, &alone);
 }
 
 #[test]
@@ -436,6 +649,21 @@ fn lines_with_faults_are_not_taken() {
     ] {
         assert!(made(line).is_err(), "{line}");
     }
+    let yearly = |line: &str| made(line).expect("lines with traffic year by year");
+    let record = encode_record(0, 0x8003, &[5, 7, 6]);
+    assert_eq!(yearly("segment traffic 5,7 length 6")[8..], record);
+    let record = encode_record(3, 0x8003, &[5, 7, 6, 6]);
+    assert_eq!(yearly("4sg traffic 5,7 minor-traffic 6,6")[8..], record);
+    for line in [
+        "segment traffic 5,7,9 length 6",
+        "segment traffic 5,0 length 6",
+        "segment traffic 5, length 6",
+        "segment traffic 5,7 length 6,6",
+        "4sg traffic 5,7 minor-traffic 6",
+        "4sg traffic 5 minor-traffic 6,6",
+    ] {
+        assert!(made(line).is_err(), "{line}");
+    }
     assert!(lines::make("years 2\nedition 1\n").is_err());
     assert!(lines::make("edition 2\nyears 2\n").is_err());
 }
@@ -446,7 +674,7 @@ fn lines_are_taken_where_the_writer_takes_their_site() {
     let mut random = Random::new(17);
     let (mut taken, mut refused) = (0, 0);
     for _ in 0..20_000 {
-        let site = disturbed_site(&mut random);
+        let site = disturbed_site(&mut random, HEADER.years);
         if rules(site.kind).is_none() {
             continue;
         }

@@ -1,12 +1,15 @@
 //! The checker takes a right report and rejects each kind of wrong one.
 
 use reference::checker::{report_faults, site_line_faults, Fault, Line, Pair, Wrong};
+use reference::estimates::Estimates;
 use reference::generate::{largest_project, project, Random};
 use reference::model::{Model, FIRST_EDITION};
-use reference::prediction::{report, totals};
+use reference::prediction::{expected_pair, predicted, report, totals};
 use reference::project::{Header, Project};
 use reference::record::Site;
-use reference::rules::{Field, FOUR_LEG_SIGNAL, FOUR_LEG_STOP, SEGMENT, THREE_LEG_STOP};
+use reference::rules::{
+    Field, FOUR_LEG_SIGNAL, FOUR_LEG_STOP, SEGMENT, THREE_LEG_STOP, TRAFFIC_FIELDS,
+};
 
 const MODEL: &Model = &FIRST_EDITION;
 const DEPTHS: [u32; 3] = [1, 3, 9];
@@ -221,7 +224,7 @@ fn moved(project: &Project, index: usize, low: i64, high: i64) -> Vec<u64> {
     line[0] = line[0].saturating_add_signed(low);
     line[1] = line[1].saturating_add_signed(high);
     let site = &project.sites[index];
-    let (low, high) = reference::prediction::expected_pair(MODEL, site, line[0], line[1]);
+    let (low, high) = expected_pair(MODEL, site, line[0], line[1]);
     line[2] = low.to_u64().expect("a number of millionths");
     line[3] = high.to_u64().expect("a number of millionths");
     with_totals(numbers)
@@ -315,17 +318,27 @@ fn too_wide(wrongs: &[Wrong]) -> (bool, bool) {
 #[test]
 fn a_sites_widths_end_where_the_demand_says() {
     // 4 + high / 1,000,000 and 8 (1 + O) + high / 1,000,000, with a high whose
-    // millionth is a whole number and one that falls just short of it.
+    // millionth is a whole number and one that falls just short of it. With
+    // traffic year by year "such a site counts as Y sites, and each of its
+    // observed crashes as Y": 4 Y and 8 (Y + Y O).
     let signal = Site::plain(FOUR_LEG_SIGNAL, 10_000, 1_000);
-    for (site, observed) in [(signal, 0), (signal.with(Field::Observed, 5), 5)] {
-        for (high, part) in [(7_000_000, 7), (6_999_999, 6)] {
-            let (predicted, expected) = (4 + part, 8 * (1 + observed) + part);
-            let line = |more: u64| {
-                let lows = [high - predicted - more, high - expected - more];
-                site_line_faults(MODEL, &site, &[lows[0], high, lows[1], high])
-            };
-            assert_eq!(too_wide(&line(0)), (false, false));
-            assert_eq!(too_wide(&line(1)), (true, true));
+    let yearly = |years: u8| of_years(signal, years);
+    for (site, years, count) in [
+        (signal, 1, 1),
+        (signal, 10, 1),
+        (yearly(2), 2, 2),
+        (yearly(10), 10, 10),
+    ] {
+        for (site, observed) in [(site, 0), (site.with(Field::Observed, 5), 5)] {
+            for (high, part) in [(7_000_000, 7), (6_999_999, 6)] {
+                let (predicted, expected) = (4 * count + part, 8 * count * (1 + observed) + part);
+                let line = |more: u64| {
+                    let lows = [high - predicted - more, high - expected - more];
+                    site_line_faults(MODEL, years, &site, &[lows[0], high, lows[1], high])
+                };
+                assert_eq!(too_wide(&line(0)), (false, false));
+                assert_eq!(too_wide(&line(1)), (true, true));
+            }
         }
     }
 }
@@ -333,16 +346,136 @@ fn a_sites_widths_end_where_the_demand_says() {
 #[test]
 fn the_totals_widths_end_where_the_demand_says() {
     // Four sites with 35 observed crashes: 16 and 8 (4 + 35), and high's part.
-    let project = sample();
+    // The signal of five crashes year by year in five years counts as five sites
+    // and its crashes as 25: 32 and 8 (8 + 55).
+    let plain = sample();
+    let mut yearly = sample();
+    yearly.sites[3] = of_years(yearly.sites[3], yearly.header.years);
     let (high, part) = (9_000_000, 9);
-    let totals = |more: u64| {
-        let mut numbers = vec![0; 16];
-        let lows = [high - 16 - part - more, high - 8 * 39 - part - more];
-        numbers.extend([lows[0], high, lows[1], high]);
-        let faults = report_faults(MODEL, &project, &numbers, &[]);
-        let of_totals = faults.iter().filter(|fault| fault.line == Line::Totals);
-        of_totals.map(|fault| fault.wrong).collect::<Vec<_>>()
+    for (project, sites, observed) in [(plain, 4, 35), (yearly, 8, 55)] {
+        let totals = |more: u64| {
+            let mut numbers = vec![0; 16];
+            let predicted = 4 * sites + part + more;
+            let expected = 8 * (sites + observed) + part + more;
+            numbers.extend([high - predicted, high, high - expected, high]);
+            let faults = report_faults(MODEL, &project, &numbers, &[]);
+            let of_totals = faults.iter().filter(|fault| fault.line == Line::Totals);
+            of_totals.map(|fault| fault.wrong).collect::<Vec<_>>()
+        };
+        assert_eq!(too_wide(&totals(0)), (false, false));
+        assert_eq!(too_wide(&totals(1)), (true, true));
+    }
+}
+
+/// A site with more traffic every year.
+fn of_years(site: Site, years: u8) -> Site {
+    let rising = |field| {
+        let first = site.get(field)?;
+        Some(
+            (0..u16::from(years))
+                .map(|more| first + 100 * more)
+                .collect(),
+        )
     };
-    assert_eq!(too_wide(&totals(0)), (false, false));
-    assert_eq!(too_wide(&totals(1)), (true, true));
+    TRAFFIC_FIELDS.iter().fold(site, |site, field| {
+        let traffic: Option<Vec<u16>> = rising(*field);
+        traffic.map_or(site, |traffic| site.with_years(*field, &traffic))
+    })
+}
+
+/// The sample with traffic year by year at every site.
+fn yearly_sample() -> Project {
+    let Project { header, sites } = sample();
+    let yearly = |site: &Site| of_years(*site, header.years);
+    let sites = sites.iter().map(yearly).collect();
+    Project { header, sites }
+}
+
+/// The exact sums of one-year predictions, each with that year's traffic.
+#[test]
+fn a_prediction_is_the_sum_of_its_years() {
+    let Project { header, sites } = yearly_sample();
+    let one = Header { years: 1, ..header };
+    for site in &sites {
+        for depth in DEPTHS {
+            let years = (1..=header.years.into()).map(|year| site.in_year(year));
+            let sum = Estimates::sum(years.map(|year| predicted(MODEL, &one, &year, depth)));
+            assert_eq!(predicted(MODEL, &header, site, depth), sum);
+        }
+    }
+}
+
+/// A report whose predicted pairs are the sums of the years' pairs, each rounded
+/// outward.
+fn by_years(project: &Project) -> Vec<u64> {
+    let one = Header {
+        years: 1,
+        ..project.header
+    };
+    let mut numbers = Vec::new();
+    for site in &project.sites {
+        let terms = site.terms(project.header.years);
+        let sites = terms.into_iter().map(|(_, year)| year).collect();
+        let years = report(MODEL, &Project { header: one, sites }, 9);
+        let [low, high] = [0, 1].map(|at| years[years.len() - 4 + at]);
+        let (expected_low, expected_high) = expected_pair(MODEL, site, low, high);
+        let expected = [expected_low, expected_high].map(|end| end.to_u64().expect("millionths"));
+        numbers.extend([[low, high], expected].concat());
+    }
+    let totals = totals(&numbers);
+    numbers.extend(totals);
+    numbers
+}
+
+#[test]
+fn yearly_reports_have_no_faults() {
+    let project = yearly_sample();
+    assert_eq!(faults(&project, &report(MODEL, &project, 9)), []);
+    let summed = by_years(&project);
+    assert_eq!(faults(&project, &summed), []);
+    // One year's width would not do for such a pair.
+    assert!(summed.chunks(4).any(|line| line[1] - line[0] > 4));
+}
+
+/// Engines that take the first year throughout, leave out the last year, or
+/// count on with the last.
+#[test]
+fn yearly_sites_taken_otherwise_are_rejected() {
+    let project = yearly_sample();
+    let header = project.header;
+    let of_plain = |year: usize| Project {
+        header,
+        sites: project
+            .sites
+            .iter()
+            .map(|site| site.in_year(year))
+            .collect(),
+    };
+    let shorter = Project {
+        header: Header {
+            years: header.years - 1,
+            ..header
+        },
+        sites: project.sites.clone(),
+    };
+    for other in [of_plain(1), of_plain(5), of_plain(3), shorter] {
+        let wrong = faults(&project, &report(MODEL, &other, 9));
+        for index in 0..project.sites.len() {
+            assert!(wrong.iter().any(|fault| fault.line == Line::Site(index)));
+        }
+    }
+}
+
+#[test]
+fn a_yearly_pair_may_be_as_wide_as_its_years_and_no_wider() {
+    let project = yearly_sample();
+    for index in 0..4 {
+        let right = report(MODEL, &project, 9);
+        let (low, high) = (right[4 * index], right[4 * index + 1]);
+        // 4 for each of five years, and the millionth of high.
+        let room = 20 + (high / 1_000_000) as i64 - (high - low) as i64;
+        assert_eq!(faults(&project, &moved(&project, index, -room, 0)), []);
+        let wrong = faults(&project, &moved(&project, index, -room - 1, 0));
+        assert!(wrong.contains(&site_fault(index, Wrong::Wide(Pair::Predicted))));
+    }
 }

@@ -14,6 +14,10 @@ use std::collections::HashSet;
 
 const DEPTH: u32 = 9;
 
+fn of_site(header: &Header, site: &Site) -> SiteEstimates {
+    site_estimates(&FIRST_EDITION, header, site, DEPTH)
+}
+
 fn faults_of(model: &Model, start: &str) -> Vec<String> {
     faults(start, |header, site| {
         site_estimates(model, header, site, DEPTH)
@@ -30,24 +34,20 @@ fn of_the_first_edition() {
 fn have_names_of_their_own() {
     let figures = figures();
     let names: HashSet<_> = figures.iter().map(|figure| &figure.name).collect();
-    assert_eq!((figures.len(), names.len()), (202, 202));
+    assert_eq!((figures.len(), names.len()), (230, 230));
 }
 
 /// A site's estimates where its shoulder is so many feet wide.
 fn at_width(header: &Header, site: &Site, feet: u16) -> SiteEstimates {
-    let site = site.with(Field::ShoulderWidth, feet);
-    site_estimates(&FIRST_EDITION, header, &site, DEPTH)
+    of_site(header, &site.with(Field::ShoulderWidth, feet))
 }
 
 /// The mean of two sites' predictions: the mean of two products, since a factor
 /// is a share of the product and a constant.
 fn mean(one: SiteEstimates, other: SiteEstimates) -> SiteEstimates {
-    let half = |one: &Rational, other: &Rational| &(one + other) * &Rational::of(1, 2);
+    let sum = Estimates::sum([one.predicted, other.predicted]);
     SiteEstimates {
-        predicted: Estimates {
-            under: half(&one.predicted.under, &other.predicted.under),
-            over: half(&one.predicted.over, &other.predicted.over),
-        },
+        predicted: sum.scaled(&Rational::of(1, 2)),
         expected: one.expected,
     }
 }
@@ -60,7 +60,7 @@ fn notice_an_odd_shoulder_taken_otherwise() {
     let is_noticed = |name: &str, rule: &dyn Fn(&Header, &Site, u16) -> SiteEstimates| {
         let model = |header: &Header, site: &Site| match site.get(Field::ShoulderWidth) {
             Some(feet) if feet % 2 == 1 => rule(header, site, feet),
-            _ => site_estimates(&FIRST_EDITION, header, site, DEPTH),
+            _ => of_site(header, site),
         };
         !faults(name, model).is_empty()
     };
@@ -82,6 +82,91 @@ fn notice_an_odd_shoulder_taken_otherwise() {
     let between_six_and_eight = |header: &Header, site: &Site, _| at_width(header, site, 7);
     for name in ["shoulder at 2001, feet 9", "shoulder type turf, feet 9"] {
         assert!(is_noticed(name, &between_six_and_eight), "{name}");
+    }
+}
+
+/// What the figures of traffic year by year rest on: each way of taking it
+/// wrongly is noticed by a figure that is named after what it gets wrong.
+#[test]
+fn notice_traffic_year_by_year_taken_otherwise() {
+    type Rule = fn(&Header, &Site) -> SiteEstimates;
+    let is_noticed = |name: &str, rule: Rule| {
+        let model = |header: &Header, site: &Site| match site.is_yearly() {
+            true => rule(header, site),
+            false => of_site(header, site),
+        };
+        !faults(name, model).is_empty()
+    };
+    let first_year_throughout: Rule = |header, site| of_site(header, &site.in_year(1));
+    let last_year_left_out: Rule = |header, site| {
+        let years = header.years - 1;
+        of_site(&Header { years, ..*header }, site)
+    };
+    for years in 2..=10 {
+        let name = format!("yearly segment of {years} years");
+        assert!(is_noticed(&name, first_year_throughout), "{name}");
+        assert!(is_noticed(&name, last_year_left_out), "{name}");
+    }
+    for name in [
+        "yearly segment, lane",
+        "yearly segment, shoulder",
+        "yearly segment, driveways",
+    ] {
+        assert!(is_noticed(name, first_years_factors), "{name}");
+    }
+    for kind in ["3st", "4st", "4sg"] {
+        let name = |what: &str| format!("yearly {kind}, {what}");
+        for what in ["the same every year", "major road late", "minor road late"] {
+            assert!(is_noticed(&name(what), last_year_left_out), "{kind} {what}");
+        }
+        let minor_of_the_first: Rule = |header, site| {
+            let minor = site.get(Field::MinorTraffic).unwrap_or(0);
+            let years = vec![minor; header.years.into()];
+            of_site(header, &site.with_years(Field::MinorTraffic, &years))
+        };
+        assert!(is_noticed(&name("minor road late"), minor_of_the_first));
+        assert!(is_noticed(&name("major road late"), first_year_throughout));
+    }
+    assert!(is_noticed(
+        "yearly segment k at observed 0",
+        history_of_each_year
+    ));
+    assert!(is_noticed(
+        "the back road along the river",
+        first_years_factors
+    ));
+}
+
+/// The first year's crashes for each vehicle in every year.
+fn first_years_factors(header: &Header, site: &Site) -> SiteEstimates {
+    let terms = site.terms(header.years);
+    let traffic: u64 = terms
+        .iter()
+        .map(|(_, year)| year.value(Field::Traffic))
+        .sum();
+    let years = u64::from(header.years) * site.value(Field::Traffic);
+    let share = Rational::of(traffic, years);
+    let first = of_site(header, &site.in_year(1));
+    SiteEstimates {
+        predicted: first.predicted.scaled(&share),
+        expected: first.expected.scaled(&share),
+    }
+}
+
+/// A history of none in each year, weighed with that year's prediction.
+fn history_of_each_year(header: &Header, site: &Site) -> SiteEstimates {
+    let one = Header {
+        years: 1,
+        ..*header
+    };
+    let years = site.terms(header.years).into_iter();
+    let made: Vec<SiteEstimates> = years.map(|(_, year)| of_site(&one, &year)).collect();
+    let sum = |part: fn(&SiteEstimates) -> &Estimates| {
+        Estimates::sum(made.iter().map(|year| part(year).clone()))
+    };
+    SiteEstimates {
+        predicted: sum(|year| &year.predicted),
+        expected: sum(|year| &year.expected),
     }
 }
 

@@ -12,7 +12,7 @@ use Rattle.header.specs.Header.{headerLength, mostSites}
 use Rattle.project.specs.declared.ScanAnswer.{ScanAnswer}
 use Rattle.project.specs.declared.ScanAnswer.the-variants as scan
 use Rattle.site.specs.Theorems.{longest, read-length}
-use Rattle.project.specs.File.{scanFile}
+use Rattle.project.specs.File.{yearsIn, scanFile}
 use Rattle.project.specs.Causes.{Starts, first, next, reportLength}
 use Rattle.project.specs.Scan.{accepted-exactly}
 use Rattle.project.specs.SitesRead.{accepted-sites}
@@ -116,7 +116,7 @@ refusal-printed s text out room place {answer} {number} {at} l e refused p = by 
 -- an accepted file is no longer than the longest
 starts-near : {s : List ℕ} {i p : ℕ} → Starts s i p → p ≤ headerLength + i * longest
 starts-near first = omega arith
-starts-near {s} (next {i} {p} {n} {value} r e) = omega (arith, starts-near r, read-length (drop p s) value n e .at-most)
+starts-near {s} (next {i} {p} {n} {value} r e) = omega (arith, starts-near r, read-length (yearsIn s) (drop p s) value n e .at-most)
 
 accepted-short : (s : List ℕ) (n : ℕ) → scanFile s ≡ scan.Accepted n → length s ≤ longestFile
 accepted-short s n e = omega (arith, accepted-sites s n e .few, starts-near (accepted-exactly s n .0 e .ends))

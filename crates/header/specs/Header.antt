@@ -4,7 +4,7 @@ use mathlib.Core.Bool.{Bool, cond, _&&_}
 use mathlib.Core.List.{List, _∷_, _++_}
 use lib.ListN.{length, getD, drop}
 use lib.Dec.{ltb, leb, eqb}
-use Rattle.site.specs.Rules.{inside}
+use Rattle.site.specs.Rules.{inside, yearsKnown}
 use Rattle.site.specs.Record.{word}
 use Rattle.site.specs.Writing.{twoBytes}
 use Rattle.header.specs.declared.Header.{Header}
@@ -30,10 +30,6 @@ countIn s = word (drop 6 s)
 abbrev pub firstEdition : ℕ
 firstEdition = 1
 
--- "years Y, 1 to 10"
-abbrev pub mostYears : ℕ
-mostYears = 10
-
 -- "segment calibration, 1 to 9,999 thousandths .. the same for crossings"
 abbrev pub mostCalibration : ℕ
 mostCalibration = 9999
@@ -44,7 +40,7 @@ mostSites = 1200
 
 -- years and both calibrations within their limits
 unfoldable pub inLimits : Header → Bool
-inLimits header = inside 1 mostYears (header .years) && (inside 1 mostCalibration (header .segments) && inside 1 mostCalibration (header .crossings))
+inLimits header = yearsKnown (header .years) && (inside 1 mostCalibration (header .segments) && inside 1 mostCalibration (header .crossings))
 
 -- and the count of sites
 abbrev pub admits : Header → (sites : ℕ) → Bool

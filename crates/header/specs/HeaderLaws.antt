@@ -8,9 +8,9 @@ use lib.ListN.{length}
 use lib.Dec.{ltb, leb, eqb}
 use borrow.Author.Tests.{ltb-true, ltb-false, lt-ltb, le-ltb, eqb-true, eqb-false, eq-eqb, ne-eqb, leb-true, le-leb}
 use Rattle.laws.specs.Truth.{and-left, and-right, passed, never-so}
-use Rattle.site.specs.Rules.{inside}
+use Rattle.site.specs.Rules.{inside, mostYears, yearsKnown}
 use Rattle.header.specs.declared.Header.{Header}
-use Rattle.header.specs.Header.{headerLength, editionIn, headerIn, countIn, firstEdition, mostYears, mostCalibration, mostSites}
+use Rattle.header.specs.Header.{headerLength, editionIn, headerIn, countIn, firstEdition, mostCalibration, mostSites}
 use Rattle.header.specs.Header.{inLimits, admits, headerNumber}
 use Rattle.header.specs.Causes.{HeaderCause, header-cut, header-edition, header-limits, HeaderAccepted}
 
@@ -26,7 +26,7 @@ pub record HeaderWithin (header : Header) : Type 0 where
 pub limits-of : (header : Header) → inLimits header ≡ true → HeaderWithin header
 unfolding inLimits
 limits-of header e =
-    let years = inside 1 mostYears (header .years) in
+    let years = yearsKnown (header .years) in
     let segments = inside 1 mostCalibration (header .segments) in
     let crossings = inside 1 mostCalibration (header .crossings) in
     let years-in = and-left years (segments && crossings) e in

@@ -22,10 +22,10 @@ module _ (c : Coefficients) (header : Header) (site : Site) where
   unfolding lineAnswer lineRefusal
   header-outside out = (rw out refl, (rw out refl, out))
 
-  pub site-outside : inLimits header ≡ true → sound site ≡ false → Answered OutsideRange
+  pub site-outside : inLimits header ≡ true → sound (header .years) site ≡ false → Answered OutsideRange
   unfolding lineAnswer lineRefusal
   site-outside within out = (rw (within, out) refl, (rw (within, out) refl, (within, out)))
 
-  pub both-inside : inLimits header ≡ true → sound site ≡ true → LineStands c header site (siteLine c header site) → Answered (Made (siteLine c header site))
+  pub both-inside : inLimits header ≡ true → sound (header .years) site ≡ true → LineStands c header site (siteLine c header site) → Answered (Made (siteLine c header site))
   unfolding lineAnswer lineRefusal
   both-inside within valid stands = (rw (within, valid) refl, (rw (within, valid) refl, stands))

@@ -45,8 +45,8 @@ lineNumber OutsideRange = 8
 
 -- "one outside its limits is .. 4 .., tried first": the header, then the site
 unfoldable pub lineRefusal : Header → Site → ℕ
-lineRefusal header site = cond (inLimits header) (cond (sound site) 0 8) 4
+lineRefusal header site = cond (inLimits header) (cond (sound (header .years) site) 0 8) 4
 
 -- a line, or the first refusal
 unfoldable pub lineAnswer : Coefficients → Header → Site → LineAnswer
-lineAnswer c header site = cond (inLimits header) (cond (sound site) (Made (siteLine c header site)) OutsideRange) OutsideLimits
+lineAnswer c header site = cond (inLimits header) (cond (sound (header .years) site) (Made (siteLine c header site)) OutsideRange) OutsideLimits

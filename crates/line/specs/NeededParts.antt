@@ -10,6 +10,7 @@ use Rattle.site.specs.declared.values.Slot.the-variants.{Number}
 use Rattle.header.specs.declared.Header.{Header}
 use Rattle.model.specs.Coefficients.{Coefficients}
 use Rattle.site.specs.Numbers.{number}
+use Rattle.model.specs.StatedWidths.{sitesCounted}
 use Rattle.model.specs.Predicted.{predictedUnder, predictedOver}
 use Rattle.model.specs.Expected.{expectedUnder, expectedOver}
 use Rattle.line.specs.declared.Line.{Line}
@@ -46,11 +47,14 @@ module _ (c : Coefficients) (header : Header) (site : Site) (line : Line) where
   pub expected-exchanged : line .«expected_high» < line .«expected_low» → Fails
   expected-exchanged l s = omega (arith, s .expected-in-order)
 
-  -- more than 4, or 8 (1 + O), and a millionth of the high apart
-  pub predicted-too-wide : 1000000 * (line .«predicted_low» + 4) + line .«predicted_high» < 1000000 * line .«predicted_high» → Fails
+  -- a site that counts as n: more than 4 n, or 8 (n + n O), and a millionth of the high apart
+  abbrev n : ℕ
+  n = sitesCounted (header .years) site
+
+  pub predicted-too-wide : 1000000 * (line .«predicted_low» + 4 * n) + line .«predicted_high» < 1000000 * line .«predicted_high» → Fails
   predicted-too-wide l s = omega (arith, s .predicted-narrow .width)
 
-  pub expected-too-wide : 1000000 * (line .«expected_low» + 8 * (1 + number (site .observed))) + line .«expected_high» < 1000000 * line .«expected_high» → Fails
+  pub expected-too-wide : 1000000 * (line .«expected_low» + 8 * (n + n * number (site .observed))) + line .«expected_high» < 1000000 * line .«expected_high» → Fails
   expected-too-wide l s = omega (arith, s .expected-narrow .width)
 
   -- an expected number that is not between the prediction and the history

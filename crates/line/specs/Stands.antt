@@ -13,7 +13,7 @@ use Rattle.header.specs.Header.{inLimits}
 use Rattle.model.specs.Coefficients.{Coefficients}
 use Rattle.model.specs.Predicted.{predictedUnder, predictedOver}
 use Rattle.model.specs.Expected.{expectedUnder, expectedOver}
-use Rattle.model.specs.StatedWidths.{widthParts, predictedEach, expectedEach, observedWeight}
+use Rattle.model.specs.StatedWidths.{widthParts, predictedEach, expectedEach, sitesCounted, observedWeight}
 use Rattle.line.specs.declared.Line.{Line}
 use Rattle.line.specs.declared.LineAnswer.{LineAnswer}
 use Rattle.line.specs.declared.LineAnswer.the-variants.{Made, OutsideLimits, OutsideRange}
@@ -32,9 +32,10 @@ pub record LineStands (c : Coefficients) (header : Header) (site : Site) (line :
   -- "No low passes its high"
   pub predicted-in-order : line .«predicted_low» ≤ line .«predicted_high»
   pub expected-in-order : line .«expected_low» ≤ line .«expected_high»
-  -- at most 4 and a millionth of the high apart; with O crashes, 8 (1 + O) and a millionth
-  pub predicted-narrow : Narrow widthParts predictedEach 1 (line .«predicted_low») (line .«predicted_high»)
-  pub expected-narrow : Narrow widthParts (expectedEach * (1 + observedWeight c site)) 1 (line .«expected_low») (line .«expected_high»)
+  -- a site that counts as n: at most 4 n and a millionth of the high apart; with O crashes, 8 (n + n O) and a millionth
+  pub predicted-narrow : Narrow widthParts (predictedEach * sitesCounted (header .years) site) 1 (line .«predicted_low») (line .«predicted_high»)
+  pub expected-narrow : Narrow widthParts (expectedEach * (sitesCounted (header .years) site + observedWeight c (header .years) site)) 1
+      (line .«expected_low») (line .«expected_high»)
   -- with a history, between the prediction and it
   pub low-amid : (observed : ℕ) → site .observed ≡ Number observed → Amid (line .«predicted_low») (observed * 1000000) (line .«expected_low»)
   pub high-amid : (observed : ℕ) → site .observed ≡ Number observed → Amid (line .«predicted_high») (observed * 1000000) (line .«expected_high»)
@@ -44,4 +45,4 @@ pub record LineStands (c : Coefficients) (header : Header) (site : Site) (line :
 abbrev pub AnswerStands : Coefficients → Header → Site → LineAnswer → Type 0
 AnswerStands c header site (Made line) = LineStands c header site line
 AnswerStands c header site OutsideLimits = inLimits header ≡ false
-AnswerStands c header site OutsideRange = (inLimits header ≡ true) × (sound site ≡ false)
+AnswerStands c header site OutsideRange = (inLimits header ≡ true) × (sound (header .years) site ≡ false)

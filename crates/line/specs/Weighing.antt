@@ -16,9 +16,10 @@ use Rattle.model.specs.Expected.{weighed, expectedLow, expectedHigh, overdisper
 use Rattle.prediction.specs.Pair.{mostPredicted, predictedPair}
 use Rattle.site.specs.Numbers.{number, observed-most}
 use Rattle.model.specs.Predicted.{predictedUnder, predictedOver}
+use Rattle.model.specs.StatedWidths.{sitesCounted}
 use Rattle.prediction.specs.declared.Pair.{Pair}
 use Rattle.prediction.specs.Kept.{Rated}
-use Rattle.prediction.specs.PredictedLaws.{PairStands, predicted-stands}
+use Rattle.prediction.specs.PredictedLaws.{PairStands, predicted-stands, predicted-small}
 use Rattle.line.specs.Line.{expectedPair, lineBy, siteLine}
 use Rattle.line.specs.Dispersion.{Overdispersed, Dispersed}
 use Rattle.line.specs.LineLaws.{low-between, high-between}
@@ -105,37 +106,41 @@ record PairSmall (e : Pair) : Type 0 where
   low : e .low ≤ mostPredicted
   high : e .high ≤ mostPredicted
 
-module _ (c : Coefficients) (rated : Rated c) (header : Header) (limits : HeaderWithin header) (site : Site) (valid : Valid site) where
+module _ (c : Coefficients) (rated : Rated c) (header : Header) (limits : HeaderWithin header) (site : Site)
+    (valid : Valid (header .years) site) where
   abbrev p : Pair
   p = predictedPair c header site
 
-  stands : PairStands 1 (predictedUnder c header site) (predictedOver c header site) p
+  stands : PairStands (sitesCounted (header .years) site) (predictedUnder c header site) (predictedOver c header site) p
   stands = predicted-stands c rated header limits site valid
+
+  small : p .high ≤ mostPredicted
+  small = predicted-small c rated header limits site valid
 
   module _ (dispersed : Dispersed c) where
     abbrev SizesAt : ℕ → Type 0
     SizesAt n = let k = overdispersionOf c site in Sizes (k .num) (k .den) (number (site .observed)) n
 
     sizes : (n : ℕ) → n ≤ mostPredicted → SizesAt n
-    sizes n h = record { overdispersed = dispersed .sizes site valid; history-most = observed-most site valid; prediction-most = h }
+    sizes n h = record { overdispersed = dispersed .sizes (header .years) site valid; history-most = observed-most (header .years) site valid; prediction-most = h }
 
     pub both-sizes : SizesAt (p .low) × SizesAt (p .high)
-    both-sizes = (sizes (p .low) (omega (arith, stands .in-order, stands .small)), sizes (p .high) (omega (arith, stands .small)))
+    both-sizes = (sizes (p .low) (omega (arith, stands .in-order, small)), sizes (p .high) (omega (arith, small)))
 
   expected-small : (k : Fraction) (slot : Slot) → number slot ≤ 500 → PairSmall (expectedPair k slot p)
-  expected-small k Absent h = record { low = omega (arith, stands .in-order, stands .small); high = omega (arith, stands .small) }
+  expected-small k Absent h = record { low = omega (arith, stands .in-order, small); high = omega (arith, small) }
   expected-small k (Number O) h = record {
-    low = omega (arith, low-between k O (p .low) .to, stands .in-order, stands .small);
-    high = omega (arith, high-between k O (p .high) .to, stands .small);
+    low = omega (arith, low-between k O (p .low) .to, stands .in-order, small);
+    high = omega (arith, high-between k O (p .high) .to, small);
   }
 
   pub line-small : LineAtMost mostPredicted (siteLine c header site)
   unfolding siteLine
   line-small =
-      let e = expected-small (overdispersionOf c site) (site .observed) (observed-most site valid) in
+      let e = expected-small (overdispersionOf c site) (site .observed) (observed-most (header .years) site valid) in
       record {
-        predicted-low = omega (arith, stands .in-order, stands .small);
-        predicted-high = omega (arith, stands .small);
+        predicted-low = omega (arith, stands .in-order, small);
+        predicted-high = omega (arith, small);
         expected-low = e .low;
         expected-high = e .high;
       }

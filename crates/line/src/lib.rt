@@ -45,7 +45,8 @@ pub fn line_with(
     header: Header,
     site: Site,
 ) -> Line
-    requires { ⌜ StoredPowers (now powers) × StoredLogarithms (now logarithms) × StoredExponentials (now exponentials) × HeaderWithin header × Valid site ⌝ }
+    requires { ⌜ StoredPowers (now powers) × StoredLogarithms (now logarithms) × StoredExponentials (now exponentials) × HeaderWithin header
+        × Valid (header .years) site ⌝ }
     ensures { λ r. ⌜ r ≡ siteLine editionOne header site ⌝ }
 {
     let kind = site.kind;
@@ -71,7 +72,7 @@ pub fn line_of(header: Header, site: Site) -> LineAnswer
     if !is_in_limits(header) {
         return LineAnswer::OutsideLimits;
     }
-    if !is_sound(site) {
+    if !is_sound(header.years, site) {
         return LineAnswer::OutsideRange;
     }
     let powers = stored_powers();

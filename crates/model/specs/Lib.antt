@@ -11,6 +11,7 @@ pub mod Predicted
 pub mod Expected
 pub mod StatedWidths
 pub mod Grade
+pub mod TermLaws
 pub mod ExpectedLaws
 pub mod Truncation
 pub mod Neighbours

@@ -134,6 +134,10 @@ pub record Term : Type 0 where
   pub traffic : ℕ
   pub minor : ℕ
 
+-- the term of three numbers
+abbrev pub termAt : (years traffic minor : ℕ) → Term
+termAt years traffic minor = record { years = years; traffic = traffic; minor = minor }
+
 -- "segment: Y × calibration × A × L in miles × 0.000365 × .." the factors, at the traffic of a term
 abbrev pub segmentStart : (calibration : ℕ) → Site → Term → Fraction
 segmentStart calibration site term = (term .years * calibration * term .traffic * number (site .length) * 365) // 1000000000000

@@ -1,9 +1,11 @@
 -- THE STATED WIDTHS of a line and of the totals, each once: at most a part of the high, and so many millionths for each site and
 -- each observed crash.
-use Prim.Native.Nat.{ℕ}
+use Prim.Native.Nat.{ℕ, _*_}
+use mathlib.Core.Bool.{cond}
 use Rattle.site.specs.declared.values.Site.{Site}
-use Rattle.model.specs.Coefficients.{Coefficients}
+use Rattle.site.specs.Yearly.{yearly}
 use Rattle.site.specs.Numbers.{number}
+use Rattle.model.specs.Coefficients.{Coefficients}
 
 -- document 02, request 8: "lose their hundred-thousandth and get a millionth of high in its place"
 abbrev pub widthParts : ℕ
@@ -17,6 +19,10 @@ predictedEach = 4
 abbrev pub expectedEach : ℕ
 expectedEach = 8
 
--- what a site's observed crashes count for there: in edition 1 each once
-abbrev pub observedWeight : Coefficients → Site → ℕ
-observedWeight c site = number (site .observed)
+-- document 02, request 4, of a site with a traffic for each year: "In demand 3's widths such a site counts as Y sites"
+unfoldable pub sitesCounted : (years : ℕ) → Site → ℕ
+sitesCounted years site = cond (yearly site) years 1
+
+-- "and each of its observed crashes as Y"; in edition 1 each crash of another counts once
+abbrev pub observedWeight : Coefficients → (years : ℕ) → Site → ℕ
+observedWeight c years site = sitesCounted years site * number (site .observed)

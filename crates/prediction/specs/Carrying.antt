@@ -1,9 +1,12 @@
--- What the code takes from the factors: the place of each exponent, a start's products, and the list of factors that it went through.
-use Prim.Native.Nat.{ℕ, _*_, _≤_, _<_}
-use mathlib.Core.Path.{_≡_, refl, _∙_}
+-- What the code takes from the factors: the place of each exponent, a start's products, the list of factors that it went through,
+-- and the sum over a site's terms.
+use Prim.Native.Nat.{ℕ, suc, _+_, _-_, _*_, _≤_, _<_}
+use mathlib.Core.Path.{_≡_, refl, ap, _∙_}
 use mathlib.Core.Bool.{true, false}
 use mathlib.Core.List.{List}
-use native.Mathlib.Nat.{mul-le-mul, add-zero}
+use native.Mathlib.Nat.{mul-le-mul, add-zero, add-assoc}
+use native.Mathlib.Numerals.{add-one}
+use native.Mathlib.Omega.{arith}
 use lib.Dec.{lit<}
 use borrow.Author.Tests.{eq-eqb, ne-eqb}
 use Rattle.bracket.specs.declared.Bracket.{Bracket}
@@ -16,16 +19,22 @@ use Rattle.power.specs.Power.{powerBracket}
 use Rattle.site.specs.declared.values.Site.{Site}
 use Rattle.site.specs.declared.numbers.Segment.{Segment}
 use Rattle.site.specs.declared.numbers.Crossing.{Crossing}
-use Rattle.site.specs.Numbers.{number, segmentOf, crossingOf, by-crossing}
+use Rattle.site.specs.Rules.{mostYears}
+use Rattle.site.specs.Yearly.{yearly}
+use Rattle.site.specs.Writing.{Valid}
+use Rattle.site.specs.Numbers.{segmentOf, crossingOf, by-crossing}
 use Rattle.model.specs.Coefficients.{editionOne, byKind}
 use Rattle.model.specs.Crossings.{majorExponent, minorExponent}
-use Rattle.model.specs.Parts.{Factor, straightFactors, curveFactors, segmentFactors, crossingFactors}
+use Rattle.model.specs.Parts.{Factor, Term, straightFactors, curveFactors, segmentFactors, crossingFactors}
 use Rattle.header.specs.declared.Header.{Header}
-use Rattle.header.specs.Header.{mostYears, mostCalibration}
-use Rattle.model.specs.Predicted.{termsOf}
+use Rattle.header.specs.Header.{mostCalibration}
+use Rattle.header.specs.HeaderLaws.{HeaderWithin}
+use Rattle.model.specs.Predicted.{termOf, yearTerm, laterTerms, termsOf}
 use Rattle.prediction.specs.declared.Pair.{Pair}
 use Rattle.prediction.specs.Factors.{bracketsOf}
-use Rattle.prediction.specs.Pair.{segmentUnits, crossingUnits, pairOf, segmentPair, crossingPair, termPair, plus, sumPair, predictedPair}
+use Rattle.prediction.specs.Pair.{segmentUnits, crossingUnits, pairOf, segmentPair, crossingPair, termPair, plus, sumPair, predictedPair, mostPredicted}
+use Rattle.prediction.specs.EditionOne.{edition-one-rated}
+use Rattle.prediction.specs.PredictedLaws.{predicted-stands, predicted-small}
 
 -- by kind, the places of the exponents of major and minor traffic among the powers' five; a segment has none
 abbrev pub majorPlace : ℕ → ℕ
@@ -86,19 +95,55 @@ module _ (v : Segment) (start : ℕ) where
   curve-carried e =
       rw e (carried-append (bracketsOf editionOne (straightFactors v)) (bracketsOf editionOne (curveFactors v)) (Carried start start))
 
--- THE PAIR of a site is that of its kind's numbers
+-- THE PAIR of a term is that of its kind's numbers
+module _ (header : Header) (site : Site) (term : Term) where
+  pub segment-pair : {v : Segment} → v ≡ segmentOf (term .traffic) site → site .kind ≡ 0
+      → pairOf editionOne (segmentUnits (term .years) (header .segments) v) (segmentFactors v) ≡ termPair editionOne header site term
+  unfolding termPair segmentPair
+  segment-pair i e = rw (i, eq-eqb (site .kind) 0 e)
+
+  pub crossing-pair : {v : Crossing} → v ≡ crossingOf (term .traffic) (term .minor) site → (site .kind ≡ 0 → ⊥)
+      → pairOf editionOne (crossingUnits (term .years) (header .crossings)) (crossingFactors v) ≡ termPair editionOne header site term
+  unfolding termPair crossingPair
+  crossing-pair i f = rw (i, ne-eqb (site .kind) 0 f)
+
+-- THE PAIR of a site is the sum of its terms'
 plus-none : (x : Pair) → x ≡ plus x (record { low = 0; high = 0 })
 plus-none x = rw (add-zero (x .low), add-zero (x .high))
 
-module _ (header : Header) (site : Site) where
-  pub segment-pair : {v : Segment} → v ≡ segmentOf (number (site .traffic)) site → site .kind ≡ 0
-      → pairOf editionOne (segmentUnits (header .years) (header .segments) v) (segmentFactors v)
-      ≡ predictedPair editionOne header site
-  unfolding predictedPair sumPair termPair termsOf segmentPair
-  segment-pair i e = rw (i, eq-eqb (site .kind) 0 e) (plus-none _)
+plus-assoc : (x y z : Pair) → plus (plus x y) z ≡ plus x (plus y z)
+plus-assoc x y z = rw (add-assoc (x .low) (y .low) (z .low), add-assoc (x .high) (y .high) (z .high))
 
-  pub crossing-pair : {v : Crossing} → v ≡ crossingOf (number (site .traffic)) (number (site .«minor_traffic»)) site → (site .kind ≡ 0 → ⊥)
-      → pairOf editionOne (crossingUnits (header .years) (header .crossings)) (crossingFactors v)
-      ≡ predictedPair editionOne header site
-  unfolding predictedPair sumPair termPair termsOf crossingPair
-  crossing-pair i f = rw (i, ne-eqb (site .kind) 0 f) (plus-none _)
+module _ (header : Header) (site : Site) where
+  -- one traffic for all the years
+  pub one-term : yearly site ≡ false → termPair editionOne header site (termOf (header .years) site) ≡ predictedPair editionOne header site
+  unfolding predictedPair termsOf sumPair
+  one-term e = rw e (plus-none _)
+
+  -- WHAT THE LOOP KEEPS: the sum so far, and the later years from a place on
+  pub record Summed (i : ℕ) (sum : Pair) : Type 0 where
+    pub few : i < header .years
+    pub whole : plus sum (sumPair editionOne header site (laterTerms site i (header .years - (i + 1)))) ≡ predictedPair editionOne header site
+
+  pub first-summed : yearly site ≡ true → 1 ≤ header .years → Summed 0 (termPair editionOne header site (termOf 1 site))
+  unfolding predictedPair termsOf sumPair
+  first-summed e some = record { few = some; whole = rw e }
+
+  pub next-summed : (i : ℕ) (sum : Pair) → suc i < header .years → Summed i sum → Summed (i + 1) (plus sum (termPair editionOne header site (yearTerm site i)))
+  unfolding sumPair laterTerms
+  next-summed i sum h s =
+      let one-fewer : header .years - (i + 1) ≡ suc (header .years - (suc i + 1)) = omega arith in
+      record { few = omega arith; whole = rw (plus-assoc sum _ _, add-one i) (rw one-fewer at (s .whole)) }
+
+  pub all-summed : (i : ℕ) (sum : Pair) → header .years ≤ i + 1 → Summed i sum → sum ≡ predictedPair editionOne header site
+  unfolding sumPair laterTerms
+  all-summed i sum h s =
+      let none : header .years - (i + 1) ≡ 0 = omega arith in
+      plus-none sum ∙ rw none at (s .whole)
+
+  -- no sum on the way is above the whole
+  pub summed-small : HeaderWithin header → Valid (header .years) site → {i : ℕ} {sum : Pair} → Summed i sum → (sum .low ≤ mostPredicted) × (sum .high ≤ mostPredicted)
+  summed-small limits valid s =
+      let stands = predicted-stands editionOne edition-one-rated header limits site valid in
+      let small = predicted-small editionOne edition-one-rated header limits site valid in
+      (omega (arith, ap (λ (p : Pair). p .low) (s .whole), stands .in-order), omega (arith, ap (λ (p : Pair). p .high) (s .whole)))

@@ -25,9 +25,10 @@ use Rattle.power.specs.PowerMost.{hundredths-standing, hundredths-below}
 use Rattle.driveways.specs.DrivewayLaws.{driveways-stand, driveways-width, driveways-most}
 use Rattle.site.specs.declared.numbers.Segment.{Segment}
 use Rattle.site.specs.declared.numbers.Crossing.{Crossing}
+use Rattle.site.specs.Rules.{mostYears}
 use Rattle.site.specs.Tested.{by-kind}
 use Rattle.site.specs.Numbers.{TrafficSizes, CurveSizes, SegmentSizes, CrossingSizes, by-crossing}
-use Rattle.header.specs.Header.{mostYears, mostCalibration}
+use Rattle.header.specs.Header.{mostCalibration}
 use Rattle.model.specs.Coefficients.{Coefficients}
 use Rattle.model.specs.Crossings.{majorExponent, minorExponent, skewExponent}
 use Rattle.model.specs.Parts.{Part, power, exponential, exponentialNegative, hazard}

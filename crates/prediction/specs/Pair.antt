@@ -12,6 +12,7 @@ use Rattle.site.specs.declared.values.Site.{Site}
 use Rattle.model.specs.Coefficients.{Coefficients}
 use Rattle.site.specs.declared.numbers.Segment.{Segment}
 use Rattle.site.specs.declared.numbers.Crossing.{Crossing}
+use Rattle.site.specs.Rules.{mostYears}
 use Rattle.site.specs.Numbers.{segmentOf, crossingOf}
 use Rattle.model.specs.Parts.{Factor, Term, segmentFactors, crossingFactors}
 use Rattle.header.specs.declared.Header.{Header}
@@ -63,6 +64,9 @@ sumPair k header site (term ∷ terms) = plus (termPair k header site term) (sum
 unfoldable pub predictedPair : Coefficients → Header → Site → Pair
 predictedPair k header site = sumPair k header site (termsOf header site)
 
--- no number of a valid site's pair is above a hundred million crashes (`predicted-stands`)
+-- no number of a term's pair is above a hundred million crashes (`terms-stand`), and a site has at most one for each year
+abbrev pub mostTerm : ℕ
+mostTerm = 100000000000000
+
 abbrev pub mostPredicted : ℕ
-mostPredicted = 100000000000000
+mostPredicted = mostYears * mostTerm

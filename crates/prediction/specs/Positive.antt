@@ -3,7 +3,7 @@ use Prim.Native.Nat.{ℕ, _-_, _*_, _≤_, _<_}
 use mathlib.Core.Path.{_≡_, refl}
 use mathlib.Core.Bool.{Bool, true, false, cond}
 use mathlib.Core.List.{List, [], _∷_, map}
-use lib.Dec.{leb, ltb, eqb, lit<}
+use lib.Dec.{leb, ltb, eqb, lit<, lit≤}
 use native.Mathlib.Nat.{mul-pos, pos-of-ne-zero}
 use native.Mathlib.Omega.{arith}
 use borrow.Author.Tests.{eqb-true, eqb-false}
@@ -15,17 +15,19 @@ use Rattle.estimate.specs.Exponential.{exp-under-positive}
 use Rattle.estimate.specs.ExponentialBounds.{exp-neg-under-positive}
 use Rattle.site.specs.declared.values.Site.{Site}
 use Rattle.site.specs.Writing.{Valid}
-use Rattle.site.specs.Numbers.{number, segmentOf, crossingOf, segment-sizes, crossing-sizes, site-traffic, crossing-minor}
+use Rattle.site.specs.Numbers.{segmentOf, crossingOf, segment-sizes, crossing-sizes}
 use Rattle.model.specs.Coefficients.{Coefficients}
 use Rattle.model.specs.Access.{drivewayAt, drivewayPart}
 use Rattle.model.specs.Parts.{Term, exponential, exponentialNegative, hazard}
 use Rattle.model.specs.Parts.{Factor, Exact, Base, Hazard, Driveways, MajorTraffic, MinorTraffic, Skew, partOf}
-use Rattle.model.specs.Parts.{segmentFactors, crossingFactors, segmentStart, crossingStart, segmentParts, crossingParts}
+use Rattle.model.specs.Parts.{segmentFactors, crossingFactors, segmentStart, crossingStart, segmentParts, crossingParts, partsOf}
 use Rattle.model.specs.FactorBounds.{capped}
 use Rattle.header.specs.declared.Header.{Header}
 use Rattle.header.specs.HeaderLaws.{HeaderWithin}
-use Rattle.model.specs.Predicted.{productUnder, termOf, termsOf, sumUnder, predictedUnder}
+use Rattle.model.specs.Predicted.{productUnder, termOf, laterTerms, sumUnder, predictedUnder}
+use Rattle.model.specs.TermLaws.{by-years}
 use Rattle.prediction.specs.Kept.{Rated, FactorSized, AllSized, segment-sized, crossing-sized}
+use Rattle.prediction.specs.Terms.{TermSizes, first-sized}
 
 times : (x y : Fraction) → 0 < x .num → 0 < y .num → 0 < (x *ᶠ y) .num
 unfolding _*ᶠ_
@@ -75,34 +77,44 @@ module _ (k : Coefficients) (rated : Rated k) where
   product-positive d [] s = one
   product-positive d (factor ∷ factors) s = times _ _ (factor-positive d factor (s .0)) (product-positive d factors (s .1))
 
-  -- A SITE
-  module _ (site : Site) (valid : Valid site) (years calibration d : ℕ) (some-years : 1 ≤ years) (some : 1 ≤ calibration) where
-    segment-positive : site .kind ≡ 0 → 0 < productUnder d (segmentParts k calibration site (termOf years site)) .num
-    unfolding segmentParts productUnder
-    segment-positive e =
-        let v = segmentOf (number (site .traffic)) site in
-        let s = segment-sizes site valid e _ (site-traffic site valid) in
-        times (segmentStart calibration site (termOf years site)) (productUnder d (map (partOf k) (segmentFactors v)))
-        (quotient _ _ (mul-pos (mul-pos (mul-pos (mul-pos some-years some) (s .traffic .least)) (s .length-least)) (lit< tt)))
-        (product-positive d (segmentFactors v) (segment-sized v s))
+  -- A TERM of a site
+  module _ (header : Header) (limits : HeaderWithin header) (site : Site) (valid : Valid (header .years) site) (d : ℕ) where
+    module _ (term : Term) (sizes : TermSizes site term) where
+      segment-positive : site .kind ≡ 0 → 0 < productUnder d (segmentParts k (header .segments) site term) .num
+      unfolding segmentParts productUnder
+      segment-positive e =
+          let v = segmentOf (term .traffic) site in
+          let s = segment-sizes (header .years) site valid e _ (sizes .traffic) in
+          let years = mul-pos (sizes .years-least) (limits .segments-least) in
+          times (segmentStart (header .segments) site term) (productUnder d (map (partOf k) (segmentFactors v)))
+          (quotient _ _ (mul-pos (mul-pos (mul-pos years (s .traffic .least)) (s .length-least)) (lit< tt)))
+          (product-positive d (segmentFactors v) (segment-sized v s))
 
-    crossing-positive : 1 ≤ site .kind → 0 < productUnder d (crossingParts k calibration site (termOf years site)) .num
-    unfolding crossingParts productUnder
-    crossing-positive from =
-        let v = crossingOf (number (site .traffic)) (number (site .«minor_traffic»)) site in
-        let s = crossing-sizes site valid from _ _ (site-traffic site valid) (crossing-minor site valid from) in
-        times (crossingStart calibration (termOf years site)) (productUnder d (map (partOf k) (crossingFactors v)))
-        (quotient _ _ (mul-pos some-years some)) (product-positive d (crossingFactors v) (crossing-sized v s))
+      crossing-positive : 1 ≤ site .kind → 0 < productUnder d (crossingParts k (header .crossings) site term) .num
+      unfolding crossingParts productUnder
+      crossing-positive from =
+          let v = crossingOf (term .traffic) (term .minor) site in
+          let s = crossing-sizes (header .years) site valid from _ _ (sizes .traffic) (sizes .minor from) in
+          times (crossingStart (header .crossings) term) (productUnder d (map (partOf k) (crossingFactors v)))
+          (quotient _ _ (mul-pos (sizes .years-least) (limits .crossings-least))) (product-positive d (crossingFactors v) (crossing-sized v s))
 
-  pub predicted-positive : (header : Header) → HeaderWithin header → (site : Site) → Valid site
-      → (d : ℕ) → 0 < predictedUnder k header site d .num
-  unfolding predictedUnder sumUnder termsOf _+ᶠ_ whole fraction
-  predicted-positive header limits site valid d = omega (arith, by (eqb (site .kind) 0) refl)
-    where
-      term : Term
-      term = termOf (header .years) site
+      term-positive : 0 < productUnder d (partsOf k (header .segments) (header .crossings) site term) .num
+      term-positive = by (eqb (site .kind) 0) refl
+        where
+          by : (b : Bool) → eqb (site .kind) 0 ≡ b
+              → 0 < productUnder d (cond b (segmentParts k (header .segments) site term) (crossingParts k (header .crossings) site term)) .num
+          by true e = segment-positive (eqb-true (site .kind) 0 e)
+          by false e = crossing-positive (pos-of-ne-zero (eqb-false (site .kind) 0 e))
 
-      by : (b : Bool) → eqb (site .kind) 0 ≡ b
-          → 0 < productUnder d (cond b (segmentParts k (header .segments) site term) (crossingParts k (header .crossings) site term)) .num
-      by true e = segment-positive site valid _ _ d (limits .years-least) (limits .segments-least) (eqb-true (site .kind) 0 e)
-      by false e = crossing-positive site valid _ _ d (limits .years-least) (limits .crossings-least) (pos-of-ne-zero (eqb-false (site .kind) 0 e))
+      -- with any terms after it
+      sum-positive : (terms : List Term) → 0 < sumUnder k header site d (term ∷ terms) .num
+      unfolding sumUnder _+ᶠ_
+      sum-positive terms = omega (arith, mul-pos term-positive (sumUnder k header site d terms .pos))
+
+    -- A SITE: its first term is above 0
+    pub predicted-positive : 0 < predictedUnder k header site d .num
+    unfolding predictedUnder
+    predicted-positive =
+        by-years (λ terms. 0 < sumUnder k header site d terms .num) header site
+        (λ each. sum-positive (termOf 1 site) (first-sized header limits site valid 1 (lit≤ tt) (lit≤ tt)) (laterTerms site 0 (header .years - 1)))
+        (λ all. sum-positive (termOf (header .years) site) (first-sized header limits site valid _ (limits .years-least) (limits .years-most)) [])

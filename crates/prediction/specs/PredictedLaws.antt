@@ -20,28 +20,25 @@ use Rattle.bracket.specs.Pieces.{unders, overs, shares, product, carried-ends}
 use Rattle.site.specs.declared.values.Site.{Site}
 use Rattle.site.specs.declared.numbers.Segment.{Segment}
 use Rattle.site.specs.declared.numbers.Crossing.{Crossing}
+use Rattle.site.specs.Rules.{mostYears}
 use Rattle.site.specs.Writing.{Valid}
-use Rattle.site.specs.Numbers.{segmentOf, crossingOf, TrafficSizes, segment-sizes, crossing-sizes, site-traffic, crossing-minor}
+use Rattle.site.specs.Numbers.{segmentOf, crossingOf, segment-sizes, crossing-sizes}
 use Rattle.model.specs.Coefficients.{Coefficients}
 use Rattle.model.specs.Parts.{Part, Factor, Term, exact, partOf, partsOf, straightFactors, curveFactors, segmentFactors, crossingFactors}
 use Rattle.model.specs.Parts.{segmentStart, segmentParts, crossingStart, crossingParts}
 use Rattle.header.specs.declared.Header.{Header}
-use Rattle.header.specs.Header.{mostYears, mostCalibration}
+use Rattle.header.specs.Header.{mostCalibration}
 use Rattle.header.specs.HeaderLaws.{HeaderWithin}
 use Rattle.model.specs.Predicted.{termsOf, productUnder, productOver, sumUnder, sumOver, predictedUnder, predictedOver}
-use Rattle.model.specs.StatedWidths.{widthParts, predictedEach}
+use Rattle.model.specs.StatedWidths.{widthParts, predictedEach, sitesCounted}
+use Rattle.model.specs.TermLaws.{sites-counted, by-count}
 use Rattle.prediction.specs.Stored.{storedWidth}
 use Rattle.prediction.specs.Factors.{parts, bracketsOf, piecesOf}
 use Rattle.prediction.specs.Pair.{unit, segmentUnits, crossingUnits, pairOf, segmentPair, crossingPair}
-use Rattle.prediction.specs.Pair.{termPair, plus, sumPair, predictedPair, mostPredicted}
+use Rattle.prediction.specs.Pair.{termPair, plus, sumPair, predictedPair, mostTerm, mostPredicted}
 use Rattle.prediction.specs.Kept.{Rated, Roomy, AllSized, segmentMost, crossingMost, all-kept, segment-sized, crossing-sized}
+use Rattle.prediction.specs.Terms.{TermSizes, AllTerms, terms-sized}
 use Rattle.prediction.specs.declared.Pair.{Pair}
-
--- a term of a site: its years and its traffic
-pub record TermSizes (site : Site) (term : Term) : Type 0 where
-  pub years-most : term .years ≤ mostYears
-  pub traffic : TrafficSizes (term .traffic)
-  pub minor : 1 ≤ site .kind → TrafficSizes (term .minor)
 
 -- WHAT IS SHOWN of a pair that stands for estimates, of `count` terms
 pub record PairStands (count : ℕ) (under over : ℕ → Fraction) (p : Pair) : Type 0 where
@@ -49,7 +46,7 @@ pub record PairStands (count : ℕ) (under over : ℕ → Fraction) (p : Pair) :
   pub high-right : HighRight (millionths (p .high)) under
   pub in-order : p .low ≤ p .high
   pub narrow : Narrow widthParts (predictedEach * count) 1 (p .low) (p .high)
-  pub small : p .high ≤ mostPredicted * count
+  pub small : p .high ≤ mostTerm * count
 
 -- THE LISTS of a factor's readings, of any factors
 module _ (k : Coefficients) where
@@ -81,7 +78,7 @@ module _ (k : Coefficients) (rated : Rated k) (start : Fraction) (units most : �
         high-right = record { at = λ d l. rw (unders-are k d factors) (record { cross = e .high-right d l }) };
         in-order = e .in-order;
         narrow = narrow-in parts widthParts predictedEach _ _ _ (lit< tt) shares-fit (e .narrow 2 (roomy .steps));
-        small = ceiling-≤ (e .high-end) 1 unit mostPredicted (lit< tt) (omega (arith, e .small, roomy .small));
+        small = ceiling-≤ (e .high-end) 1 unit mostTerm (lit< tt) (omega (arith, e .small, roomy .small));
       })
 
 -- A SEGMENT AND A CROSSING
@@ -97,7 +94,7 @@ crossing-shares : (k : Coefficients) (v : Crossing) → widthParts * relativePar
 unfolding crossingFactors powerWidth exponentialWidth storedWidth
 crossing-shares k v = lit≤ tt
 
-module _ (k : Coefficients) (rated : Rated k) (site : Site) (valid : Valid site) (term : Term) (sizes : TermSizes site term)
+module _ (k : Coefficients) (rated : Rated k) (years : ℕ) (site : Site) (valid : Valid years site) (term : Term) (sizes : TermSizes site term)
     (calibration : ℕ) (most : calibration ≤ mostCalibration) where
   segment-stands : site .kind ≡ 0
       → PairStands 1 (λ d. productUnder d (segmentParts k calibration site term)) (λ d. productOver d (segmentParts k calibration site term))
@@ -105,7 +102,7 @@ module _ (k : Coefficients) (rated : Rated k) (site : Site) (valid : Valid site)
   unfolding segmentParts segmentPair
   segment-stands e =
       let v = segmentOf (term .traffic) site in
-      let s = segment-sizes site valid e (term .traffic) (sizes .traffic) in
+      let s = segment-sizes years site valid e (term .traffic) (sizes .traffic) in
       carried-stands k rated (segmentStart calibration site term) (segmentUnits (term .years) calibration v) segmentMost
       (unfold _//_ fraction in omega arith)
       (mul-le-mul-right 73 (mul-le-mul (mul-le-mul (mul-le-mul (sizes .years-most) most) (sizes .traffic .most)) (s .length-most)))
@@ -117,7 +114,7 @@ module _ (k : Coefficients) (rated : Rated k) (site : Site) (valid : Valid site)
   unfolding crossingParts crossingPair
   crossing-stands from =
       let v = crossingOf (term .traffic) (term .minor) site in
-      let s = crossing-sizes site valid from (term .traffic) (term .minor) (sizes .traffic) (sizes .minor from) in
+      let s = crossing-sizes years site valid from (term .traffic) (term .minor) (sizes .traffic) (sizes .minor from) in
       carried-stands k rated (crossingStart calibration term) (crossingUnits (term .years) calibration) crossingMost
       (unfold _//_ fraction in omega arith)
       (mul-le-mul-right 200000000 (mul-le-mul (sizes .years-most) most))
@@ -150,7 +147,8 @@ both-stand {m} {f} {g} {u} {v} {x} {y} h k = record {
 }
 
 -- A TERM OF ANY KIND
-module _ (k : Coefficients) (rated : Rated k) (header : Header) (limits : HeaderWithin header) (site : Site) (valid : Valid site) where
+module _ (k : Coefficients) (rated : Rated k) (header : Header) (limits : HeaderWithin header) (site : Site)
+    (valid : Valid (header .years) site) where
   term-stands : (term : Term) → TermSizes site term
       → PairStands 1 (λ d. productUnder d (partsOf k (header .segments) (header .crossings) site term))
       (λ d. productOver d (partsOf k (header .segments) (header .crossings) site term)) (termPair k header site term)
@@ -162,23 +160,23 @@ module _ (k : Coefficients) (rated : Rated k) (header : Header) (limits : Header
           (λ d. productOver d (cond b (segmentParts k (header .segments) site term) (crossingParts k (header .crossings) site term)))
           (cond b (segmentPair k (term .years) (header .segments) (segmentOf (term .traffic) site))
           (crossingPair k (term .years) (header .crossings) (crossingOf (term .traffic) (term .minor) site)))
-      by true e = segment-stands k rated site valid term sizes (header .segments) (limits .segments-most) (eqb-true (site .kind) 0 e)
-      by false e = crossing-stands k rated site valid term sizes (header .crossings) (limits .crossings-most) (pos-of-ne-zero (eqb-false (site .kind) 0 e))
+      by true e = segment-stands k rated (header .years) site valid term sizes (header .segments) (limits .segments-most) (eqb-true (site .kind) 0 e)
+      by false e = crossing-stands k rated (header .years) site valid term sizes (header .crossings) (limits .crossings-most) (pos-of-ne-zero (eqb-false (site .kind) 0 e))
 
   -- THE SUM OVER A SITE'S TERMS
-  abbrev AllTerms : List Term → Type 0
-  AllTerms [] = Unit
-  AllTerms (term ∷ terms) = TermSizes site term × AllTerms terms
-
-  terms-stand : (terms : List Term) → AllTerms terms
+  terms-stand : (terms : List Term) → AllTerms site terms
       → PairStands (length terms) (λ d. sumUnder k header site d terms) (λ d. sumOver k header site d terms) (sumPair k header site terms)
   unfolding sumUnder sumOver sumPair
   terms-stand [] h = none-stands
   terms-stand (term ∷ terms) h = both-stand (term-stands term (h .0)) (terms-stand terms (h .1))
 
   -- THE THEOREM
-  pub predicted-stands : PairStands 1 (predictedUnder k header site) (predictedOver k header site) (predictedPair k header site)
-  unfolding predictedUnder predictedOver predictedPair termsOf
-  predicted-stands =
-      terms-stand (termsOf header site)
-      (record { years-most = limits .years-most; traffic = site-traffic site valid; minor = crossing-minor site valid }, tt)
+  pub predicted-stands : PairStands (sitesCounted (header .years) site) (predictedUnder k header site) (predictedOver k header site)
+      (predictedPair k header site)
+  unfolding predictedUnder predictedOver predictedPair
+  predicted-stands = rw (sites-counted header site (limits .years-least)) (terms-stand (termsOf header site) (terms-sized header limits site valid))
+
+  pub predicted-small : predictedPair k header site .high ≤ mostPredicted
+  predicted-small =
+      let most = by-count (λ count. count ≤ mostYears) (header .years) site (limits .years-most) (lit≤ tt) in
+      omega (arith, predicted-stands .small, most)

@@ -1,9 +1,11 @@
-// The predicted pair of a site, in millionths of a crash: an exact start carried through the brackets of the site's factors, and
-// rounded outward. The stored numbers of powers, logarithms and exponentials are lent.
+// The predicted pair of a site, in millionths of a crash: for each of its terms an exact start carried through the brackets of the
+// site's factors, and rounded outward. The stored numbers of powers, logarithms and exponentials are lent.
 pub mod crossing;
 pub mod rounding;
 pub mod segment;
 pub mod stored;
+pub mod term;
+pub mod yearly;
 
 ghost use mathlib.Core.Path.{_≡_};
 ghost use Rattle.exponential.specs.Stored.{StoredExponentials};
@@ -13,14 +15,12 @@ ghost use Rattle.site.specs.Writing.{Valid};
 ghost use Rattle.header.specs.HeaderLaws.{HeaderWithin};
 ghost use Rattle.model.specs.Coefficients.{editionOne};
 ghost use Rattle.prediction.specs.Pair.{predictedPair};
-use crate::crossing::carry_crossing;
-use crate::rounding::round_outward;
-use crate::segment::carry_segment;
+use crate::term::term_pair;
+use crate::yearly::yearly_pair;
 use header::Header;
-use site::numbers::crossing_of;
 use site::numbers::number;
-use site::numbers::segment_of;
 use site::values::Site;
+use site::values::is_yearly;
 
 // The two ends of a bracket of millionths.
 pub struct Pair {
@@ -28,7 +28,7 @@ pub struct Pair {
     pub high: u64,
 }
 
-// The pair of a valid site, by its kind, over a header's years and calibrations.
+// The pair of a valid site over a header's years and calibrations: one term of all the years, or one for each year.
 pub fn predicted_with(
     powers: &[u64; 2560],
     logarithms: &[u64; 256],
@@ -36,21 +36,23 @@ pub fn predicted_with(
     header: Header,
     site: Site,
 ) -> Pair
-    requires { ⌜ StoredPowers (now powers) × StoredLogarithms (now logarithms) × StoredExponentials (now exponentials) × HeaderWithin header × Valid site ⌝ }
+    requires { ⌜ StoredPowers (now powers) × StoredLogarithms (now logarithms) × StoredExponentials (now exponentials) × HeaderWithin header
+        × Valid (header .years) site ⌝ }
     ensures { λ r. ⌜ r ≡ predictedPair editionOne header site ⌝ }
 {
+    if is_yearly(site) {
+        return yearly_pair(powers, logarithms, exponentials, header, site);
+    }
     let traffic = site.traffic;
     let minor = site.minor_traffic;
-    if site.kind == 0 {
-        let road = segment_of(site, number(traffic));
-        return round_outward(carry_segment(logarithms, header.years, header.segments, road));
-    }
-    let crossing = crossing_of(site, number(traffic), number(minor));
-    round_outward(carry_crossing(
+    term_pair(
         powers,
+        logarithms,
         exponentials,
+        header,
+        site,
         header.years,
-        header.crossings,
-        crossing,
-    ))
+        number(traffic),
+        number(minor),
+    )
 }

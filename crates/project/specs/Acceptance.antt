@@ -8,16 +8,17 @@ use native.Mathlib.Omega.{arith}
 use lib.ListN.{length, drop}
 use lib.Dec.{ltb}
 use borrow.Author.Tests.{ltb-true, ltb-false}
-use Rattle.site.specs.RecordCauses.{RecordCause, map-past, kind-above, bit-lacked, bit-missing, field-past, field-outside, field-spelled}
-use Rattle.site.specs.RecordCauses.{cause-number, cause-not-zero}
+use Rattle.laws.specs.Truth.{not-both}
+use Rattle.site.specs.RecordCauses.{RecordCause, years-outside, map-past, kind-above, bit-lacked, bit-missing, field-past, field-outside}
+use Rattle.site.specs.RecordCauses.{field-spelled, cause-number, cause-not-zero}
 use Rattle.header.specs.Header.{countIn}
-use Rattle.header.specs.Causes.{HeaderCause, header-cut, header-edition, header-limits}
+use Rattle.header.specs.Causes.{HeaderCause, header-cut, header-edition, header-limits, HeaderAccepted}
 use Rattle.project.specs.declared.ScanAnswer.{ScanAnswer}
 use Rattle.project.specs.declared.ScanAnswer.the-variants.{Accepted, Refused}
-use Rattle.project.specs.File.{scanFile}
+use Rattle.project.specs.File.{yearsIn, scanFile}
 use Rattle.project.specs.Causes.{Starts, RecordNumber, RunsPast, header-past, record-past, reportLength, NoCause}
 use Rattle.project.specs.Causes.{FirstInBytes, in-header, in-record, in-rest, Whole, FirstCause, in-bytes, in-report}
-use Rattle.project.specs.Scan.{same-place, earlier, refused-exactly, accepted-exactly}
+use Rattle.project.specs.Scan.{years-known, same-place, earlier, refused-exactly, accepted-exactly}
 
 counted : (s : List ℕ) (n : ℕ) → Whole s n → Whole s (countIn s)
 counted s n w =
@@ -30,24 +31,25 @@ module _ (s : List ℕ) (room : ℕ) where
   header-none none (header-edition l h) = none .edition-right 0 h
   header-none none (header-limits e h) = none .limits-kept 0 h
 
-  record-none : NoCause s room → (p : ℕ) {number : ℕ} → RecordCause (drop p s) number → RecordNumber s number p → ⊥
-  record-none none p (map-past h) r = none .none-past p (record-past r)
-  record-none none p (kind-above h k) r = none .kinds-known p r
-  record-none none p (bit-lacked h b t l) r = none .none-lacked p r
-  record-none none p (bit-missing h l m) r = none .none-missing p r
-  record-none none p (field-past m h) r = none .none-past p (record-past r)
-  record-none none p (field-outside b k t o) r = none .ranges-kept p r
-  record-none none p (field-spelled b k t i d) r = none .none-spelled p r
+  record-none : NoCause s room → HeaderAccepted s → (p : ℕ) {number : ℕ} → RecordCause (yearsIn s) (drop p s) number → RecordNumber s number p → ⊥
+  record-none none header p (years-outside y) r = not-both _ (years-known s header) y
+  record-none none header p (map-past y h) r = none .none-past p (record-past r)
+  record-none none header p (kind-above y h k) r = none .kinds-known p r
+  record-none none header p (bit-lacked h b t l) r = none .none-lacked p r
+  record-none none header p (bit-missing h l m) r = none .none-missing p r
+  record-none none header p (field-past m h) r = none .none-past p (record-past r)
+  record-none none header p (field-outside b i k t h o) r = none .ranges-kept p r
+  record-none none header p (field-spelled b k t i d) r = none .none-spelled p r
 
   bytes-none : NoCause s room → {number p : ℕ} → FirstInBytes s number p → ⊥
   bytes-none none (in-header c) = header-none none c
-  bytes-none none (in-record {number} {p} header r) = record-none none p (r .cause) r
+  bytes-none none (in-record {number} {p} header r) = record-none none header p (r .cause) r
   bytes-none none (in-rest {p} header r) = none .none-after p r
 
   -- no row of the table holds of a whole file whose report suffices
   module _ (w : Whole s (countIn s)) where
     record-free : (number p : ℕ) → RecordNumber s number p → ⊥
-    record-free number p r = cause-not-zero (r .cause) (sym (cause-number (drop p s) (r .cause)) ∙ earlier s (w .ends) (r .starts) (r .counted))
+    record-free number p r = cause-not-zero (r .cause) (sym (cause-number (yearsIn s) (drop p s) (r .cause)) ∙ earlier s (w .ends) (r .starts) (r .counted))
 
     past-free : {p : ℕ} → RunsPast s p → ⊥
     past-free (header-past h) = let l = w .header .long in omega arith

@@ -11,63 +11,50 @@ use borrow.Author.Tests.{ltb-false, lt-ltb, le-ltb, leb-true, leb-false, eqb-tru
 use Rattle.site.specs.declared.values.Site.{Site}
 use Rattle.site.specs.declared.values.SiteAnswer.{SiteAnswer}
 use Rattle.site.specs.declared.values.SiteAnswer.the-variants as site
-use Rattle.site.specs.Rules.{entriesOf, lastKind}
+use Rattle.site.specs.Rules.{entriesOf, lastKind, yearsKnown}
 use Rattle.site.specs.Record.{word, curved, kindIn, mapIn, rulesIn, lengthIn, readSite}
 use Rattle.site.specs.Tested.{tested-rules}
 use Rattle.laws.specs.Truth.{or-left}
 use Rattle.site.specs.BytesRead.{headRefused, bears, past-nothing}
-use Rattle.site.specs.Theorems.{words-most, longest, read-length}
+use Rattle.site.specs.Theorems.{longest, bears-most, read-length}
 use Rattle.header.specs.Header.{headerLength, countIn, mostSites, headerNumber}
 use Rattle.header.specs.HeaderLaws.{header-accepted}
 use Rattle.project.specs.declared.ScanAnswer.the-variants.{Refused}
-use Rattle.project.specs.File.{afterRecord, scanRecords, scanFile}
-use Rattle.project.specs.Scan.{scan-past-header, scan-header}
+use Rattle.project.specs.File.{yearsIn, afterRecord, scanRecords, scanFile}
+use Rattle.project.specs.Scan.{years-known, scan-past-header, scan-header}
 
 -- a header and the most records, each the longest
 abbrev pub longestFile : ℕ
 longestFile = headerLength + mostSites * longest
 
--- no more bytes bear on a record's answer than the longest record has
-pub bears-most : (s : List ℕ) → bears s ≤ longest
-unfolding bears
-bears-most s = by (ltb (length s) 3) (headRefused s) refl
-  where
-    by : (a b : Bool) → headRefused s ≡ b → cond a 3 (cond b 3 (lengthIn s)) ≤ longest
-    by true b e = omega arith
-    by false true e = omega arith
-    by false false e =
-        let known = ltb-false lastKind (kindIn s) (or-left _ _ e) in
-        let few = tested-rules (kindIn s) (curved (entriesOf (kindIn s)) (mapIn s)) known .few in
-        let w = words-most (rulesIn s) (mapIn s) in
-        omega arith
-
 -- two files that share their first bytes, one of which goes on
 module _ (s t : List ℕ) (full : longestFile < length s) where
-  same-record : (i at : ℕ) → i < mostSites → at ≤ headerLength + i * longest → readSite (drop at (s ++ t)) ≡ readSite (drop at s)
-  same-record i at h w =
+  same-record : (years i at : ℕ) → yearsKnown years ≡ true → i < mostSites → at ≤ headerLength + i * longest
+      → readSite years (drop at (s ++ t)) ≡ readSite years (drop at s)
+  same-record years i at known h w =
       let a : at ≤ length s = omega arith in
       let l : longest ≤ length (drop at s) = omega (arith, length-drop at s) in
-      let b : bears (drop at s) ≤ length (drop at s) = omega (arith, bears-most (drop at s)) in
-      ap readSite (drop-append-le at s t a) ∙ past-nothing (drop at s) t b
+      let b : bears years (drop at s) ≤ length (drop at s) = omega (arith, bears-most years (drop at s)) in
+      ap (readSite years) (drop-append-le at s t a) ∙ past-nothing years known (drop at s) t b
 
-  same-step : (sites left at : ℕ) (answer : SiteAnswer)
-      → ((value : Site) (n : ℕ) → answer ≡ site.Read value n → scanRecords sites left (at + n) (s ++ t) ≡ scanRecords sites left (at + n) s)
-      → afterRecord at answer (λ next. scanRecords sites left next (s ++ t)) ≡ afterRecord at answer (λ next. scanRecords sites left next s)
-  same-step sites left at (site.Refused number) later = refl
-  same-step sites left at (site.Read value n) later = later value n refl
+  same-step : (years sites left at : ℕ) (answer : SiteAnswer)
+      → ((value : Site) (n : ℕ) → answer ≡ site.Read value n → scanRecords years sites left (at + n) (s ++ t) ≡ scanRecords years sites left (at + n) s)
+      → afterRecord at answer (λ next. scanRecords years sites left next (s ++ t)) ≡ afterRecord at answer (λ next. scanRecords years sites left next s)
+  same-step years sites left at (site.Refused number) later = refl
+  same-step years sites left at (site.Read value n) later = later value n refl
 
-  same-records : (sites left i at : ℕ) → i + left ≤ mostSites → at ≤ headerLength + i * longest
-      → scanRecords sites left at (s ++ t) ≡ scanRecords sites left at s
+  same-records : (years sites left i at : ℕ) → yearsKnown years ≡ true → i + left ≤ mostSites → at ≤ headerLength + i * longest
+      → scanRecords years sites left at (s ++ t) ≡ scanRecords years sites left at s
   unfolding scanRecords
-  same-records sites zero i at h w =
+  same-records years sites zero i at known h w =
       let a : at < length s = omega arith in
       let b : at < length (s ++ t) = omega (arith, length-append s t) in
       rw (lt-ltb at (length s) a, lt-ltb at (length (s ++ t)) b)
-  same-records sites (suc left) i at h w =
-      let r = same-record i at (omega arith) w in
+  same-records years sites (suc left) i at known h w =
+      let r = same-record years i at known (omega arith) w in
       rw r
-      (same-step sites left at (readSite (drop at s))
-      (λ value n e. same-records sites left (suc i) (at + n) (omega arith) (omega (arith, read-length (drop at s) value n e .at-most))))
+      (same-step years sites left at (readSite years (drop at s))
+      (λ value n e. same-records years sites left (suc i) (at + n) known (omega arith) (omega (arith, read-length years (drop at s) value n e .at-most))))
 
   same-word : (k : ℕ) → k < headerLength → word (drop k (s ++ t)) ≡ word (drop k s)
   same-word k h =
@@ -82,6 +69,9 @@ module _ (s t : List ℕ) (full : longestFile < length s) where
   same-byte : (k : ℕ) → k < headerLength → getD (s ++ t) k 0 ≡ getD s k 0
   same-byte k h = let a : k < length s = omega arith in List·getD-append s t 0 k a
 
+  same-years : yearsIn (s ++ t) ≡ yearsIn s
+  same-years = same-byte 1 (omega arith)
+
   same-header : headerNumber (s ++ t) ≡ headerNumber s
   unfolding headerNumber
   same-header =
@@ -91,7 +81,7 @@ module _ (s t : List ℕ) (full : longestFile < length s) where
         le-ltb (length s) headerLength a,
         le-ltb (length (s ++ t)) headerLength b,
         same-byte 0 (omega arith),
-        same-byte 1 (omega arith),
+        same-years,
         same-word 2 (omega arith),
         same-word 4 (omega arith),
         same-count,
@@ -100,10 +90,10 @@ module _ (s t : List ℕ) (full : longestFile < length s) where
   same-by : (b : Bool) → eqb (headerNumber s) 0 ≡ b → scanFile (s ++ t) ≡ scanFile s
   same-by true e =
       let z = eqb-true (headerNumber s) 0 e in
-      let few = header-accepted s z .few in
+      let header = header-accepted s z in
+      let few = header .few in
       scan-past-header (s ++ t) (same-header ∙ z)
-      ∙ ap (λ (k : ℕ). scanRecords k k headerLength (s ++ t)) same-count
-      ∙ same-records (countIn s) (countIn s) 0 headerLength (omega arith) (omega arith)
+      ∙ rw (same-years, same-count) (same-records (yearsIn s) (countIn s) (countIn s) 0 headerLength (years-known s header) (omega arith) (omega arith))
       ∙ sym (scan-past-header s z)
   same-by false e =
       let ne = eqb-false (headerNumber s) 0 e in

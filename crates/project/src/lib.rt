@@ -7,6 +7,7 @@ ghost use Rattle.project.specs.File.{scanRecords};
 ghost use Rattle.project.specs.Promise.{ScansFile};
 use header::HEADER_LENGTH;
 use header::count_in;
+use header::header_in;
 use header::header_number;
 use site::values::SiteAnswer;
 use site_reader::read_site;
@@ -17,15 +18,15 @@ pub enum ScanAnswer {
     Refused(u8, usize),
 }
 
-// The records in turn, each by the part that starts at its kind byte, then the bytes after the last.
-fn scan_records(file: &[u8], sites: usize) -> ScanAnswer
+// The records in turn, each by the part that starts at its kind byte, in a project of so many years, then the bytes after the last.
+fn scan_records(file: &[u8], years: u64, sites: usize) -> ScanAnswer
     requires { ⌜ headerLength ≤ length (now file) ⌝ }
-    ensures { λ r. ⌜ r ≡ scanRecords sites sites headerLength (now (file .entry)) ⌝ }
+    ensures { λ r. ⌜ r ≡ scanRecords years sites sites headerLength (now (file .entry)) ⌝ }
 {
     let mut at = HEADER_LENGTH;
     let mut i = 0;
     while i < sites {
-        let answer = read_site(&file[at..]);
+        let answer = read_site(years, &file[at..]);
         match answer {
             SiteAnswer::Refused(number) => {
                 return ScanAnswer::Refused(number, at);
@@ -50,5 +51,6 @@ pub fn scan(file: &[u8]) -> ScanAnswer
     if number != 0 {
         return ScanAnswer::Refused(number, 0);
     }
-    scan_records(file, count_in(file))
+    let header = header_in(file);
+    scan_records(file, header.years, count_in(file))
 }

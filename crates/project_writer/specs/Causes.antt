@@ -14,25 +14,25 @@ use Rattle.project_writer.specs.ProjectFile.{fileOf}
 abbrev pub LimitsKept : Header → List Site → Type 0
 LimitsKept header sites = (inLimits header ≡ true) × (length sites ≤ mostSites)
 
--- the sites before an index are valid
-abbrev pub ValidBelow : List Site → ℕ → Type 0
-ValidBelow sites n = (i : ℕ) (d : Site) → i < n → Valid (getD sites i d)
+-- the sites before an index are valid in a project of so many years
+abbrev pub ValidBelow : (years : ℕ) → List Site → ℕ → Type 0
+ValidBelow years sites n = (i : ℕ) (d : Site) → i < n → Valid years (getD sites i d)
 
 -- "8 has the site's index, from 0, as its place": the first site that is outside its range
-pub record FirstOutside (sites : List Site) (index : ℕ) : Type 0 where
+pub record FirstOutside (years : ℕ) (sites : List Site) (index : ℕ) : Type 0 where
   pub within : index < length sites
-  pub earlier : ValidBelow sites index
-  pub outside : (d : Site) → Valid (getD sites index d) → ⊥
+  pub earlier : ValidBelow years sites index
+  pub outside : (d : Site) → Valid years (getD sites index d) → ⊥
 
 -- neither limits nor a site forbid the file
 pub record Writable (header : Header) (sites : List Site) : Type 0 where
   pub limits : LimitsKept header sites
-  pub valid : ValidBelow sites (length sites)
+  pub valid : ValidBelow (header .years) sites (length sites)
 
 -- "Header limits are tried first, then each site, then the space": each number and its place, or 0 and the count of bytes, with what
 -- is so of them
 pub data FileCause (header : Header) (sites : List Site) (room : ℕ) : (number value : ℕ) → Type 0 where
   limits-broken : (LimitsKept header sites → ⊥) → FileCause header sites room 4 0
-  site-outside : {index : ℕ} → LimitsKept header sites → FirstOutside sites index → FileCause header sites room 8 index
+  site-outside : {index : ℕ} → LimitsKept header sites → FirstOutside (header .years) sites index → FileCause header sites room 8 index
   space-short : Writable header sites → room < length (fileOf header sites) → FileCause header sites room 10 0
   file-fits : Writable header sites → length (fileOf header sites) ≤ room → FileCause header sites room 0 (length (fileOf header sites))

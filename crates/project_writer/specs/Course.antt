@@ -17,11 +17,11 @@ use Rattle.project_writer.specs.declared.course.Course.{Course}
 use Rattle.project_writer.specs.declared.course.Course.the-variants.{Measured, Placed, Stopped}
 use Rattle.project_writer.specs.ProjectFile.{recordsOf, soundSites}
 
--- one site more
-abbrev pub stepCourse : Site → Course → Course
-stepCourse site (Measured sites n) = cond (sound site) (Measured (sites + 1) (n + length (recordOf site))) (Stopped (OutsideRange sites))
-stepCourse site (Placed at) = Placed (at + length (recordOf site))
-stepCourse site (Stopped answer) = Stopped answer
+-- one site more of a project of so many years
+abbrev pub stepCourse : (years : ℕ) → Site → Course → Course
+stepCourse years site (Measured sites n) = cond (sound years site) (Measured (sites + 1) (n + length (recordOf site))) (Stopped (OutsideRange sites))
+stepCourse years site (Placed at) = Placed (at + length (recordOf site))
+stepCourse years site (Stopped answer) = Stopped answer
 
 abbrev pub stepBuffer : Site → Course → List ℕ → List ℕ
 stepBuffer site (Measured sites n) buffer = buffer
@@ -29,13 +29,13 @@ stepBuffer site (Placed at) buffer = sets buffer at (recordOf site)
 stepBuffer site (Stopped answer) buffer = buffer
 
 -- all of them, in their order
-unfoldable pub walkCourse : List Site → Course → Course
-walkCourse [] course = course
-walkCourse (site ∷ sites) course = walkCourse sites (stepCourse site course)
+unfoldable pub walkCourse : (years : ℕ) → List Site → Course → Course
+walkCourse years [] course = course
+walkCourse years (site ∷ sites) course = walkCourse years sites (stepCourse years site course)
 
-unfoldable pub walkBuffer : List Site → Course → List ℕ → List ℕ
-walkBuffer [] course buffer = buffer
-walkBuffer (site ∷ sites) course buffer = walkBuffer sites (stepCourse site course) (stepBuffer site course buffer)
+unfoldable pub walkBuffer : (years : ℕ) → List Site → Course → List ℕ → List ℕ
+walkBuffer years [] course buffer = buffer
+walkBuffer years (site ∷ sites) course buffer = walkBuffer years sites (stepCourse years site course) (stepBuffer site course buffer)
 
 -- the space test, and the header
 abbrev pub begunCourse : Course → (room : ℕ) → Course
@@ -55,10 +55,10 @@ courseAnswer (Stopped answer) = answer
 
 -- what a walk over so many sites needs: a file within the limits of length where it is measured, and valid sites whose records
 -- fit the buffer where it is written
-abbrev pub Walks : List Site → Course → (room : ℕ) → Type 0
-Walks sites (Measured count n) room = (count + length sites ≤ mostSites) × (n ≤ headerLength + longest * count)
-Walks sites (Placed at) room = (soundSites sites ≡ length sites) × (at + length (recordsOf sites) ≤ room)
-Walks sites (Stopped answer) room = Unit
+abbrev pub Walks : (years : ℕ) → List Site → Course → (room : ℕ) → Type 0
+Walks years sites (Measured count n) room = (count + length sites ≤ mostSites) × (n ≤ headerLength + longest * count)
+Walks years sites (Placed at) room = (soundSites years sites ≡ length sites) × (at + length (recordsOf sites) ≤ room)
+Walks years sites (Stopped answer) room = Unit
 
 -- what the space test needs: a header within its limits, and a measure that counts it
 abbrev pub Begins : Header → (sites : ℕ) → Course → Type 0

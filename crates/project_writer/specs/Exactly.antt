@@ -23,7 +23,7 @@ use Rattle.project_writer.specs.Sound.{none-outside, all-valid-exactly, 
 abbrev pub FileTells : Header → List Site → (room : ℕ) → FileAnswer → Type 0
 FileTells header sites room (Written n) = Writable header sites × (length (fileOf header sites) ≤ room) × (n ≡ length (fileOf header sites))
 FileTells header sites room OutsideLimits = LimitsKept header sites → ⊥
-FileTells header sites room (OutsideRange index) = LimitsKept header sites × FirstOutside sites index
+FileTells header sites room (OutsideRange index) = LimitsKept header sites × FirstOutside (header .years) sites index
 FileTells header sites room TooShort = Writable header sites × (room < length (fileOf header sites))
 
 module _ (header : Header) (sites : List Site) where
@@ -35,43 +35,43 @@ module _ (header : Header) (sites : List Site) where
   pub limits-kept : admits header (length sites) ≡ true → LimitsKept header sites
   limits-kept e = let a = admitted header (length sites) e in (a .limits, a .few)
 
-  pub writable : admits header (length sites) ≡ true → soundSites sites ≡ length sites → Writable header sites
-  writable e all = record { limits = limits-kept e; valid = all-valid-exactly sites .0 all }
+  pub writable : admits header (length sites) ≡ true → soundSites (header .years) sites ≡ length sites → Writable header sites
+  writable e all = record { limits = limits-kept e; valid = all-valid-exactly (header .years) sites .0 all }
 
   pub writable-admitted : Writable header sites → admits header (length sites) ≡ true
   writable-admitted w = admits-both header (length sites) (w .limits)
 
-  pub writable-sound : Writable header sites → soundSites sites ≡ length sites
-  writable-sound w = all-valid-exactly sites .1 (w .valid)
+  pub writable-sound : Writable header sites → soundSites (header .years) sites ≡ length sites
+  writable-sound w = all-valid-exactly (header .years) sites .1 (w .valid)
 
   module _ (room : ℕ) where
     answer-tells : FileTells header sites room (fileAnswer header sites room)
     unfolding fileAnswer
     answer-tells =
-        by (admits header (length sites)) (ltb (soundSites sites) (length sites)) (leb (length (fileOf header sites)) room) refl refl refl
+        by (admits header (length sites)) (ltb (soundSites (header .years) sites) (length sites)) (leb (length (fileOf header sites)) room) refl refl refl
       where
-        by : (a b c : Bool) → admits header (length sites) ≡ a → ltb (soundSites sites) (length sites) ≡ b → leb (length (fileOf header sites)) room ≡ c
-            → FileTells header sites room
-            (cond a (cond b (OutsideRange (soundSites sites)) (cond c (Written (length (fileOf header sites))) TooShort)) OutsideLimits)
-        by true true c p q r = (limits-kept p, first-outside sites (ltb-true (soundSites sites) (length sites) q))
-        by true false true p q r = (writable p (none-outside sites q), leb-true _ room r, refl)
-        by true false false p q r = (writable p (none-outside sites q), leb-false _ room r)
+        by : (a b c : Bool) → admits header (length sites) ≡ a → ltb (soundSites (header .years) sites) (length sites) ≡ b
+            → leb (length (fileOf header sites)) room ≡ c → FileTells header sites room
+            (cond a (cond b (OutsideRange (soundSites (header .years) sites)) (cond c (Written (length (fileOf header sites))) TooShort)) OutsideLimits)
+        by true true c p q r = (limits-kept p, first-outside (header .years) sites (ltb-true (soundSites (header .years) sites) (length sites) q))
+        by true false true p q r = (writable p (none-outside (header .years) sites q), leb-true _ room r, refl)
+        by true false false p q r = (writable p (none-outside (header .years) sites q), leb-false _ room r)
         by false b c p q r = λ kept. not-both _ (admits-both header (length sites) kept) p
 
     tells-answer : (answer : FileAnswer) → FileTells header sites room answer → fileAnswer header sites room ≡ answer
     unfolding fileAnswer
     tells-answer (Written n) t =
         let all = writable-sound (t .0) in
-        rw (writable-admitted (t .0), le-ltb (soundSites sites) (length sites) (omega arith), le-leb (length (fileOf header sites)) room (t .1))
+        rw (writable-admitted (t .0), le-ltb (soundSites (header .years) sites) (length sites) (omega arith), le-leb (length (fileOf header sites)) room (t .1))
         (ap Written (sym (t .2)))
     tells-answer OutsideLimits t = rw (never-so (admits header (length sites)) (λ e. t (limits-kept e)))
     tells-answer (OutsideRange index) t =
-        let is = outside-sound sites index (t .1) in
+        let is = outside-sound (header .years) sites index (t .1) in
         let within = t .1 .within in
-        rw (admits-both header (length sites) (t .0), lt-ltb (soundSites sites) (length sites) (omega arith)) (ap OutsideRange is)
+        rw (admits-both header (length sites) (t .0), lt-ltb (soundSites (header .years) sites) (length sites) (omega arith)) (ap OutsideRange is)
     tells-answer TooShort t =
         let all = writable-sound (t .0) in
-        rw (writable-admitted (t .0), le-ltb (soundSites sites) (length sites) (omega arith), lt-leb (length (fileOf header sites)) room (t .1))
+        rw (writable-admitted (t .0), le-ltb (soundSites (header .years) sites) (length sites) (omega arith), lt-leb (length (fileOf header sites)) room (t .1))
 
     -- EXACTLY WHERE
     pub answer-exactly : (answer : FileAnswer) → (fileAnswer header sites room ≡ answer) ↔ FileTells header sites room answer

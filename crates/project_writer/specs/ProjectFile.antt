@@ -22,15 +22,15 @@ unfoldable pub fileOf : Header → List Site → List ℕ
 fileOf header sites = headerBytes header (length sites) ++ recordsOf sites
 
 -- "8 has the site's index, from 0, as its place": the sites before the first that is outside its range, all of them where none is
-unfoldable pub soundSites : List Site → ℕ
-soundSites [] = 0
-soundSites (site ∷ sites) = cond (sound site) (suc (soundSites sites)) 0
+unfoldable pub soundSites : (years : ℕ) → List Site → ℕ
+soundSites years [] = 0
+soundSites years (site ∷ sites) = cond (sound years site) (suc (soundSites years sites)) 0
 
 -- "Header limits are tried first, then each site, then the space": the answer where the buffer has so much room
 unfoldable pub fileAnswer : Header → List Site → (room : ℕ) → FileAnswer
 fileAnswer header sites room =
     cond (admits header (length sites))
-    (cond (ltb (soundSites sites) (length sites)) (OutsideRange (soundSites sites))
+    (cond (ltb (soundSites (header .years) sites) (length sites)) (OutsideRange (soundSites (header .years) sites))
     (cond (leb (length (fileOf header sites)) room) (Written (length (fileOf header sites))) TooShort))
     OutsideLimits
 

@@ -22,7 +22,7 @@ use Rattle.header.specs.Header.{headerLength, headerIn, countIn, mostSites, hea
 use Rattle.header.specs.HeaderLaws.{accepted-header}
 use Rattle.header.specs.HeaderBytes.{written-header, header-bytes, header-again}
 use Rattle.project.specs.declared.ScanAnswer.the-variants.{Accepted, Refused}
-use Rattle.project.specs.File.{afterRecord, taken, scanRecords, scanFile, sitesFrom, sitesIn}
+use Rattle.project.specs.File.{yearsIn, afterRecord, taken, scanRecords, scanFile, sitesFrom, sitesIn}
 use Rattle.project.specs.Scan.{scan-past-header, accepted-exactly}
 use Rattle.project.specs.SitesRead.{accepted-sites}
 use Rattle.project_writer.specs.declared.course.FileAnswer.{FileAnswer}
@@ -41,29 +41,30 @@ pub record ReadsBack (header : Header) (sites : List Site) (file : List ℕ) : T
   pub sites-are : sitesIn file ≡ sites
 
 -- the records of valid sites, after whatever stands before them
-record RecordsRead (count : ℕ) (front : List ℕ) (sites : List Site) : Type 0 where
-  pub scanned : scanRecords count (length sites) (length front) (front ++ recordsOf sites) ≡ Accepted count
-  pub sites-are : sitesFrom (length sites) (length front) (front ++ recordsOf sites) ≡ sites
+record RecordsRead (years count : ℕ) (front : List ℕ) (sites : List Site) : Type 0 where
+  pub scanned : scanRecords years count (length sites) (length front) (front ++ recordsOf sites) ≡ Accepted count
+  pub sites-are : sitesFrom years (length sites) (length front) (front ++ recordsOf sites) ≡ sites
 
-records-read : (count : ℕ) (front : List ℕ) (sites : List Site) → soundSites sites ≡ length sites → RecordsRead count front sites
+records-read : (years count : ℕ) (front : List ℕ) (sites : List Site) → soundSites years sites ≡ length sites → RecordsRead years count front sites
 unfolding scanRecords sitesFrom recordsOf
-records-read count front [] e = record { scanned = rw (append-nil front, le-ltb (length front) (length front) (omega arith)); sites-are = refl }
-records-read count front (site ∷ sites) e =
-    let all = all-sound site sites e in
+records-read years count front [] e = record { scanned = rw (append-nil front, le-ltb (length front) (length front) (omega arith)); sites-are = refl }
+records-read years count front (site ∷ sites) e =
+    let all = all-sound years site sites e in
     let here = drop-append-seam front (recordOf site ++ recordsOf sites) in
-    let read = write-read site (recordsOf sites) (all .0) in
-    let later = records-read count (front ++ recordOf site) sites (all .1) in
+    let read = write-read years site (recordsOf sites) (all .0) in
+    let later = records-read years count (front ++ recordOf site) sites (all .1) in
     let text = append-assoc front (recordOf site) (recordsOf sites) in
     record {
       scanned = rw (here, read, ← text, ← length-append front (recordOf site)) (later .scanned);
       sites-are = rw (here, read, ← text, ← length-append front (recordOf site), later .sites-are);
     }
 
-records-bytes : (sites : List Site) → soundSites sites ≡ length sites → Bytes (recordsOf sites)
+records-bytes : (years : ℕ) (sites : List Site) → soundSites years sites ≡ length sites → Bytes (recordsOf sites)
 unfolding recordsOf
-records-bytes [] e = bytes-nil
-records-bytes (site ∷ sites) e =
-    let all = all-sound site sites e in bytes-append (recordOf site) (recordsOf sites) (record-bytes site (all .0)) (records-bytes sites (all .1))
+records-bytes years [] e = bytes-nil
+records-bytes years (site ∷ sites) e =
+    let all = all-sound years site sites e in
+    bytes-append (recordOf site) (recordsOf sites) (record-bytes years site (all .0)) (records-bytes years sites (all .1))
 
 module _ (header : Header) (sites : List Site) where
   -- WHAT IS WRITTEN IS ACCEPTED
@@ -74,9 +75,9 @@ module _ (header : Header) (sites : List Site) where
       let all = writable-sound header sites w in
       let front = headerBytes header (length sites) in
       let head = written-header header (length sites) admit (recordsOf sites) in
-      let body = records-read (length sites) front sites all in
+      let body = records-read (header .years) (length sites) front sites all in
       record {
-        bytes = bytes-append front (recordsOf sites) (header-bytes header (length sites) admit) (records-bytes sites all);
+        bytes = bytes-append front (recordsOf sites) (header-bytes header (length sites) admit) (records-bytes (header .years) sites all);
         accepted = scan-past-header (front ++ recordsOf sites) (accepted-header _ (head .accepted)) ∙ rw (head .count-is) (body .scanned);
         header-is = head .header-is;
         count-is = head .count-is;
@@ -111,26 +112,28 @@ pub accepted-writable : (s : List ℕ) (n : ℕ) → scanFile s ≡ Accepted n �
 accepted-writable s n e =
     let file = accepted-sites s n e in
     let few : length (sitesIn s) ≤ mostSites = omega (arith, file .sites .count-is, file .few) in
-    record { limits = (file .limits, few); valid = all-valid-exactly (sitesIn s) .0 (sites-sound n (sitesIn s) (file .sites)) }
+    record { limits = (file .limits, few); valid = all-valid-exactly (yearsIn s) (sitesIn s) .0 (sites-sound (yearsIn s) n (sitesIn s) (file .sites)) }
 
 module _ (s : List ℕ) (bytes : Bytes s) where
   -- the records of a file from a place on, written again
-  again-step : (count left at n : ℕ) → ((next : ℕ) → scanRecords count left next s ≡ Accepted n → recordsOf (sitesFrom left next s) ≡ drop next s)
-      → (answer : SiteAnswer) → readSite (drop at s) ≡ answer → afterRecord at answer (λ next. scanRecords count left next s) ≡ Accepted n
-      → recordsOf (taken at answer (λ next. sitesFrom left next s)) ≡ drop at s
+  again-step : (years count left at n : ℕ)
+      → ((next : ℕ) → scanRecords years count left next s ≡ Accepted n → recordsOf (sitesFrom years left next s) ≡ drop next s)
+      → (answer : SiteAnswer) → readSite years (drop at s) ≡ answer → afterRecord at answer (λ next. scanRecords years count left next s) ≡ Accepted n
+      → recordsOf (taken at answer (λ next. sitesFrom years left next s)) ≡ drop at s
   unfolding recordsOf
-  again-step count left at n later (site.Refused number) q e = let z : _≡_ {A = ℕ} 0 1 = cc in absurd (omega arith)
-  again-step count left at n later (site.Read value k) q e =
-      rw (read-write (drop at s) value k (λ i. rw getD-drop (bytes (at + i))) q, later (at + k) e, ← drop-drop k at s) (take-append-drop k (drop at s))
+  again-step years count left at n later (site.Refused number) q e = let z : _≡_ {A = ℕ} 0 1 = cc in absurd (omega arith)
+  again-step years count left at n later (site.Read value k) q e =
+      rw (read-write years (drop at s) value k (λ i. rw getD-drop (bytes (at + i))) q, later (at + k) e, ← drop-drop k at s) (take-append-drop k (drop at s))
 
-  again-from : (count left at n : ℕ) → scanRecords count left at s ≡ Accepted n → recordsOf (sitesFrom left at s) ≡ drop at s
+  again-from : (years count left at n : ℕ) → scanRecords years count left at s ≡ Accepted n → recordsOf (sitesFrom years left at s) ≡ drop at s
   unfolding scanRecords sitesFrom recordsOf
-  again-from count zero at n e = by (ltb at (length s)) refl e
+  again-from years count zero at n e = by (ltb at (length s)) refl e
     where
       by : (b : Bool) → ltb at (length s) ≡ b → cond b (Refused 2 at) (Accepted count) ≡ Accepted n → [] ≡ drop at s
       by true t q = let z : _≡_ {A = ℕ} 0 1 = cc in absurd (omega arith)
       by false t q = sym (drop-of-length-le s (ltb-false at (length s) t))
-  again-from count (suc left) at n e = again-step count left at n (λ next q. again-from count left next n q) (readSite (drop at s)) refl e
+  again-from years count (suc left) at n e =
+      again-step years count left at n (λ next q. again-from years count left next n q) (readSite years (drop at s)) refl e
 
   -- "EACH ACCEPTED FILE IS REPRODUCED from its header and sites"
   pub accepted-again : (n : ℕ) → scanFile s ≡ Accepted n → fileOf (headerIn s) (sitesIn s) ≡ s
@@ -141,7 +144,7 @@ module _ (s : List ℕ) (bytes : Bytes s) where
       let count : length (sitesIn s) ≡ countIn s = file .sites .count-is ∙ file .count-is in
       let scanned = sym (scan-past-header s (accepted-header s header)) ∙ e in
       let head : headerBytes (headerIn s) (length (sitesIn s)) ≡ take headerLength s = rw count (header-again s bytes header) in
-      let body : recordsOf (sitesIn s) ≡ drop headerLength s = again-from (countIn s) (countIn s) headerLength n scanned in
+      let body : recordsOf (sitesIn s) ≡ drop headerLength s = again-from (yearsIn s) (countIn s) (countIn s) headerLength n scanned in
       ap (λ (front : List ℕ). front ++ recordsOf (sitesIn s)) head ∙ ap (λ (back : List ℕ). take headerLength s ++ back) body
       ∙ take-append-drop headerLength s
 

@@ -29,20 +29,20 @@ use Rattle.project_writer.specs.Exactly.{FileTells, file-length, limits-
 use Rattle.project_writer.specs.Promise.{WritesProject, writes-project}
 
 -- where the sites are measured: at the first outside its range, or after them all with the length of the file
-data MeasuredTo (sites : List Site) : Course → Type 0 where
-  at-outside : soundSites sites < length sites → MeasuredTo sites (Stopped (OutsideRange (soundSites sites)))
-  after-all : soundSites sites ≡ length sites → MeasuredTo sites (Measured (length sites) (headerLength + length (recordsOf sites)))
+data MeasuredTo (years : ℕ) (sites : List Site) : Course → Type 0 where
+  at-outside : soundSites years sites < length sites → MeasuredTo years sites (Stopped (OutsideRange (soundSites years sites)))
+  after-all : soundSites years sites ≡ length sites → MeasuredTo years sites (Measured (length sites) (headerLength + length (recordsOf sites)))
 
-measured-to : (sites : List Site) → MeasuredTo sites (walkCourse sites (Measured 0 headerLength))
-measured-to sites = by (ltb (soundSites sites) (length sites)) refl
+measured-to : (years : ℕ) (sites : List Site) → MeasuredTo years sites (walkCourse years sites (Measured 0 headerLength))
+measured-to years sites = by (ltb (soundSites years sites) (length sites)) refl
   where
-    by : (b : Bool) → ltb (soundSites sites) (length sites) ≡ b → MeasuredTo sites (walkCourse sites (Measured 0 headerLength))
+    by : (b : Bool) → ltb (soundSites years sites) (length sites) ≡ b → MeasuredTo years sites (walkCourse years sites (Measured 0 headerLength))
     by true q =
-        let h = ltb-true (soundSites sites) (length sites) q in
-        rw (walk-outside sites 0 headerLength h, zero-add (soundSites sites)) (at-outside h)
+        let h = ltb-true (soundSites years sites) (length sites) q in
+        rw (walk-outside years sites 0 headerLength h, zero-add (soundSites years sites)) (at-outside h)
     by false q =
-        let all = none-outside sites q in
-        rw (walk-sound sites 0 headerLength all, zero-add (length sites)) (after-all all)
+        let all = none-outside years sites q in
+        rw (walk-sound years sites 0 headerLength all, zero-add (length sites)) (after-all all)
 
 -- a text stored behind another from the start of a buffer that has space for both
 laid-over : (front back before : List ℕ) → length (front ++ back) ≤ length before
@@ -65,19 +65,20 @@ module _ (header : Header) (sites : List Site) (before : List ℕ) where
     with-space : FileTells header sites (length before) (Written (length (fileOf header sites)))
         → BegunTo (Placed headerLength) (sets before 0 (headerBytes header (length sites)))
 
-  walks-begun : {course : Course} {buffer : List ℕ} → BegunTo course buffer → Walks sites course (length buffer)
+  walks-begun : {course : Course} {buffer : List ℕ} → BegunTo course buffer → Walks (header .years) sites course (length buffer)
   walks-begun (stopped-with answer tells left) = tt
   walks-begun (with-space tells) =
       (writable-sound header sites (tells .0), rw (length-sets before 0 (headerBytes header (length sites)), ← file-length header sites) (tells .1))
 
   written : {course : Course} {buffer : List ℕ} → BegunTo course buffer
-      → WritesProject header sites before (walkBuffer sites course buffer) (courseAnswer (walkCourse sites course))
+      → WritesProject header sites before (walkBuffer (header .years) sites course buffer) (courseAnswer (walkCourse (header .years) sites course))
   unfolding fileOf
-  written (stopped-with answer tells left) = rw (walk-stopped sites answer, walk-stopped-buffer sites answer before) (told before answer tells left)
+  written (stopped-with answer tells left) =
+      rw (walk-stopped (header .years) sites answer, walk-stopped-buffer (header .years) sites answer before) (told before answer tells left)
   written (with-space tells) =
       let front = headerBytes header (length sites) in
-      let course-is = walk-placed sites headerLength in
-      let buffer-is = walk-placed-buffer sites headerLength (sets before 0 front) in
+      let course-is = walk-placed (header .years) sites headerLength in
+      let buffer-is = walk-placed-buffer (header .years) sites headerLength (sets before 0 front) in
       rw (course-is, ← file-length header sites, buffer-is, laid-over front (recordsOf sites) before (tells .1)) (told _ _ tells refl)
 
   -- "Header limits are tried first"
@@ -85,12 +86,14 @@ module _ (header : Header) (sites : List Site) (before : List ℕ) where
   limits-refused e = told before OutsideLimits (λ kept. not-both _ (admits-both header (length sites) kept) e) refl
 
   module _ (e : admits header (length sites) ≡ true) where
-    begins : {course : Course} → MeasuredTo sites course → Begins header (length sites) course
+    begins : {course : Course} → MeasuredTo (header .years) sites course → Begins header (length sites) course
     begins (at-outside h) = tt
     begins (after-all all) = (e, omega arith)
 
-    begun-to : {course : Course} → MeasuredTo sites course → BegunTo (begunCourse course (length before)) (begunBuffer header (length sites) course before)
-    begun-to (at-outside h) = stopped-with (OutsideRange (soundSites sites)) (limits-kept header sites e, first-outside sites h) refl
+    begun-to : {course : Course} → MeasuredTo (header .years) sites course
+        → BegunTo (begunCourse course (length before)) (begunBuffer header (length sites) course before)
+    begun-to (at-outside h) =
+        stopped-with (OutsideRange (soundSites (header .years) sites)) (limits-kept header sites e, first-outside (header .years) sites h) refl
     begun-to (after-all all) = by (leb (headerLength + length (recordsOf sites)) (length before)) refl
       where
         by : (b : Bool) → leb (headerLength + length (recordsOf sites)) (length before) ≡ b
@@ -99,25 +102,28 @@ module _ (header : Header) (sites : List Site) (before : List ℕ) where
         by false q = stopped-with TooShort (writable header sites e all, rw (file-length header sites) (leb-false _ (length before) q)) refl
 
     -- "then each site": they are measured
-    pub measuring : Walks sites (Measured 0 headerLength) (length before)
+    pub measuring : Walks (header .years) sites (Measured 0 headerLength) (length before)
     measuring = (omega (arith, limits-kept header sites e .1), omega arith)
 
     module _ (measured : Course) (between : List ℕ)
-        (walked : (measured ≡ walkCourse sites (Measured 0 headerLength)) × (between ≡ walkBuffer sites (Measured 0 headerLength) before)) where
+        (walked : (measured ≡ walkCourse (header .years) sites (Measured 0 headerLength))
+        × (between ≡ walkBuffer (header .years) sites (Measured 0 headerLength) before)) where
       -- "then the space"
       pub beginning : Begins header (length sites) measured
-      beginning = rw (walked .0) (begins (measured-to sites))
+      beginning = rw (walked .0) (begins (measured-to (header .years) sites))
 
       module _ (begun : Course) (buffer : List ℕ)
           (tried : (begun ≡ begunCourse measured (length between)) × (buffer ≡ begunBuffer header (length sites) measured between)) where
         begun-is : BegunTo begun buffer
-        begun-is = rw (tried .0, tried .1, walked .1, walk-measured-buffer sites 0 headerLength before, walked .0) (begun-to (measured-to sites))
+        begun-is =
+            rw (tried .0, tried .1, walked .1, walk-measured-buffer (header .years) sites 0 headerLength before, walked .0)
+            (begun-to (measured-to (header .years) sites))
 
         -- and the sites are written
-        pub writing : Walks sites begun (length buffer)
+        pub writing : Walks (header .years) sites begun (length buffer)
         writing = walks-begun begun-is
 
         pub whole-course : (last : Course) (afterwards : List ℕ) (answer : FileAnswer)
-            → (last ≡ walkCourse sites begun) × (afterwards ≡ walkBuffer sites begun buffer) → answer ≡ courseAnswer last
+            → (last ≡ walkCourse (header .years) sites begun) × (afterwards ≡ walkBuffer (header .years) sites begun buffer) → answer ≡ courseAnswer last
             → WritesProject header sites before afterwards answer
         whole-course last afterwards answer put is = rw (is, put .0, put .1) (written begun-is)

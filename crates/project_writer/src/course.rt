@@ -28,22 +28,22 @@ pub enum Course {
     Stopped(FileAnswer),
 }
 
-// One site more: its record is measured, or written at the place reached.
-pub fn step(site: Site, buffer: &mut [u8], course: Course) -> Course
-    requires { ⌜ Walks (site ∷ []) course (length (now buffer)) ⌝ }
-    ensures { λ r. ⌜ (r ≡ stepCourse site course) × (now (buffer .exit) ≡ stepBuffer site course (now (buffer .entry))) ⌝ }
+// One site more of a project of so many years: its record is measured, or written at the place reached.
+pub fn step(years: u64, site: Site, buffer: &mut [u8], course: Course) -> Course
+    requires { ⌜ Walks years (site ∷ []) course (length (now buffer)) ⌝ }
+    ensures { λ r. ⌜ (r ≡ stepCourse years site course) × (now (buffer .exit) ≡ stepBuffer site course (now (buffer .entry))) ⌝ }
 {
     match course {
         Course::Stopped(answer) => Course::Stopped(answer),
         Course::Measured(sites, n) => {
-            let measure = measure_site(site);
+            let measure = measure_site(years, site);
             match measure {
                 Measure::OutsideRange => Course::Stopped(FileAnswer::OutsideRange(sites)),
                 Measure::Length(more) => Course::Measured(sites + 1, n + more),
             }
         }
         Course::Placed(at) => {
-            let n = put_record(site, &mut buffer[at..]);
+            let n = put_record(years, site, &mut buffer[at..]);
             Course::Placed(at + n)
         }
     }

@@ -17,15 +17,15 @@ use header::does_admit;
 use site::values::Site;
 
 // The one walk over the sites: each is taken out, and the course goes on with it.
-fn walk(sites: &[Site], buffer: &mut [u8], start: Course) -> Course
-    requires { ⌜ Walks (now sites) start (length (now buffer)) ⌝ }
-    ensures { λ r. ⌜ (r ≡ walkCourse (now (sites .entry)) start) × (now (buffer .exit) ≡ walkBuffer (now (sites .entry)) start (now (buffer .entry))) ⌝ }
+fn walk(years: u64, sites: &[Site], buffer: &mut [u8], start: Course) -> Course
+    requires { ⌜ Walks years (now sites) start (length (now buffer)) ⌝ }
+    ensures { λ r. ⌜ (r ≡ walkCourse years (now (sites .entry)) start) × (now (buffer .exit) ≡ walkBuffer years (now (sites .entry)) start (now (buffer .entry))) ⌝ }
 {
     let mut course = start;
     let mut i = 0;
     while i < sites.len() {
         let site = sites[i];
-        course = step(site, buffer, course);
+        course = step(years, site, buffer, course);
         i += 1;
     }
     course
@@ -50,7 +50,7 @@ pub fn write_project(
     if !does_admit(header, sites.len()) {
         return FileAnswer::OutsideLimits;
     }
-    let measured = walk(sites, buffer, Course::Measured(0, HEADER_LENGTH));
+    let measured = walk(years, sites, buffer, Course::Measured(0, HEADER_LENGTH));
     let begun = begin_writing(header, sites.len(), buffer, measured);
-    answer_of(walk(sites, buffer, begun))
+    answer_of(walk(years, sites, buffer, begun))
 }

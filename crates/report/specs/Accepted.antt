@@ -17,7 +17,7 @@ use Rattle.line.specs.declared.Line.{Line}
 use Rattle.line.specs.LineLaws.{edition-one-line}
 use Rattle.line.specs.Weighing.{line-small}
 use Rattle.project.specs.declared.ScanAnswer.the-variants.{Accepted}
-use Rattle.project.specs.File.{scanRecords, scanFile, sitesIn}
+use Rattle.project.specs.File.{yearsIn, scanRecords, scanFile, sitesIn}
 use Rattle.project.specs.Scan.{scan-past-header, accepted-exactly}
 use Rattle.project.specs.SitesRead.{AcceptedFile, accepted-sites}
 use Rattle.project.specs.Causes.{reportLength}
@@ -37,15 +37,15 @@ pub length-report : (lines : List Line) → length (reportNumbers lines) ≡ rep
 length-report lines = omega (arith, length-append (allNumbers lines) (numbersOf (totalOf lines)), length-numbers lines)
 
 -- every member valid, one by one
-pub all-valid : (sites : List Site) → ((site : Site) → List·Memᴰ site sites → Valid site) → AllValid sites
-all-valid [] v = tt
-all-valid (site ∷ sites) v = (v site (List·Memᴰ·head refl), all-valid sites (λ other m. v other (List·Memᴰ·tail m)))
+pub all-valid : (years : ℕ) (sites : List Site) → ((site : Site) → List·Memᴰ site sites → Valid years site) → AllValid years sites
+all-valid years [] v = tt
+all-valid years (site ∷ sites) v = (v site (List·Memᴰ·head refl), all-valid years sites (λ other m. v other (List·Memᴰ·tail m)))
 
 module _ (s : List ℕ) (n : ℕ) (accepted : scanFile s ≡ Accepted n) where
   facts : AcceptedFile s n
   facts = accepted-sites s n accepted
 
-  scanned : scanRecords (countIn s) (countIn s) headerLength s ≡ Accepted (countIn s)
+  scanned : scanRecords (yearsIn s) (countIn s) (countIn s) headerLength s ≡ Accepted (countIn s)
   scanned = sym (scan-past-header s (accepted-header s (accepted-exactly s n .0 accepted .header))) ∙ accepted ∙ ap Accepted (facts .count-is)
 
   pub count-lines : length (linesIn s) ≡ n
@@ -58,7 +58,7 @@ module _ (s : List ℕ) (n : ℕ) (accepted : scanFile s ≡ Accepted n) where
   -- THE DEMAND
   pub demand-met : (rest : List ℕ) → Demand s (reportNumbers (linesIn s) ++ rest)
   demand-met rest =
-      let v = all-valid (sitesIn s) (facts .sites .valid) in
+      let v = all-valid (yearsIn s) (sitesIn s) (facts .sites .valid) in
       let stands = edition-one-line (headerIn s) (limits-of (headerIn s) (facts .limits)) in
       rw (append-assoc (allNumbers (linesIn s)) (numbersOf (totalOf (linesIn s))) rest)
       (record {

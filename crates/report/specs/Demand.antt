@@ -9,6 +9,7 @@ use Rattle.estimate.specs.Fraction.{Fraction, whole, millionths, _+ᶠ_}
 use Rattle.estimate.specs.Standing.{Between}
 use Rattle.wide.specs.Rounding.{Narrow}
 use Rattle.site.specs.declared.values.Site.{Site}
+use Rattle.site.specs.Yearly.{noLater}
 use Rattle.site.specs.Record.{siteOf}
 use Rattle.header.specs.declared.Header.{Header}
 use Rattle.header.specs.Header.{headerIn, countIn}
@@ -16,7 +17,7 @@ use Rattle.model.specs.Coefficients.{Coefficients}
 use Rattle.model.specs.Predicted.{predictedUnder, predictedOver}
 use Rattle.model.specs.Expected.{expectedUnder, expectedOver}
 use Rattle.line.specs.declared.Line.{Line}
-use Rattle.model.specs.StatedWidths.{widthParts, predictedEach, expectedEach, observedWeight}
+use Rattle.model.specs.StatedWidths.{widthParts, predictedEach, expectedEach, sitesCounted, observedWeight}
 use Rattle.line.specs.Stands.{LineStands}
 use Rattle.project.specs.File.{sitesIn}
 use Rattle.project.specs.Causes.{reportLength, NoCause, FirstCause}
@@ -35,19 +36,28 @@ lineAt report i = record {
 
 -- a site of a list
 abbrev pub siteAt : List Site → ℕ → Site
-siteAt sites i = getD sites i (siteOf 0 [])
+siteAt sites i = getD sites i (siteOf 0 [] noLater noLater)
 
 -- "A project's estimates are sums over sites"
 unfoldable pub sumOfSites : (Site → ℕ → Fraction) → List Site → ℕ → Fraction
 sumOfSites estimate [] d = whole 0
 sumOfSites estimate (site ∷ sites) d = estimate site d +ᶠ sumOfSites estimate sites d
 
--- "A project's observed crashes are the sum of the O that stand", each as it counts
-unfoldable pub observedIn : Coefficients → List Site → ℕ
-observedIn c [] = 0
-observedIn c (site ∷ sites) = observedWeight c site + observedIn c sites
+-- what the sites of a list count together
+unfoldable pub countOver : (Site → ℕ) → List Site → ℕ
+countOver each [] = 0
+countOver each (site ∷ sites) = each site + countOver each sites
 
--- the totals of a list of sites: at most 4 a site, or 8 for sites and crashes together, and a millionth of the high apart
+-- "In demand 3's widths such a site counts as Y sites": the sites, each as it counts
+abbrev pub sitesCountedIn : (years : ℕ) → List Site → ℕ
+sitesCountedIn years sites = countOver (sitesCounted years) sites
+
+-- "A project's observed crashes are the sum of the O that stand", each as it counts
+abbrev pub observedIn : Coefficients → (years : ℕ) → List Site → ℕ
+observedIn c years sites = countOver (observedWeight c years) sites
+
+-- the totals of a list of sites: at most 4 a site as it counts, or 8 for sites and crashes as they count together, and a millionth of
+-- the high apart
 pub record TotalsStand (c : Coefficients) (header : Header) (sites : List Site) (total : Line) : Type 0 where
   pub predicted-between : Between (millionths (total .«predicted_low»)) (millionths (total .«predicted_high»))
       (sumOfSites (predictedUnder c header) sites) (sumOfSites (predictedOver c header) sites)
@@ -55,8 +65,9 @@ pub record TotalsStand (c : Coefficients) (header : Header) (sites : List Site) 
       (sumOfSites (expectedUnder c header) sites) (sumOfSites (expectedOver c header) sites)
   pub predicted-in-order : total .«predicted_low» ≤ total .«predicted_high»
   pub expected-in-order : total .«expected_low» ≤ total .«expected_high»
-  pub predicted-narrow : Narrow widthParts (predictedEach * length sites) 1 (total .«predicted_low») (total .«predicted_high»)
-  pub expected-narrow : Narrow widthParts (expectedEach * (length sites + observedIn c sites)) 1 (total .«expected_low») (total .«expected_high»)
+  pub predicted-narrow : Narrow widthParts (predictedEach * sitesCountedIn (header .years) sites) 1 (total .«predicted_low») (total .«predicted_high»)
+  pub expected-narrow : Narrow widthParts (expectedEach * (sitesCountedIn (header .years) sites + observedIn c (header .years) sites)) 1
+      (total .«expected_low») (total .«expected_high»)
 
 -- THE CLAIM, with the coefficients of the project's edition
 pub record Demand (bytes report : List ℕ) : Type 0 where

@@ -18,7 +18,7 @@ use Rattle.line.specs.declared.Line.{Line}
 use Rattle.line.specs.Line.{siteLine}
 use Rattle.line.specs.Stands.{LineStands}
 use Rattle.report.specs.Report.{numbersOf, allNumbers, noLine, totalOf}
-use Rattle.report.specs.Demand.{lineAt, siteAt, sumOfSites, observedIn, TotalsStand}
+use Rattle.report.specs.Demand.{lineAt, siteAt, sumOfSites, countOver, TotalsStand}
 
 -- two figures between their numbers have a sum between the sums of these; a sum of none is between 0 and 0
 between-adds : (a b x y : ℕ) {f g u v : ℕ → Fraction} → Between (millionths a) (millionths b) f g → Between (millionths x) (millionths y) u v
@@ -52,26 +52,28 @@ unfolding allNumbers
 total-of-report [] total rest = refl
 total-of-report (line ∷ lines) total rest = next-line line (allNumbers lines ++ (numbersOf total ++ rest)) (length lines) ∙ total-of-report lines total rest
 
-abbrev pub AllValid : List Site → Type 0
-AllValid [] = Unit
-AllValid (site ∷ sites) = Valid site × AllValid sites
+abbrev pub AllValid : (years : ℕ) → List Site → Type 0
+AllValid years [] = Unit
+AllValid years (site ∷ sites) = Valid years site × AllValid years sites
 
 pub length-lines : (c : Coefficients) (header : Header) (sites : List Site) → length (map (siteLine c header) sites) ≡ length sites
 length-lines c header [] = refl
 length-lines c header (site ∷ sites) = ap suc (length-lines c header sites)
 
 -- THE REPORT of valid sites, whatever follows it, where the line of each stands
-module _ (c : Coefficients) (header : Header) (stands : (site : Site) → Valid site → LineStands c header site (siteLine c header site)) where
+module _ (c : Coefficients) (header : Header)
+    (stands : (site : Site) → Valid (header .years) site → LineStands c header site (siteLine c header site)) where
   abbrev linesOf : List Site → List Line
   linesOf sites = map (siteLine c header) sites
 
-  each-stands : (sites : List Site) → AllValid sites → (i : ℕ) → i < length sites → LineStands c header (siteAt sites i) (getD (linesOf sites) i noLine)
+  each-stands : (sites : List Site) → AllValid (header .years) sites → (i : ℕ) → i < length sites
+      → LineStands c header (siteAt sites i) (getD (linesOf sites) i noLine)
   each-stands [] v i h = absurd (omega arith)
   each-stands (site ∷ sites) v zero h = stands site (v .0)
   each-stands (site ∷ sites) v (suc i) h = each-stands sites (v .1) i (omega arith)
 
-  pub totals-stand : (sites : List Site) → AllValid sites → TotalsStand c header sites (totalOf (linesOf sites))
-  unfolding totalOf sumOfSites observedIn
+  pub totals-stand : (sites : List Site) → AllValid (header .years) sites → TotalsStand c header sites (totalOf (linesOf sites))
+  unfolding totalOf sumOfSites countOver
   totals-stand [] v = record {
     predicted-between = none-between;
     expected-between = none-between;
@@ -92,7 +94,7 @@ module _ (c : Coefficients) (header : Header) (stands : (site : Site) → Valid 
         expected-narrow = record { width = omega (arith, s .expected-narrow .width, r .expected-narrow .width) };
       }
 
-  module _ (sites : List Site) (valid : AllValid sites) (rest : List ℕ) where
+  module _ (sites : List Site) (valid : AllValid (header .years) sites) (rest : List ℕ) where
     abbrev numbers : List ℕ
     numbers = allNumbers (linesOf sites) ++ (numbersOf (totalOf (linesOf sites)) ++ rest)
 

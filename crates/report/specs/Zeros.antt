@@ -15,17 +15,17 @@ use Rattle.model.specs.Coefficients.{editionOne}
 use Rattle.prediction.specs.EditionOne.{edition-one-rated}
 use Rattle.prediction.specs.Positive.{predicted-positive}
 use Rattle.project.specs.declared.ScanAnswer.the-variants.{Accepted}
-use Rattle.project.specs.File.{scanFile, sitesIn}
+use Rattle.project.specs.File.{yearsIn, scanFile, sitesIn}
 use Rattle.project.specs.SitesRead.{accepted-sites}
 use Rattle.report.specs.Demand.{Demand, siteAt}
 use Rattle.report.specs.DemandLaws.{AllValid}
 use Rattle.report.specs.Accepted.{all-valid}
 use Rattle.report.specs.NeededParts.{site-predicted-high-too-low}
 
-valid-at : (sites : List Site) → AllValid sites → (i : ℕ) → i < length sites → Valid (siteAt sites i)
-valid-at [] v i h = absurd (omega arith)
-valid-at (site ∷ sites) v zero h = v .0
-valid-at (site ∷ sites) v (suc i) h = valid-at sites (v .1) i (omega arith)
+valid-at : (years : ℕ) (sites : List Site) → AllValid years sites → (i : ℕ) → i < length sites → Valid years (siteAt sites i)
+valid-at years [] v i h = absurd (omega arith)
+valid-at years (site ∷ sites) v zero h = v .0
+valid-at years (site ∷ sites) v (suc i) h = valid-at years sites (v .1) i (omega arith)
 
 below-positive : (x : ℕ) (y : Fraction) → x ≡ 0 → 0 < y .num → millionths x <ᶠ y
 unfolding millionths _//_ fraction
@@ -36,7 +36,7 @@ module _ (bytes report : List ℕ) (n : ℕ) (accepted : scanFile bytes ≡ Acce
   high-of-zero i h e =
       let facts = accepted-sites bytes n accepted in
       let inside : i < length (sitesIn bytes) = omega (arith, facts .sites .count-is) in
-      let valid = valid-at (sitesIn bytes) (all-valid (sitesIn bytes) (facts .sites .valid)) i inside in
+      let valid = valid-at (yearsIn bytes) (sitesIn bytes) (all-valid (yearsIn bytes) (sitesIn bytes) (facts .sites .valid)) i inside in
       site-predicted-high-too-low bytes report i inside 1 (lit≤ tt)
       (below-positive _ _ e
       (predicted-positive editionOne edition-one-rated (headerIn bytes) (limits-of (headerIn bytes) (facts .limits)) (siteAt (sitesIn bytes) i) valid 1))

@@ -44,9 +44,9 @@ fn line_at(
 ) -> RecordLine
     requires { ⌜ StoredPowers (now powers) × StoredLogarithms (now logarithms) × StoredExponentials (now exponentials)
         × (at ≤ length (now file)) × HeaderWithin header ⌝ }
-    ensures { λ r. ⌜ r ≡ recordLine editionOne header (readSite (drop at (now (file .entry)))) ⌝ }
+    ensures { λ r. ⌜ r ≡ recordLine editionOne header (readSite (header .years) (drop at (now (file .entry)))) ⌝ }
 {
-    let answer = read_site(&file[at..]);
+    let answer = read_site(header.years, &file[at..]);
     match answer {
         SiteAnswer::Refused(_) => RecordLine::Unread,
         SiteAnswer::Read(site, n) => {

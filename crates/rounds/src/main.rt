@@ -1,8 +1,8 @@
 // Rounds with the stored numbers lent, for the benchmark. Standard input is six two-byte numbers, high byte first, and the
-// records of a project's sites. The numbers ask for so many rounds: of powers, of powers whose ends are found one by one, of
-// logarithms and of exponentials at every argument, of lines, each with its record read, and of records that are only read. Prints
-// a sum over all ends of the brackets, and one over all numbers of the lines and the kinds of what was only read, so that none is
-// left out.
+// records of the sites of a project of five years. The numbers ask for so many rounds: of powers, of powers whose ends are found
+// one by one, of logarithms and of exponentials at every argument, of lines, each with its record read, and of records that are only
+// read. Prints a sum over all ends of the brackets, and one over all numbers of the lines and the kinds of what was only read, so
+// that none is left out.
 ghost use Prim.Native.Nat.{_≤_, _<_};
 ghost use lib.ListN.{length};
 ghost use Rattle.exponential.specs.Stored.{StoredExponentials};
@@ -112,7 +112,7 @@ fn site_added(
     site: Site,
     sum: u64,
 ) -> u64
-    requires { ⌜ StoredPowers (now powers) × StoredLogarithms (now logarithms) × StoredExponentials (now exponentials) × Valid site ⌝ }
+    requires { ⌜ StoredPowers (now powers) × StoredLogarithms (now logarithms) × StoredExponentials (now exponentials) × Valid 5 site ⌝ }
 {
     if !lines {
         return added(sum, site.kind as u64, 0);
@@ -141,7 +141,7 @@ fn records(
     let mut sum = start;
     let mut at = 0;
     while at < records.len() {
-        let answer = read_site(&records[at..]);
+        let answer = read_site(YEARS, &records[at..]);
         let SiteAnswer::Read(site, n) = answer else {
             return sum;
         };

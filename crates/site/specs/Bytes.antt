@@ -1,53 +1,25 @@
 -- A record is bytes: kind, map and fields fit what they are written in.
-use mathlib.Core.Path.{_≡_, refl}
-use mathlib.Core.Bool.{Bool, true, false, cond}
-use mathlib.Core.List.{List, [], _∷_, _++_}
-use Prim.Native.Nat.{ℕ, zero, suc, _+_, _*_, _/_, _%_, _^_, _<_, _≤_}
-use native.Mathlib.Nat.{lt-of-lt-of-le, pow-le-pow-right}
+use mathlib.Core.Path.{_≡_, refl, sym}
+use mathlib.Core.Bool.{Bool, true, false, cond, true≢false}
+use mathlib.Core.List.{List, [], _∷_, _++_, append-nil}
+use Prim.Native.Nat.{ℕ, zero, suc, _+_, _/_, _%_, _<_}
 use native.Mathlib.Omega.{arith}
-use lib.ListN.{getD, drop}
+use lib.ListN.{getD}
 use lib.Dec.{ltb, eqb}
-use lib.Pow.{pow-pos, pow-add}
 use borrow.Author.Tests.{ltb-true}
 use Rattle.site.specs.declared.rules.Rule.{Rule}
 use Rattle.site.specs.declared.values.Slot.{Slot}
 use Rattle.site.specs.declared.values.Slot.the-variants.{Absent, Number}
 use Rattle.site.specs.declared.values.Site.{Site}
-use Rattle.site.specs.Rules.{entriesOf, bits}
-use Rattle.site.specs.Writing.{slotsOf, curveHeld, rulesHeld, fits, allFit, slotBit, mapOf, slotBytes, fieldBytes, bytesOf, recordBy, recordOf, Valid}
+use Rattle.site.specs.Rules.{entriesOf, traffic}
+use Rattle.site.specs.Yearly.{laterSlots, yearly}
+use Rattle.site.specs.Writing.{slotsOf, curveHeld, rulesHeld, fits, allFit, slotBit, mapOf, twoBytes, slotBytes, fieldBytes, bytesOf}
+use Rattle.site.specs.Writing.{laterBytes, spreadBytes, recordBy, recordOf, laterFits, Valid}
 use Rattle.laws.specs.Truth.{and-left, and-right}
 use Rattle.site.specs.Digits.{Bytes}
-use Rattle.site.specs.Tested.{bitCount, top, bits-most, allows-top, tested-rules, every, topLow}
-use Rattle.site.specs.Ranges.{valid-fits, valid-kind}
-use Rattle.site.specs.WriteRead.{slot-bit-most}
-
--- a map is below 2 to its count of bits
-map-below : (rules : List Rule) (slots : List Slot) → mapOf rules slots < 2 ^ bitCount rules
-unfolding mapOf bitCount
-map-below [] slots = pow-pos 0
-map-below (rule ∷ rules) [] = pow-pos (bits rule + bitCount rules)
-map-below (rule ∷ rules) (slot ∷ slots) =
-    rw (pow-add 2 (bits rule) (bitCount rules)) (by (bits rule) (slotBit rule slot) (bits-most rule) (slot-bit-most rule slot) (map-below rules slots))
-  where
-    by : (b d : ℕ) → b ≤ 1 → d ≤ b → mapOf rules slots < 2 ^ bitCount rules
-        → d + (1 + b) * mapOf rules slots < 2 ^ b * 2 ^ bitCount rules
-    by zero d h k l = omega arith
-    by (suc zero) d h k l = omega arith
-    by (suc (suc b)) d h k l = let z : ⊥ = omega arith in absurd z
-
-bits-left : (rules : List Rule) (i : ℕ) → bitCount (drop i rules) ≤ bitCount rules
-unfolding bitCount
-bits-left [] zero = omega arith
-bits-left [] (suc i) = omega arith
-bits-left (rule ∷ rules) zero = omega arith
-bits-left (rule ∷ rules) (suc i) = omega (arith, bits-left rules i)
-
-pub map-small : (rules : List Rule) (slots : List Slot) (i : ℕ) → bitCount rules ≤ 15
-    → mapOf (drop i rules) (drop i slots) < 32768
-map-small rules slots i h = by (bitCount (drop i rules)) (map-below (drop i rules) (drop i slots)) (omega (arith, bits-left rules i))
-  where
-    by : (n : ℕ) → mapOf (drop i rules) (drop i slots) < 2 ^ n → n ≤ 15 → mapOf (drop i rules) (drop i slots) < 32768
-    by n l k = let two : 0 < 2 = omega arith in lt-of-lt-of-le l (pow-le-pow-right two k)
+use Rattle.site.specs.Tested.{top, allows-top, tested-rules, every, topLow}
+use Rattle.site.specs.Ranges.{tests, valid-kind}
+use Rattle.site.specs.WriteRead.{map-small, firstField, secondField, otherFields, spread-parts, bytes-parts}
 
 pub bytes-cons : (x : ℕ) (s : List ℕ) → x < 256 → Bytes s → (i : ℕ) → getD (x ∷ s) i 0 < 256
 bytes-cons x s h bytes zero = h
@@ -64,9 +36,13 @@ bytes-nil i = omega arith
 pub two-bytes-of : (value : ℕ) → value < 65536 → Bytes (value / 256 ∷ value % 256 ∷ [])
 two-bytes-of value h = bytes-cons (value / 256) (value % 256 ∷ []) (omega arith) (bytes-cons (value % 256) [] (omega arith) bytes-nil)
 
+fits-bytes : (rule : Rule) (slot : Slot) → fits rule slot ≡ true → top rule < 65535 → Bytes (slotBytes slot)
+fits-bytes rule Absent f h = bytes-nil
+fits-bytes rule (Number value) f h = two-bytes-of value (omega (arith, allows-top rule value f))
+
 field-bytes : (rule : Rule) (slot : Slot) → fits rule slot ≡ true → top rule < 65535 → Bytes (fieldBytes rule slot)
 field-bytes rule Absent f h = bytes-nil
-field-bytes rule (Number value) f h = by (eqb (slotBit rule (Number value)) 1) (two-bytes-of value (omega (arith, allows-top rule value f)))
+field-bytes rule (Number value) f h = by (eqb (slotBit rule (Number value)) 1) (fits-bytes rule (Number value) f h)
   where
     by : (b : Bool) → Bytes (slotBytes (Number value)) → Bytes (cond b (slotBytes (Number value)) [])
     by true bytes = bytes
@@ -81,17 +57,54 @@ fields-bytes (rule ∷ rules) (slot ∷ slots) f h =
     (field-bytes rule slot (and-left _ _ f) (ltb-true (top rule) 65535 (and-left _ _ h)))
     (fields-bytes rules slots (and-right (fits rule slot) _ f) (and-right (ltb (top rule) 65535) _ h))
 
+-- later values fit their bytes
+later-bytes : (later : ℕ) (slots : List Slot) → laterFits later slots ≡ true → Bytes (laterBytes slots)
+unfolding laterBytes laterFits
+later-bytes later [] f = bytes-nil
+later-bytes zero (Absent ∷ slots) f = later-bytes zero slots f
+later-bytes zero (Number value ∷ slots) f = absurd (true≢false (sym f))
+later-bytes (suc later) (slot ∷ slots) f =
+    bytes-append (slotBytes slot) (laterBytes slots) (fits-bytes traffic slot (and-left (fits traffic slot) _ f) (omega arith))
+    (later-bytes later slots (and-right (fits traffic slot) _ f))
+
+-- fields put between bytes are bytes where all of them are
+parts-bytes : (a b r t u : List ℕ) → Bytes (a ++ (b ++ r)) → Bytes t → Bytes u → Bytes (a ++ (t ++ (b ++ (u ++ r))))
+parts-bytes a b r t u all bt bu =
+    bytes-append a (t ++ (b ++ (u ++ r))) (front-bytes a (b ++ r) all)
+    (bytes-append t (b ++ (u ++ r)) bt
+    (bytes-append b (u ++ r) (front-bytes b r (back-bytes a (b ++ r) all)) (bytes-append u r bu (back-bytes b r (back-bytes a (b ++ r) all)))))
+  where
+    front-bytes : (s t : List ℕ) → Bytes (s ++ t) → (i : ℕ) → getD s i 0 < 256
+    front-bytes [] t bytes i = omega arith
+    front-bytes (x ∷ s) t bytes zero = bytes 0
+    front-bytes (x ∷ s) t bytes (suc i) = front-bytes s t (λ j. bytes (suc j)) i
+
+    back-bytes : (s t : List ℕ) → Bytes (s ++ t) → (i : ℕ) → getD t i 0 < 256
+    back-bytes [] t bytes i = bytes i
+    back-bytes (x ∷ s) t bytes i = back-bytes s t (λ j. bytes (suc j)) i
+
 -- what the writer emits is bytes
-pub record-bytes : (site : Site) → Valid site → Bytes (recordOf site)
+pub record-bytes : (years : ℕ) (site : Site) → Valid years site → Bytes (recordOf site)
 unfolding recordBy
-record-bytes site v =
-    let rules = rulesHeld (site .kind) (slotsOf site) in
-    let hk = valid-kind site v in
-    let fit = valid-fits site v (site .kind) refl in
-    let s = tested-rules (site .kind) (curveHeld (entriesOf (site .kind)) (slotsOf site)) hk in
-    let small = map-small rules (slotsOf site) 0 (s .few) in
-    let map = mapOf rules (slotsOf site) in
-    let fields = bytesOf rules (slotsOf site) in
-    let low = bytes-cons (map % 256) fields (omega arith) (fields-bytes rules (slotsOf site) fit (s .tops-low)) in
-    let high = bytes-cons (map / 256) (map % 256 ∷ fields) (omega arith) low in
-    bytes-cons (site .kind) (map / 256 ∷ map % 256 ∷ fields) (omega arith) high
+record-bytes years site v =
+    let slots = slotsOf site in
+    let rules = rulesHeld (site .kind) slots in
+    let hk = valid-kind years site v in
+    let c = tests years site v in
+    let s = tested-rules (site .kind) (curveHeld (entriesOf (site .kind)) slots) hk in
+    let small = map-small rules slots 0 (s .few) in
+    let map = mapOf rules slots + cond (yearly site) 32768 0 in
+    let traffic-bytes = later-bytes _ _ (c .later-traffic) in
+    let minor-bytes = later-bytes _ _ (c .later-minor) in
+    let traffic = laterBytes (laterSlots (site .«later_traffic»)) in
+    let minor = laterBytes (laterSlots (site .«later_minor»)) in
+    let plain = rw (bytes-parts rules slots (s .count) refl) at (fields-bytes rules slots (c .fit) (s .tops-low)) in
+    let spread : Bytes (spreadBytes rules slots traffic minor) =
+    rw (← append-nil (spreadBytes rules slots traffic minor), spread-parts rules slots traffic minor [], append-nil (otherFields rules slots))
+    (parts-bytes (firstField rules slots) (secondField rules slots) (otherFields rules slots) traffic minor plain traffic-bytes minor-bytes) in
+    let words = bytes-append (twoBytes map) (spreadBytes rules slots traffic minor) (two-bytes-of map (below (yearly site) small)) spread in
+    bytes-cons (site .kind) (twoBytes map ++ spreadBytes rules slots traffic minor) (omega arith) words
+  where
+    below : (b : Bool) {m : ℕ} → m < 32768 → m + cond b 32768 0 < 65536
+    below true h = omega arith
+    below false h = omega arith

@@ -3,40 +3,38 @@ use mathlib.Core.Path.{_≡_, refl, ap, sym, _∙_}
 use mathlib.Core.Bool.{Bool, true, false, cond, _||_}
 use mathlib.Core.List.{List, [], _∷_, _++_}
 use mathlib.Core.Logic.{_↔_}
-use Prim.Native.Nat.{ℕ, _*_, _<_, _≤_}
+use Prim.Native.Nat.{ℕ, _+_, _*_, _<_, _≤_}
 use native.Mathlib.Omega.{arith}
 use lib.ListN.{length, take, drop, length-append, length-drop, take-append-drop, List·getD-append}
 use lib.Seq.{drop-append-le, length-take-le}
 use lib.Dec.{ltb, eqb}
-use borrow.Author.Tests.{lt-ltb, le-ltb, eqb-true}
+use borrow.Author.Tests.{lt-ltb, le-ltb, ltb-false, eqb-true}
 use Rattle.site.specs.declared.rules.Rule.{Rule}
 use Rattle.site.specs.declared.values.Site.{Site}
 use Rattle.site.specs.declared.values.SiteAnswer.the-variants.{Read, Refused}
-use Rattle.site.specs.Rules.{lastKind, allows, absentOf, holds}
+use Rattle.site.specs.declared.values.Slot.{Slot}
+use Rattle.site.specs.Rules.{lastKind, yearsKnown, laterYears, allows, absentOf, holds}
+use Rattle.site.specs.Yearly.{laterOf}
+use Rattle.site.specs.LaterLaws.{gathered-append, length-gathered, same-word, LaterAlike, later-alike}
 use Rattle.site.specs.Record.{word, bitOf, restOf, stands, words, fieldNumber, fieldValue, after, fieldsNumber, fieldsValues}
-use Rattle.site.specs.Record.{lacks, misses, siteOf, kindIn, mapIn, rulesIn, lengthIn, siteIn, refusalOf, readSite}
+use Rattle.site.specs.Record.{lacks, siteOf, kindIn, mapIn, rulesIn, laterIn, minorIn, fieldsIn, laterAt, minorAt, laterRead, allLaterAllowed}
+use Rattle.site.specs.Record.{lengthIn, siteIn, missesIn, refusalOf, readSite}
 use Rattle.site.specs.Answers.{readAnswer}
-use Rattle.site.specs.Accepted.{HeadPresent, Tried, head-short, kind-unknown, map-lacks, map-misses}
-use Rattle.site.specs.Accepted.{fields-short, fields-tell, tried, tried-number, accepted, reading}
+use Rattle.site.specs.Accepted.{HeadPresent, MapPasses, Tried, years-unknown, head-short, kind-unknown, map-lacks, map-misses}
+use Rattle.site.specs.Accepted.{fields-short, later-refused, fields-tell, fields-long, tried, tried-number, accepted, reading}
 
 -- kind or map is refused: 5, 6 or 7
-abbrev pub headRefused : List ℕ → Bool
-headRefused s = ltb lastKind (kindIn s) || (lacks (rulesIn s) (mapIn s) || misses (rulesIn s) (mapIn s))
+abbrev pub headRefused : (years : ℕ) → List ℕ → Bool
+headRefused years s = ltb lastKind (kindIn s) || (lacks (rulesIn s) (mapIn s) || missesIn years s)
 
--- kind and map, and unless these are refused the fields
-unfoldable pub bears : List ℕ → ℕ
-bears s = cond (ltb (length s) 3) 3 (cond (headRefused s) 3 (lengthIn s))
+-- kind and map, and unless these are refused the fields; nothing where the years are outside their limits
+unfoldable pub bears : (years : ℕ) → List ℕ → ℕ
+bears years s = cond (yearsKnown years) (cond (ltb (length s) 3) 3 (cond (headRefused years s) 3 (lengthIn years s))) 0
 
 -- two lists that share the fields of a record are read alike
 record Alike (rules : List Rule) (map : ℕ) (s t : List ℕ) : Type 0 where
   pub number : fieldsNumber rules map s ≡ fieldsNumber rules map t
   pub values : fieldsValues rules map s ≡ fieldsValues rules map t
-
-same-word : (s t : List ℕ) → 2 ≤ length s → word (s ++ t) ≡ word s
-same-word s t h =
-    let a : 0 < length s = omega arith in
-    let b : 1 < length s = omega arith in
-    rw (List·getD-append s t 0 0 a, List·getD-append s t 0 1 b)
 
 record SameField (rule : Rule) (map : ℕ) (s t : List ℕ) : Type 0 where
   pub number : fieldNumber rule map (s ++ t) ≡ fieldNumber rule map s
@@ -66,24 +64,70 @@ alike (rule ∷ rules) map s t h =
     }
 
 -- where kind and map are right, the fields bear on the answer, and where they are not, nothing past them does
-fields-bear : {s : List ℕ} → HeadPresent s → lacks (rulesIn s) (mapIn s) ≡ false → misses (rulesIn s) (mapIn s) ≡ false → bears s ≡ lengthIn s
+fields-bear : {years : ℕ} {s : List ℕ} → MapPasses years s → bears years s ≡ lengthIn years s
 unfolding bears
-fields-bear h l m = rw (le-ltb _ _ (h .long), le-ltb _ _ (h .known), l, m)
+fields-bear p = rw (p .head .years-in, le-ltb _ _ (p .head .long), le-ltb _ _ (p .head .known), p .lack, p .miss)
 
-module _ (k a b : ℕ) (s t : List ℕ) where
-  longer : HeadPresent (k ∷ a ∷ b ∷ s) → HeadPresent (k ∷ a ∷ b ∷ (s ++ t))
-  longer h = record { long = omega arith; known = h .known }
+-- a part that holds a record, and goes on
+module _ (years k a b : ℕ) (s t : List ℕ) where
+  abbrev part : List ℕ
+  part = k ∷ a ∷ b ∷ s
+
+  abbrev longer : List ℕ
+  longer = k ∷ a ∷ b ∷ (s ++ t)
+
+  head-longer : HeadPresent years part → HeadPresent years longer
+  head-longer h = record { years-in = h .years-in; long = omega arith; known = h .known }
+
+  passes-longer : MapPasses years part → MapPasses years longer
+  passes-longer p = record { head = head-longer (p .head); lack = p .lack; miss = p .miss }
+
+  module _ (p : MapPasses years part) (full : lengthIn years part ≤ length part) where
+    between : 4 + 2 * laterIn years part + 2 * minorIn years part ≤ length s
+    between = fields-long years part p full
+
+    fields-alike : Alike (rulesIn part) (mapIn part) (fieldsIn years longer) (fieldsIn years part)
+    fields-alike =
+        rw (gathered-append (laterIn years part) (minorIn years part) s t between)
+        (alike (rulesIn part) (mapIn part) (fieldsIn years part) t
+        (omega (arith, full, between, length-gathered (laterIn years part) (minorIn years part) s between)))
+
+    traffic-alike : LaterAlike laterYears (laterIn years part) (laterAt part) t
+    traffic-alike = later-alike laterYears (laterIn years part) (laterAt part) t (omega (arith, between, length-drop 2 s))
+
+    minor-alike : LaterAlike laterYears (minorIn years part) (minorAt years part) t
+    minor-alike = later-alike laterYears (minorIn years part) (minorAt years part) t (omega (arith, between, length-drop (7 + 2 * laterIn years part) part))
+
+    at-traffic : laterAt longer ≡ laterAt part ++ t
+    at-traffic = drop-append-le 2 s t (omega (arith, between))
+
+    at-minor : minorAt years longer ≡ minorAt years part ++ t
+    at-minor = drop-append-le (7 + 2 * laterIn years part) part t (omega (arith, between))
+
+    allowed-alike : allLaterAllowed years longer ≡ allLaterAllowed years part
+    allowed-alike = rw (at-traffic, at-minor, traffic-alike .right, minor-alike .right) refl
+
+    site-alike : siteIn years longer ≡ siteIn years part
+    site-alike =
+        let n = laterIn years part in
+        let m = minorIn years part in
+        ap (λ (l : List Slot). siteOf k l (laterOf (laterRead laterYears n (laterAt longer))) (laterOf (laterRead laterYears m (minorAt years longer)))) (fields-alike .values)
+        ∙ ap (λ (l : List Slot). siteOf k (fieldsValues (rulesIn part) (mapIn part) (fieldsIn years part)) (laterOf l) (laterOf (laterRead laterYears m (minorAt years longer))))
+        (ap (laterRead laterYears n) at-traffic ∙ traffic-alike .values)
+        ∙ ap (λ (l : List Slot). siteOf k (fieldsValues (rulesIn part) (mapIn part) (fieldsIn years part)) (laterOf (laterRead laterYears n (laterAt part))) (laterOf l))
+        (ap (laterRead laterYears m) at-minor ∙ minor-alike .values)
 
   -- the tests of a part come out as those of the bytes that bear on it
-  tried-alike : {n : ℕ} → bears (k ∷ a ∷ b ∷ s) ≤ length (k ∷ a ∷ b ∷ s) → Tried (k ∷ a ∷ b ∷ s) n → Tried (k ∷ a ∷ b ∷ (s ++ t)) n
-  tried-alike e (head-short h) = absurd (omega arith)
-  tried-alike e (kind-unknown l h) = kind-unknown (omega arith) h
-  tried-alike e (map-lacks h l) = map-lacks (longer h) l
-  tried-alike e (map-misses h l m) = map-misses (longer h) l m
-  tried-alike e (fields-short h l m f) = absurd (omega (arith, fields-bear h l m))
-  tried-alike e (fields-tell h l m f) =
-      let x = k ∷ a ∷ b ∷ s in
-      rw (← alike (rulesIn x) (mapIn x) s t (omega arith) .number) (fields-tell (longer h) l m (omega (arith, length-append s t)))
+  tried-alike : {n : ℕ} → bears years part ≤ length part → Tried years part n → Tried years longer n
+  tried-alike e (years-unknown y) = years-unknown y
+  tried-alike e (head-short y h) = absurd (omega arith)
+  tried-alike e (kind-unknown y l h) = kind-unknown y (omega arith) h
+  tried-alike e (map-lacks h l) = map-lacks (head-longer h) l
+  tried-alike e (map-misses h l m) = map-misses (head-longer h) l m
+  tried-alike e (fields-short p f) = absurd (omega (arith, fields-bear p))
+  tried-alike e (later-refused p f r) = later-refused (passes-longer p) (omega (arith, length-append s t)) (allowed-alike p f ∙ r)
+  tried-alike e (fields-tell p f r) =
+      rw (← fields-alike p f .number) (fields-tell (passes-longer p) (omega (arith, length-append s t)) (allowed-alike p f ∙ r))
 
 -- an answer by a number tells the site only where the number is 0
 same-answer : (number : ℕ) (site other : Site) (n : ℕ) → (number ≡ 0 → site ≡ other)
@@ -95,51 +139,59 @@ same-answer number site other n h = by (eqb number 0) refl
     by false e = refl
 
 -- where a part holds the bytes that bear on its answer, whatever follows them bears on nothing
-pub past-nothing : (s t : List ℕ) → bears s ≤ length s → readSite (s ++ t) ≡ readSite s
-unfolding bears readSite
-past-nothing [] t h = let z : ⊥ = omega arith in absurd z
-past-nothing (k ∷ []) t h = let z : ⊥ = omega arith in absurd z
-past-nothing (k ∷ a ∷ []) t h = let z : ⊥ = omega arith in absurd z
-past-nothing (k ∷ a ∷ b ∷ s) t h =
-    let x = k ∷ a ∷ b ∷ s in
-    rw (tried-number (k ∷ a ∷ b ∷ (s ++ t)) (tried-alike k a b s t h (tried x)))
-    (same-answer (refusalOf x) (siteIn (k ∷ a ∷ b ∷ (s ++ t))) (siteIn x) (lengthIn x)
-    (λ e. ap (siteOf k) (alike (rulesIn x) (mapIn x) s t (omega (arith, accepted x e .full)) .values)))
+module _ (years : ℕ) (known : yearsKnown years ≡ true) where
+  long-enough : (s : List ℕ) → bears years s ≤ length s → 3 ≤ length s
+  unfolding bears
+  long-enough s h = by (ltb (length s) 3) refl (rw known at h)
+    where
+      by : (c : Bool) → ltb (length s) 3 ≡ c → cond c 3 (cond (headRefused years s) 3 (lengthIn years s)) ≤ length s → 3 ≤ length s
+      by true e h = h
+      by false e h = ltb-false (length s) 3 e
 
--- the bytes that bear on an answer are told by kind and map
-bears-same : (s t : List ℕ) → 3 ≤ length s → bears (s ++ t) ≡ bears s
-unfolding bears
-bears-same [] t h = let z : ⊥ = omega arith in absurd z
-bears-same (k ∷ []) t h = let z : ⊥ = omega arith in absurd z
-bears-same (k ∷ a ∷ []) t h = let z : ⊥ = omega arith in absurd z
-bears-same (k ∷ a ∷ b ∷ s) t h =
-    rw (le-ltb (length (k ∷ a ∷ b ∷ s)) 3 (omega arith), le-ltb (length (k ∷ a ∷ b ∷ (s ++ t))) 3 (omega arith))
+  pub past-nothing : (s t : List ℕ) → bears years s ≤ length s → readSite years (s ++ t) ≡ readSite years s
+  unfolding readSite
+  past-nothing [] t h = absurd (omega (arith, long-enough [] h))
+  past-nothing (k ∷ []) t h = absurd (omega (arith, long-enough (k ∷ []) h))
+  past-nothing (k ∷ a ∷ []) t h = absurd (omega (arith, long-enough (k ∷ a ∷ []) h))
+  past-nothing (k ∷ a ∷ b ∷ s) t h =
+      let x = k ∷ a ∷ b ∷ s in
+      rw (tried-number years (k ∷ a ∷ b ∷ (s ++ t)) (tried-alike years k a b s t h (tried years x)))
+      (same-answer (refusalOf years x) (siteIn years (k ∷ a ∷ b ∷ (s ++ t))) (siteIn years x) (lengthIn years x)
+      (λ e. let r = accepted years x e in site-alike years k a b s t (r .passes) (r .full)))
 
-pub three-bear : (s : List ℕ) → 3 ≤ bears s
-unfolding bears
-three-bear s = by (ltb (length s) 3) (headRefused s)
-  where
-    by : (a b : Bool) → 3 ≤ cond a 3 (cond b 3 (lengthIn s))
-    by true b = omega arith
-    by false true = omega arith
-    by false false = omega arith
+  -- the bytes that bear on an answer are told by kind and map
+  bears-same : (s t : List ℕ) → 3 ≤ length s → bears years (s ++ t) ≡ bears years s
+  unfolding bears
+  bears-same [] t h = absurd (omega arith)
+  bears-same (k ∷ []) t h = absurd (omega arith)
+  bears-same (k ∷ a ∷ []) t h = absurd (omega arith)
+  bears-same (k ∷ a ∷ b ∷ s) t h =
+      rw (le-ltb (length (k ∷ a ∷ b ∷ s)) 3 (omega arith), le-ltb (length (k ∷ a ∷ b ∷ (s ++ t))) 3 (omega arith))
 
--- the answer is the same for any bytes after those that bear on it
-pub same-for-any : (s t : List ℕ) → bears s ≤ length s → readSite (take (bears s) s ++ t) ≡ readSite s
-same-for-any s t h =
-    let x = take (bears s) s in
-    let l : length x ≡ bears s = length-take-le (bears s) s h in
-    let e : x ++ drop (bears s) s ≡ s = take-append-drop (bears s) s in
-    let b : bears x ≡ bears s = sym (bears-same x (drop (bears s) s) (omega (arith, three-bear s))) ∙ ap bears e in
-    let enough : bears x ≤ length x = omega arith in
-    past-nothing x t enough ∙ sym (past-nothing x (drop (bears s) s) enough) ∙ ap readSite e
+  pub three-bear : (s : List ℕ) → 3 ≤ bears years s
+  unfolding bears
+  three-bear s = rw known (by (ltb (length s) 3) (headRefused years s))
+    where
+      by : (a b : Bool) → 3 ≤ cond a 3 (cond b 3 (lengthIn years s))
+      by true b = omega arith
+      by false true = omega arith
+      by false false = omega arith
+
+  -- the answer is the same for any bytes after those that bear on it
+  pub same-for-any : (s t : List ℕ) → bears years s ≤ length s → readSite years (take (bears years s) s ++ t) ≡ readSite years s
+  same-for-any s t h =
+      let x = take (bears years s) s in
+      let l : length x ≡ bears years s = length-take-le (bears years s) s h in
+      let e : x ++ drop (bears years s) s ≡ s = take-append-drop (bears years s) s in
+      let b : bears years x ≡ bears years s = sym (bears-same x (drop (bears years s) s) (omega (arith, three-bear s))) ∙ ap (bears years) e in
+      let enough : bears years x ≤ length x = omega arith in
+      past-nothing x t enough ∙ sym (past-nothing x (drop (bears years s) s) enough) ∙ ap (readSite years) e
 
 -- a record that is read is the bytes that bear on its answer
-pub read-bears : (s : List ℕ) (site : Site) (n : ℕ) → readSite s ≡ Read site n → bears s ≡ n
-read-bears s site n e =
-    let r = reading s site n e in
-    let a = r .accepts in
-    fields-bear (record { long = a .long; known = a .known }) (a .lack) (a .miss) ∙ r .length-is
+pub read-bears : (years : ℕ) (s : List ℕ) (site : Site) (n : ℕ) → readSite years s ≡ Read site n → bears years s ≡ n
+read-bears years s site n e =
+    let r = reading years s site n e in
+    fields-bear (r .accepts .passes) ∙ r .length-is
 
 -- no field is refused with 1
 field-not-one : (b a d : Bool) → _≡_ {A = ℕ} (cond b (cond a (cond d 9 0) 8) 0) 1 → ⊥
@@ -160,18 +212,20 @@ fields-not-one (rule ∷ rules) map s e =
     by false q later = field-not-one (stands rule map) (allows rule (word s)) (holds (absentOf rule) (word s)) q
 
 -- 1 exactly when the bytes that bear on the answer are not all there
-module _ (s : List ℕ) where
-  other : {n : ℕ} → (n ≡ 1 → ⊥) → 3 ≤ length s → bears s ≡ 3 → (n ≡ 1) ↔ (length s < bears s)
+module _ (years : ℕ) (s : List ℕ) where
+  other : {n : ℕ} → (n ≡ 1 → ⊥) → 3 ≤ length s → bears years s ≡ 3 → (n ≡ 1) ↔ (length s < bears years s)
   other ne l b = (λ q. absurd (ne q), λ q. absurd (omega arith))
 
-  one-by : {n : ℕ} → Tried s n → (n ≡ 1) ↔ (length s < bears s)
+  one-by : {n : ℕ} → Tried years s n → (n ≡ 1) ↔ (length s < bears years s)
   unfolding bears
-  one-by (head-short h) = (λ q. rw (lt-ltb _ _ h) h, λ q. refl)
-  one-by (kind-unknown l k) = other (omega arith) l (rw (le-ltb _ _ l, lt-ltb _ _ k))
-  one-by (map-lacks h l) = other (omega arith) (h .long) (rw (le-ltb _ _ (h .long), le-ltb _ _ (h .known), l))
-  one-by (map-misses h l m) = other (omega arith) (h .long) (rw (le-ltb _ _ (h .long), le-ltb _ _ (h .known), l, m))
-  one-by (fields-short h l m f) = (λ q. rw (fields-bear h l m) f, λ q. refl)
-  one-by (fields-tell h l m f) = (λ q. absurd (fields-not-one _ _ _ q), λ q. absurd (omega (arith, fields-bear h l m)))
+  one-by (years-unknown y) = (λ q. absurd (omega arith), rw y (λ q. absurd (omega arith)))
+  one-by (head-short y h) = (λ q. rw (y, lt-ltb _ _ h) h, λ q. refl)
+  one-by (kind-unknown y l k) = other (omega arith) l (rw (y, le-ltb _ _ l, lt-ltb _ _ k))
+  one-by (map-lacks h l) = other (omega arith) (h .long) (rw (h .years-in, le-ltb _ _ (h .long), le-ltb _ _ (h .known), l))
+  one-by (map-misses h l m) = other (omega arith) (h .long) (rw (h .years-in, le-ltb _ _ (h .long), le-ltb _ _ (h .known), l, m))
+  one-by (fields-short p f) = (λ q. rw (fields-bear p) f, λ q. refl)
+  one-by (later-refused p f r) = (λ q. absurd (omega arith), λ q. absurd (omega (arith, fields-bear p)))
+  one-by (fields-tell p f r) = (λ q. absurd (fields-not-one _ _ _ q), λ q. absurd (omega (arith, fields-bear p)))
 
-  pub one-exactly : (refusalOf s ≡ 1) ↔ (length s < bears s)
-  one-exactly = one-by (tried s)
+  pub one-exactly : (refusalOf years s ≡ 1) ↔ (length s < bears years s)
+  one-exactly = one-by (tried years s)

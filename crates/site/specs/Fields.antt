@@ -1,17 +1,18 @@
 -- Document 01's bits, by number: what each bit of each kind's map means, where a field's two bytes stand, and what a field
--- that stands or does not stand is read as. With the reader's definitions it shares only what a range and a two-byte number are
--- and where kind and map stand; `fields-read` of FieldsRead and `record-cause-exactly` of RecordCauses tie it to the reader's answer.
+-- that stands or does not stand is read as. With the reader's definitions it shares only what a range and a two-byte number are,
+-- where kind and map stand, and how many later values a traffic has; `fields-read` of FieldsRead and `record-cause-exactly` of RecordCauses tie it to the reader's answer.
 use mathlib.Core.Path.{_≡_}
 use mathlib.Core.Bool.{Bool, true, false, cond}
 use mathlib.Core.List.{List, [], _∷_}
-use Prim.Native.Nat.{ℕ, zero, suc, _+_, _*_, _/_, _%_, _≤_}
-use lib.ListN.{drop}
+use Prim.Native.Nat.{ℕ, zero, suc, _+_, _*_, _/_, _%_, _≤_, _<_}
+use lib.ListN.{getD, drop}
 use lib.Dec.{eqb}
 use Rattle.site.specs.declared.values.Slot.{Slot}
 use Rattle.site.specs.declared.values.Slot.the-variants.{Absent, Number}
 use Rattle.site.specs.declared.values.Site.{Site}
 use Rattle.site.specs.Rules.{inside}
-use Rattle.site.specs.Record.{word, kindIn, mapIn}
+use Rattle.site.specs.Yearly.{laterSlots, laterMinor}
+use Rattle.site.specs.Record.{word, kindIn, mapIn, laterIn, minorIn}
 
 -- where a field's bit does not stand
 pub data Absence : Type 0 where
@@ -82,9 +83,9 @@ fieldAt (bit n x ∷ rows) b = cond (eqb b n) x (fieldAt rows b)
 abbrev pub fieldIn : List ℕ → ℕ → Field
 fieldIn s b = fieldAt (rowsOf (kindIn s)) b
 
--- "a two-byte bit map": its bits, and those that a kind lacks
+-- "a two-byte bit map": its bits but for bit 15, which "has no field of its own", and those that a kind lacks
 abbrev pub mapBits : ℕ
-mapBits = 16
+mapBits = 15
 
 unfoldable pub lackedFrom : List Row → (from count : ℕ) → List ℕ
 lackedFrom rows b zero = []
@@ -94,12 +95,12 @@ lackedFrom rows b (suc count) = onlyLacked (fieldAt rows b) b (lackedFrom rows (
     onlyLacked lacked n later = n ∷ later
     onlyLacked (field value low high absence) n later = later
 
--- they are 15 of a segment, 7 to 15 of a crossing, and "4SG lacks bits 3 and 6"
+-- they are none of a segment, 7 to 14 of a crossing, and "4SG lacks bits 3 and 6"
 abbrev pub lackedBits : ℕ → List ℕ
-lackedBits zero = 15 ∷ []
-lackedBits (suc zero) = 7 ∷ 8 ∷ 9 ∷ 10 ∷ 11 ∷ 12 ∷ 13 ∷ 14 ∷ 15 ∷ []
-lackedBits (suc (suc zero)) = 7 ∷ 8 ∷ 9 ∷ 10 ∷ 11 ∷ 12 ∷ 13 ∷ 14 ∷ 15 ∷ []
-lackedBits (suc (suc (suc kind))) = 3 ∷ 6 ∷ 7 ∷ 8 ∷ 9 ∷ 10 ∷ 11 ∷ 12 ∷ 13 ∷ 14 ∷ 15 ∷ []
+lackedBits zero = []
+lackedBits (suc zero) = 7 ∷ 8 ∷ 9 ∷ 10 ∷ 11 ∷ 12 ∷ 13 ∷ 14 ∷ []
+lackedBits (suc (suc zero)) = 7 ∷ 8 ∷ 9 ∷ 10 ∷ 11 ∷ 12 ∷ 13 ∷ 14 ∷ []
+lackedBits (suc (suc (suc kind))) = 3 ∷ 6 ∷ 7 ∷ 8 ∷ 9 ∷ 10 ∷ 11 ∷ 12 ∷ 13 ∷ 14 ∷ []
 
 -- the slots of other kinds, which no bit of this kind is for
 abbrev pub othersOf : ℕ → Site → List Slot
@@ -130,13 +131,33 @@ unfoldable pub standing : ℕ → ℕ → ℕ
 standing zero map = 0
 standing (suc b) map = map % 2 + standing b (map / 2)
 
--- "then two bytes for each bit that stands, in rising order": the number of a bit that stands
-abbrev pub numberAt : ℕ → List ℕ → ℕ
-numberAt b s = word (drop (3 + 2 * standing b (mapIn s)) s)
+-- document 02, request 4: "each traffic field is followed by Y − 1 more values": how many numbers the field of a bit has
+abbrev pub numbersOf : (kind later : ℕ) → ℕ → ℕ
+numbersOf kind later zero = 1 + later
+numbersOf kind later (suc zero) = 1 + laterMinor kind later
+numbersOf kind later (suc (suc b)) = 1
+
+abbrev pub numbersIn : (years : ℕ) → List ℕ → ℕ → ℕ
+numbersIn years s b = numbersOf (kindIn s) (laterIn years s) b
+
+-- "then two bytes for each bit that stands, in rising order": how many numbers the fields of the bits below b have
+unfoldable pub numbersBelow : (ℕ → ℕ) → ℕ → ℕ → ℕ
+numbersBelow numbers zero map = 0
+numbersBelow numbers (suc b) map = map % 2 * numbers 0 + numbersBelow (λ c. numbers (suc c)) b (map / 2)
+
+abbrev pub placeOf : (years : ℕ) → ℕ → List ℕ → ℕ
+placeOf years b s = 3 + 2 * numbersBelow (numbersIn years s) b (mapIn s)
+
+-- the numbers of a bit that stands, those of the later years after that of the first
+abbrev pub valueAt : (years b i : ℕ) → List ℕ → ℕ
+valueAt years b i s = word (drop (placeOf years b s + 2 * i) s)
+
+abbrev pub numberAt : (years b : ℕ) → List ℕ → ℕ
+numberAt years b s = valueAt years b 0 s
 
 -- where the fields end, which is "the record's length"
-abbrev pub fieldsEnd : List ℕ → ℕ
-fieldsEnd s = 3 + 2 * standing mapBits (mapIn s)
+abbrev pub fieldsEnd : (years : ℕ) → List ℕ → ℕ
+fieldsEnd years s = placeOf years mapBits s
 
 -- "field outside its range": a number is not so
 abbrev pub inRange : Field → ℕ → Bool
@@ -168,26 +189,37 @@ roadCurves zero map = bitAt 6 map
 roadCurves (suc kind) map = false
 
 -- a field of a record that is read. A standing number is the slot's, in its range, and "a field may not spell its default out"
-pub record FieldRead (s : List ℕ) (site : Site) (b : ℕ) (value : Site → Slot) (low high : ℕ) (absence : Absence) : Type 0 where
-  pub standing-is : bitAt b (mapIn s) ≡ true → value site ≡ Number (numberAt b s)
-  pub at-least : bitAt b (mapIn s) ≡ true → low ≤ numberAt b s
-  pub at-most : bitAt b (mapIn s) ≡ true → numberAt b s ≤ high
-  pub not-spelled : bitAt b (mapIn s) ≡ true → isUsual absence (numberAt b s) ≡ false
+pub record FieldRead (years : ℕ) (s : List ℕ) (site : Site) (b : ℕ) (value : Site → Slot) (low high : ℕ) (absence : Absence) : Type 0 where
+  pub standing-is : bitAt b (mapIn s) ≡ true → value site ≡ Number (numberAt years b s)
+  pub at-least : bitAt b (mapIn s) ≡ true → low ≤ numberAt years b s
+  pub at-most : bitAt b (mapIn s) ≡ true → numberAt years b s ≤ high
+  pub not-spelled : bitAt b (mapIn s) ≡ true → isUsual absence (numberAt years b s) ≡ false
   pub absent-as : bitAt b (mapIn s) ≡ false → AbsentAs absence (roadCurves (kindIn s) (mapIn s)) (value site)
 
 -- a bit of a record that is read, by what it means: one that the kind lacks does not stand
-abbrev pub BitRead : List ℕ → Site → ℕ → Field → Type 0
-BitRead s site b lacked = bitAt b (mapIn s) ≡ false
-BitRead s site b (field value low high absence) = FieldRead s site b value low high absence
+abbrev pub BitRead : (years : ℕ) → List ℕ → Site → ℕ → Field → Type 0
+BitRead years s site b lacked = bitAt b (mapIn s) ≡ false
+BitRead years s site b (field value low high absence) = FieldRead years s site b value low high absence
+
+-- "for years two to Y": the later values of the field of a bit. "Each has the range of the first", and "a site holds no number for a
+-- year not given"
+pub record LaterYears (years : ℕ) (s : List ℕ) (b later : ℕ) (slots : List Slot) : Type 0 where
+  pub value-is : (i : ℕ) → i < later → getD slots i Absent ≡ Number (valueAt years b (suc i) s)
+  pub at-least : (i : ℕ) → i < later → 1 ≤ valueAt years b (suc i) s
+  pub at-most : (i : ℕ) → i < later → valueAt years b (suc i) s ≤ 20000
+  pub not-given : (i : ℕ) → later ≤ i → getD slots i Absent ≡ Absent
 
 -- none of these slots holds a number
 abbrev pub AllAbsent : List Slot → Type 0
 AllAbsent [] = Unit
 AllAbsent (slot ∷ slots) = (slot ≡ Absent) × AllAbsent slots
 
--- what is read from a part: kind, every bit of the map, no number in a slot of another kind, and "the record's length"
-pub record FieldsRead (s : List ℕ) (site : Site) (n : ℕ) : Type 0 where
+-- what is read from a part: kind, every bit of the map, no number in a slot of another kind, the later years of both traffics, and
+-- "the record's length"
+pub record FieldsRead (years : ℕ) (s : List ℕ) (site : Site) (n : ℕ) : Type 0 where
   pub kind-is : site .kind ≡ kindIn s
-  pub bits : (b : ℕ) → BitRead s site b (fieldIn s b)
+  pub bits : (b : ℕ) → BitRead years s site b (fieldIn s b)
   pub others : AllAbsent (othersOf (kindIn s) site)
-  pub length-is : n ≡ fieldsEnd s
+  pub later-traffic : LaterYears years s 0 (laterIn years s) (laterSlots (site .«later_traffic»))
+  pub later-minor : LaterYears years s 1 (minorIn years s) (laterSlots (site .«later_minor»))
+  pub length-is : n ≡ fieldsEnd years s

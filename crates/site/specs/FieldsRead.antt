@@ -18,17 +18,20 @@ use Rattle.site.specs.declared.values.Slot.{Slot}
 use Rattle.site.specs.declared.values.Slot.the-variants.{Absent, Number}
 use Rattle.site.specs.declared.values.Site.{Site}
 use Rattle.site.specs.declared.values.SiteAnswer.the-variants.{Read}
-use Rattle.site.specs.Rules.{entriesOf, lastKind, inside, allows, absentOf, needed, lacking, bits, settled, settle, holds}
+use Rattle.site.specs.Rules.{entriesOf, lastKind, laterYears, inside, allows, absentOf, needed, lacking, bits, settled, settle, holds}
 use Rattle.site.specs.Record.{anyField, lackedBitStands, lacks, misses, curved, rulesRead, word, words, valueNumber}
-use Rattle.site.specs.Record.{fieldsNumber, fieldsValues, kindIn, mapIn, rulesIn, lengthIn, siteIn, readSite}
+use Rattle.site.specs.Record.{fieldsNumber, fieldsValues, kindIn, mapIn, rulesIn, laterIn, minorIn, fieldsIn, laterAt, minorAt, laterRead}
+use Rattle.site.specs.Record.{laterAllowed, lengthIn, siteIn, readSite}
 use Rattle.site.specs.Fields.{Absence, never, no-number, usual, on-curve, Field, lacked, field, Row, bit, rowsOf, fieldAt}
-use Rattle.site.specs.Fields.{mapBits, lackedFrom, lackedBits, fieldIn, othersOf, bitAt, standing, numberAt, inRange}
-use Rattle.site.specs.Fields.{isUsual, spellsDefault, AbsentAs, FieldRead, BitRead, AllAbsent, FieldsRead}
+use Rattle.site.specs.Fields.{mapBits, lackedFrom, lackedBits, fieldIn, othersOf, bitAt, standing, valueAt, numberAt, inRange}
+use Rattle.site.specs.Fields.{isUsual, spellsDefault, AbsentAs, FieldRead, BitRead, LaterYears, AllAbsent, FieldsRead}
 use Rattle.site.specs.Writing.{slotsOf}
 use Rattle.laws.specs.Truth.{and-left, and-right, or-left, or-right, not-both, never-so}
 use Rattle.site.specs.Tested.{by-kind, tested-rules}
-use Rattle.site.specs.Accepted.{Accepted, reading}
-use Rattle.site.specs.ReadWrite.{value-taken, slots-again}
+use Rattle.site.specs.LaterLaws.{later-given, later-absent, allowed-at}
+use Rattle.site.specs.Accepted.{Accepted, later-most, reading}
+use Rattle.site.specs.ReadWrite.{value-taken, no-miss, between, slots-again, later-slots-again, minor-slots-again}
+use Rattle.site.specs.PlaceLaws.{passes-both, number-of, later-of, minor-of, end-of}
 use Rattle.site.specs.BitLaws.{bitRules, bitSlots, with-bits, listed, EachHasBit, wordAt, words-listed, value-at, needed-stands}
 use Rattle.site.specs.BitLaws.{BitsTell, bits-tell, all-right, StandingBit, Past, lacked-found, lacked-told, standing-past, same-road}
 use Rattle.site.specs.Curve.{curved-by-six}
@@ -251,84 +254,97 @@ absent-for low high (usual d) curve ne = refl
 absent-for low high (on-curve absence) true ne = absent-for low high absence true ne
 absent-for low high (on-curve absence) false ne = refl
 
-pub number-of : (b : ℕ) (s : List ℕ) → wordAt b (mapIn s) (drop 3 s) ≡ numberAt b s
-number-of b s = ap word (drop-drop (2 * standing b (mapIn s)) 3 s)
-
-module _ (s : List ℕ) (a : Accepted s) where
+module _ (years : ℕ) (s : List ℕ) (a : Accepted years s) where
   slot-at : (b : ℕ) → b < bitsHeld (kindIn s)
-      → getD (bitSlots (rulesIn s) (slotsOf (siteIn s))) b Absent
-      ≡ cond (bitAt b (mapIn s)) (Number (numberAt b s)) (absentOf (rulesAt (kindIn s) (curved (entriesOf (kindIn s)) (mapIn s)) b))
+      → getD (bitSlots (rulesIn s) (slotsOf (siteIn years s))) b Absent
+      ≡ cond (bitAt b (mapIn s)) (Number (numberAt years b s)) (absentOf (rulesAt (kindIn s) (curved (entriesOf (kindIn s)) (mapIn s)) b))
   slot-at b h =
       let c = curved (entriesOf (kindIn s)) (mapIn s) in
-      let w = with-bits (rulesIn s) (mapIn s) (drop 3 s) in
-      ap (λ (l : List Slot). getD (bitSlots (rulesIn s) l) b Absent) (slots-again s a)
-      ∙ ap (λ (l : List Slot). getD l b Absent) (w .values ∙ ap (λ (l : List Rule). fieldsValues l (mapIn s) (drop 3 s)) (rules-by-bit (kindIn s) (a .known) c))
-      ∙ value-at (bitsHeld (kindIn s)) (rulesAt (kindIn s) c) (mapIn s) (drop 3 s) (each-has-bit (kindIn s) c) b h
-      ∙ ap (λ (k : ℕ). cond (bitAt b (mapIn s)) (Number k) (absentOf (rulesAt (kindIn s) c b))) (number-of b s)
+      let w = with-bits (rulesIn s) (mapIn s) (fieldsIn years s) in
+      ap (λ (l : List Slot). getD (bitSlots (rulesIn s) l) b Absent) (slots-again years s a)
+      ∙ ap (λ (l : List Slot). getD l b Absent) (w .values ∙ ap (λ (l : List Rule). fieldsValues l (mapIn s) (fieldsIn years s)) (rules-by-bit (kindIn s) (a .passes .head .known) c))
+      ∙ value-at (bitsHeld (kindIn s)) (rulesAt (kindIn s) c) (mapIn s) (fieldsIn years s) (each-has-bit (kindIn s) c) b h
+      ∙ ap (λ (k : ℕ). cond (bitAt b (mapIn s)) (Number k) (absentOf (rulesAt (kindIn s) c b))) (number-of years s (passes-both years s (a .passes)) (between years s a) b)
 
-  number-at : (b : ℕ) → b < bitsHeld (kindIn s) → bitAt b (mapIn s) ≡ true → wrongNumber (fieldIn s b) (numberAt b s) ≡ 0
+  number-at : (b : ℕ) → b < bitsHeld (kindIn s) → bitAt b (mapIn s) ≡ true → wrongNumber (fieldIn s b) (numberAt years b s) ≡ 0
   number-at b h e =
-      let n = all-right (fields-by-bits (kindIn s) (mapIn s) (drop 3 s) (a .known)) (a .no-field-refused) b h in
-      sym (wrong-number (fieldIn s b) (numberAt b s)) ∙ (rw (e, number-of b s) at n)
+      let n = all-right (fields-by-bits (kindIn s) (mapIn s) (fieldsIn years s) (a .passes .head .known)) (a .no-field-refused) b h in
+      sym (wrong-number (fieldIn s b) (numberAt years b s)) ∙ (rw (e, number-of years s (passes-both years s (a .passes)) (between years s a) b) at n)
 
   never-absent : (b : ℕ) → b < bitsHeld (kindIn s) → bitAt b (mapIn s) ≡ false
       → needed (rulesAt (kindIn s) (curved (entriesOf (kindIn s)) (mapIn s)) b) ≡ true → ⊥
   never-absent b h e k =
       let c = curved (entriesOf (kindIn s)) (mapIn s) in
-      let m = with-bits (rulesIn s) (mapIn s) (drop 3 s) .miss ∙ ap (λ (l : List Rule). misses l (mapIn s)) (rules-by-bit (kindIn s) (a .known) c) in
-      not-both (bitAt b (mapIn s)) (needed-stands (bitsHeld (kindIn s)) (rulesAt (kindIn s) c) (mapIn s) (each-has-bit (kindIn s) c) (sym m ∙ a .miss) b h k) e
+      let m = with-bits (rulesIn s) (mapIn s) (fieldsIn years s) .miss ∙ ap (λ (l : List Rule). misses l (mapIn s)) (rules-by-bit (kindIn s) (a .passes .head .known) c) in
+      not-both (bitAt b (mapIn s)) (needed-stands (bitsHeld (kindIn s)) (rulesAt (kindIn s) c) (mapIn s) (each-has-bit (kindIn s) c) (sym m ∙ no-miss years s a) b h k) e
 
   lacked-unset : (b : ℕ) → fieldIn s b ≡ lacked → bitAt b (mapIn s) ≡ false
   lacked-unset b e =
-      never-so (bitAt b (mapIn s)) (λ t. not-both _ (lacks-exactly (kindIn s) (mapIn s) (a .known) .1 (record { at = b; stands = t; holds = e })) (a .lack))
+      never-so (bitAt b (mapIn s)) (λ t. not-both _ (lacks-exactly (kindIn s) (mapIn s) (a .passes .head .known) .1 (record { at = b; stands = t; holds = e })) (a .passes .lack))
 
-  bit-read : (b : ℕ) (x : Field) → fieldIn s b ≡ x → NamedAt (bitSlots (rulesIn s) (slotsOf (siteIn s))) (siteIn s) b x → BitRead s (siteIn s) b x
+  bit-read : (b : ℕ) (x : Field) → fieldIn s b ≡ x → NamedAt (bitSlots (rulesIn s) (slotsOf (siteIn years s))) (siteIn years s) b x → BitRead years s (siteIn years s) b x
   bit-read b lacked e n = lacked-unset b e
   bit-read b (field value low high absence) e n =
       let c = curved (entriesOf (kindIn s)) (mapIn s) in
       let h = among (kindIn s) b (λ l. let z : _≡_ {A = ℕ} 0 1 = cc in omega arith) in
       let is = n ∙ slot-at b h in
-      let right : bitAt b (mapIn s) ≡ true → (inside low high (numberAt b s) ≡ true) × (isUsual absence (numberAt b s) ≡ false) =
+      let right : bitAt b (mapIn s) ≡ true → (inside low high (numberAt years b s) ≡ true) × (isUsual absence (numberAt years b s) ≡ false) =
       λ t. value-taken _ _ (rw e at (number-at b h t)) in
       record {
         standing-is = λ t. rw t at is;
-        at-least = λ t. leb-true low (numberAt b s) (and-left (leb low (numberAt b s)) _ (right t .0));
-        at-most = λ t. leb-true (numberAt b s) high (and-right (leb low (numberAt b s)) _ (right t .0));
+        at-least = λ t. leb-true low (numberAt years b s) (and-left (leb low (numberAt years b s)) _ (right t .0));
+        at-most = λ t. leb-true (numberAt years b s) high (and-right (leb low (numberAt years b s)) _ (right t .0));
         not-spelled = λ t. right t .1;
         absent-as = λ t.
-            let q : value (siteIn s) ≡ absentOf (ruleFor low high absence c) = rw (t, e) at is in
+            let q : value (siteIn years s) ≡ absentOf (ruleFor low high absence c) = rw (t, e) at is in
             let ne : needed (ruleFor low high absence c) ≡ true → ⊥ = rw e at (never-absent b h t) in
             let w = absent-for low high absence c ne in
-            rw (← curved-by-six (kindIn s) (mapIn s) (a .known) (a .miss), q) w;
+            rw (← curved-by-six (kindIn s) (mapIn s) (a .passes .head .known) (no-miss years s a), q) w;
       }
 
-  fields-in : FieldsRead s (siteIn s) (lengthIn s)
+  -- the later values of a traffic
+  later-years : (b later : ℕ) (values : List ℕ) → later ≤ laterYears → laterAllowed later values ≡ true
+      → ((i : ℕ) → word (drop (2 * i) values) ≡ valueAt years b (suc i) s) → LaterYears years s b later (laterRead laterYears later values)
+  later-years b later values few right at =
+      record {
+        value-is = λ i h. later-given laterYears later values few i h ∙ ap Number (at i);
+        at-least = λ i h. rw (← at i) (leb-true 1 (word (drop (2 * i) values)) (and-left _ _ (allowed-at later values right i h)));
+        at-most = λ i h.
+            rw (← at i) (leb-true (word (drop (2 * i) values)) 20000 (and-right (leb 1 (word (drop (2 * i) values))) _ (allowed-at later values right i h)));
+        not-given = λ i h. later-absent laterYears later values i h;
+      }
+
+  fields-in : FieldsRead years s (siteIn years s) (lengthIn years s)
   fields-in =
       let c = curved (entriesOf (kindIn s)) (mapIn s) in
       let none : (b : ℕ) → bitAt b (mapIn s) ≡ true → fieldIn s b ≡ lacked → ⊥ = λ b t e. not-both _ t (lacked-unset b e) in
+      let both = passes-both years s (a .passes) in
+      let most = later-most years s (a .passes .head .years-in) in
       record {
         kind-is = refl;
-        bits = λ b. bit-read b (fieldIn s b) refl (named-at (rowsOf (kindIn s)) _ (siteIn s) (named (kindIn s) (a .known) c (siteIn s)) b);
-        others = rw (others-are (kindIn s) (a .known) (siteIn s), slots-again s a) (others-absent c (entriesOf (kindIn s)) (mapIn s) (drop 3 s) (a .lack));
-        length-is = ap (λ (k : ℕ). 3 + 2 * k) (words-standing (kindIn s) (mapIn s) (a .known) none);
+        bits = λ b. bit-read b (fieldIn s b) refl (named-at (rowsOf (kindIn s)) _ (siteIn years s) (named (kindIn s) (a .passes .head .known) c (siteIn years s)) b);
+        others = rw (others-are (kindIn s) (a .passes .head .known) (siteIn years s), slots-again years s a) (others-absent c (entriesOf (kindIn s)) (mapIn s) (fieldsIn years s) (a .passes .lack));
+        later-traffic = rw (later-slots-again years s a) (later-years 0 (laterIn years s) (laterAt s) (most .0) (and-left (laterAllowed (laterIn years s) (laterAt s)) _ (a .later-in)) (later-of years s));
+        later-minor = rw (minor-slots-again years s a) (later-years 1 (minorIn years s) (minorAt years s) (most .1) (and-right (laterAllowed (laterIn years s) (laterAt s)) _ (a .later-in)) (minor-of years s both));
+        length-is = end-of years s both (words-standing (kindIn s) (mapIn s) (a .passes .head .known) none);
       }
 
 -- A RECORD THAT IS READ HAS THE FIELDS OF DOCUMENT 01, bit by bit
-pub fields-read : (s : List ℕ) (site : Site) (n : ℕ) → readSite s ≡ Read site n → FieldsRead s site n
-fields-read s site n e = let r = reading s site n e in rw (← r .site-is, ← r .length-is) (fields-in s (r .accepts))
+pub fields-read : (years : ℕ) (s : List ℕ) (site : Site) (n : ℕ) → readSite years s ≡ Read site n → FieldsRead years s site n
+fields-read years s site n e = let r = reading years s site n e in rw (← r .site-is, ← r .length-is) (fields-in years s (r .accepts))
 
 -- "Without bit 2 there is no history; a standing 0 is a history of none", of every kind
-pub history-read : (s : List ℕ) (site : Site) (n : ℕ) → readSite s ≡ Read site n
-    → site .observed ≡ cond (bitAt 2 (mapIn s)) (Number (numberAt 2 s)) Absent
+pub history-read : (years : ℕ) (s : List ℕ) (site : Site) (n : ℕ) → readSite years s ≡ Read site n
+    → site .observed ≡ cond (bitAt 2 (mapIn s)) (Number (numberAt years 2 s)) Absent
 unfolding fieldAt
-history-read s site n e = by (kindIn s) (fields-read s site n e .bits 2)
+history-read years s site n e = by (kindIn s) (fields-read years s site n e .bits 2)
   where
-    told : FieldRead s site 2 (λ x. x .observed) 0 500 no-number → (b : Bool) → bitAt 2 (mapIn s) ≡ b
-        → site .observed ≡ cond b (Number (numberAt 2 s)) Absent
+    told : FieldRead years s site 2 (λ x. x .observed) 0 500 no-number → (b : Bool) → bitAt 2 (mapIn s) ≡ b
+        → site .observed ≡ cond b (Number (numberAt years 2 s)) Absent
     told r true t = r .standing-is t
     told r false t = r .absent-as t
 
-    by : (kind : ℕ) → BitRead s site 2 (fieldAt (rowsOf kind) 2) → site .observed ≡ cond (bitAt 2 (mapIn s)) (Number (numberAt 2 s)) Absent
+    by : (kind : ℕ) → BitRead years s site 2 (fieldAt (rowsOf kind) 2) → site .observed ≡ cond (bitAt 2 (mapIn s)) (Number (numberAt years 2 s)) Absent
     by zero r = told r _ refl
     by (suc zero) r = told r _ refl
     by (suc (suc zero)) r = told r _ refl

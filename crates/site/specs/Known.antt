@@ -1,11 +1,16 @@
--- Document 01's known figures of a record: "03 0007 2710 03E8 0005 they are accepted; map 0017 with 0000 added is 9".
+-- Document 01's known figures of a record: "03 0007 2710 03E8 0005 they are accepted; map 0017 with 0000 added is 9"; and a record with
+-- yearly values.
 use mathlib.Core.Path.{_≡_, refl}
-use mathlib.Core.List.{[], _∷_}
+use mathlib.Core.Bool.{true}
+use mathlib.Core.List.{List, [], _∷_}
+use Prim.Native.Nat.{ℕ, _-_, _*_}
+use native.Mathlib.Omega.{arith}
 use Rattle.site.specs.declared.values.Slot.the-variants.{Absent, Number}
 use Rattle.site.specs.declared.values.Site.{Site}
 use Rattle.site.specs.declared.values.SiteAnswer.the-variants.{Read}
-use Rattle.site.specs.Rules.{entriesOf}
-use Rattle.site.specs.Record.{anyField, words, fieldsNumber, fieldsValues, siteOf, recordNumber, refusalOf, readSite}
+use Rattle.site.specs.Rules.{entriesOf, yearsKnown}
+use Rattle.site.specs.Yearly.{noLater}
+use Rattle.site.specs.Record.{anyField, words, fieldsNumber, fieldsValues, siteOf, laterRead, laterAllowed, siteIn, recordNumber, refusalOf, readSite}
 
 -- a signal with 10,000 and 1,000 vehicles a day and 5 crashes; its turn lanes are the default, its skew and sight are lacking
 unfoldable pub signal : Site
@@ -32,11 +37,37 @@ signal =
     ∷ Number 0
     ∷ Absent
     ∷ [])
+    noLater
+    noLater
 
-pub signal-read : readSite (0x03 ∷ 0x00 ∷ 0x07 ∷ 0x27 ∷ 0x10 ∷ 0x03 ∷ 0xE8 ∷ 0x00 ∷ 0x05 ∷ []) ≡ Read signal 9
-unfolding signal entriesOf anyField words fieldsNumber fieldsValues recordNumber refusalOf readSite
-signal-read = refl
+pub signal-read : (years : ℕ) → yearsKnown years ≡ true → readSite years (0x03 ∷ 0x00 ∷ 0x07 ∷ 0x27 ∷ 0x10 ∷ 0x03 ∷ 0xE8 ∷ 0x00 ∷ 0x05 ∷ []) ≡ Read signal 9
+unfolding signal entriesOf anyField words fieldsNumber fieldsValues laterRead laterAllowed recordNumber refusalOf readSite
+signal-read years known = let none : 0 * (years - 1) ≡ 0 = omega arith in rw (known, none)
 
-pub default-spelled : refusalOf (0x03 ∷ 0x00 ∷ 0x17 ∷ 0x27 ∷ 0x10 ∷ 0x03 ∷ 0xE8 ∷ 0x00 ∷ 0x05 ∷ 0x00 ∷ 0x00 ∷ []) ≡ 9
-unfolding entriesOf anyField words fieldsNumber recordNumber refusalOf
+pub default-spelled : refusalOf 5 (0x03 ∷ 0x00 ∷ 0x17 ∷ 0x27 ∷ 0x10 ∷ 0x03 ∷ 0xE8 ∷ 0x00 ∷ 0x05 ∷ 0x00 ∷ 0x00 ∷ []) ≡ 9
+unfolding entriesOf anyField words fieldsNumber laterAllowed recordNumber refusalOf
 default-spelled = refl
+
+-- document 02, request 4: "a new quarry doubled the traffic in the third year": half a mile with 1,000, 1,000 and 2,000 vehicles a day
+pub quarry : List ℕ
+quarry = 0x00 ∷ 0x80 ∷ 0x03 ∷ 0x03 ∷ 0xE8 ∷ 0x03 ∷ 0xE8 ∷ 0x07 ∷ 0xD0 ∷ 0x01 ∷ 0xF4 ∷ []
+
+pub record QuarryRead (site : Site) : Type 0 where
+  pub traffic : site .traffic ≡ Number 1000
+  pub second : site .«later_traffic» .second ≡ Number 1000
+  pub third : site .«later_traffic» .third ≡ Number 2000
+  pub fourth : site .«later_traffic» .fourth ≡ Absent
+  pub length : site .length ≡ Number 500
+
+pub quarry-read : (readSite 3 quarry ≡ Read (siteIn 3 quarry) 11) × QuarryRead (siteIn 3 quarry)
+unfolding quarry entriesOf anyField words fieldsNumber fieldsValues laterRead laterAllowed recordNumber refusalOf readSite
+quarry-read = (refl, record { traffic = refl; second = refl; third = refl; fourth = refl; length = refl })
+
+-- "Bit 15 with Y = 1 is refused with 7, and a missing value is 1"
+pub quarry-in-one : refusalOf 1 quarry ≡ 7
+unfolding quarry entriesOf anyField words fieldsNumber laterAllowed recordNumber refusalOf
+quarry-in-one = refl
+
+pub quarry-short : refusalOf 4 quarry ≡ 1
+unfolding quarry entriesOf anyField words fieldsNumber laterAllowed recordNumber refusalOf
+quarry-short = refl

@@ -1,11 +1,14 @@
 -- A site's numbers by its kind, as the model takes them, and their ranges where the site is valid.
-use Prim.Native.Nat.{ℕ, zero, suc, _≤_}
+use Prim.Native.Nat.{ℕ, zero, suc, _-_, _≤_, _<_}
 use mathlib.Core.Path.{_≡_, refl, sym, ap}
 use mathlib.Core.Bool.{true, not}
+use mathlib.Core.List.{List, [], _∷_}
 use mathlib.Core.Logic.{_⊎_, inl, inr}
 use native.Mathlib.Nat.{le-trans, le-of-eq}
 use native.Mathlib.Omega.{arith}
+use lib.ListN.{getD}
 use lib.Dec.{lit≤}
+use borrow.Author.Tests.{eqb-true, ne-eqb}
 use Rattle.site.specs.declared.rules.Rule.{Rule}
 use Rattle.site.specs.declared.rules.Rule.the-variants.{Foreign, Lacking, Needed, Optional, Default}
 use Rattle.site.specs.declared.values.Site.{Site}
@@ -15,9 +18,11 @@ use Rattle.site.specs.declared.numbers.Segment.{Segment}
 use Rattle.site.specs.declared.numbers.Crossing.{Crossing}
 use Rattle.site.specs.Rules as rules
 use Rattle.site.specs.Rules.{absent}
-use Rattle.site.specs.Writing.{Valid}
+use Rattle.site.specs.Yearly.{laterSlots, yearly}
+use Rattle.site.specs.Writing.{fits, laterFits, Valid}
 use Rattle.site.specs.Tested.{by-kind, top}
-use Rattle.site.specs.Ranges.{Within, Obeys, StraightRoad, CurvedRoad, CrossingRanges}
+use Rattle.laws.specs.Truth.{and-left, and-right}
+use Rattle.site.specs.Ranges.{Within, Obeys, StraightRoad, CurvedRoad, CrossingRanges, fit-obeys, tests}
 use Rattle.site.specs.Ranges.{valid-kind, segment-ranges, three-leg-ranges, four-leg-ranges, signal-ranges}
 
 -- the number in a slot; a valid site has one wherever the model asks for it
@@ -130,7 +135,15 @@ pub record CrossingSizes (v : Crossing) : Type 0 where
 traffic-sizes : (slot : Slot) → Obeys rules.traffic slot → TrafficSizes (number slot)
 traffic-sizes slot h = record { least = obeys-least rules.traffic slot h; most = obeys-most rules.traffic slot h }
 
-module _ (site : Site) (valid : Valid site) where
+-- a later year that is given has a traffic within its rule
+later-fits-at : (n : ℕ) (slots : List Slot) → laterFits n slots ≡ true → (i : ℕ) → i < n → fits rules.traffic (getD slots i Absent) ≡ true
+unfolding laterFits
+later-fits-at n [] e i h = absurd (omega (arith, eqb-true n 0 e))
+later-fits-at zero (slot ∷ slots) e i h = absurd (omega arith)
+later-fits-at (suc n) (slot ∷ slots) e zero h = and-left _ _ e
+later-fits-at (suc n) (slot ∷ slots) e (suc i) h = later-fits-at n slots (and-right (fits rules.traffic slot) _ e) i (omega arith)
+
+module _ (years : ℕ) (site : Site) (valid : Valid years site) where
   -- a road that has a curve length is no straight one
   bend-of : (traffic : ℕ) → StraightRoad site ⊎ CurvedRoad site → not (absent (site .«curve_length»)) ≡ true → CurveSizes (segmentOf traffic site)
   bend-of traffic (inl s) e = let straight = s .«curve_length» in let z : _≡_ {A = ℕ} 0 1 = cc in absurd (omega arith)
@@ -144,7 +157,7 @@ module _ (site : Site) (valid : Valid site) where
   }
 
   pub segment-sizes : site .kind ≡ 0 → (traffic : ℕ) → TrafficSizes traffic → SegmentSizes (segmentOf traffic site)
-  segment-sizes e traffic sizes = let r = segment-ranges site valid e in record {
+  segment-sizes e traffic sizes = let r = segment-ranges years site valid e in record {
     traffic = sizes;
     length-least = obeys-least rules.segmentLength (site .length) (r .length);
     length-most = obeys-most rules.segmentLength (site .length) (r .length);
@@ -174,13 +187,13 @@ record CrossingRules (site : Site) : Type 0 where
   right-most : top right ≤ 2
   sight-most : top sight ≤ 4
 
-crossing-rules : (site : Site) → Valid site → 1 ≤ site .kind → CrossingRules site
-crossing-rules site v from =
+crossing-rules : (years : ℕ) (site : Site) → Valid years site → 1 ≤ site .kind → CrossingRules site
+crossing-rules years site v from =
     by-crossing (λ kind. site .kind ≡ kind → CrossingRules site)
-    (λ e. of _ _ _ _ (three-leg-ranges site v e) (lit≤ tt) (lit≤ tt) (lit≤ tt) (lit≤ tt))
-    (λ e. of _ _ _ _ (four-leg-ranges site v e) (lit≤ tt) (lit≤ tt) (lit≤ tt) (lit≤ tt))
-    (λ e. of _ _ _ _ (signal-ranges site v e) (lit≤ tt) (lit≤ tt) (lit≤ tt) (lit≤ tt))
-    (site .kind) from (valid-kind site v) refl
+    (λ e. of _ _ _ _ (three-leg-ranges years site v e) (lit≤ tt) (lit≤ tt) (lit≤ tt) (lit≤ tt))
+    (λ e. of _ _ _ _ (four-leg-ranges years site v e) (lit≤ tt) (lit≤ tt) (lit≤ tt) (lit≤ tt))
+    (λ e. of _ _ _ _ (signal-ranges years site v e) (lit≤ tt) (lit≤ tt) (lit≤ tt) (lit≤ tt))
+    (site .kind) from (valid-kind years site v) refl
   where
     of : (angle left right sight : Rule) → CrossingRanges angle left right sight site → top angle ≤ 60 → top left ≤ 2
         → top right ≤ 2 → top sight ≤ 4 → CrossingRules site
@@ -196,11 +209,11 @@ crossing-rules site v from =
       sight-most = s;
     }
 
-module _ (site : Site) (valid : Valid site) where
+module _ (years : ℕ) (site : Site) (valid : Valid years site) where
   pub crossing-sizes : 1 ≤ site .kind → (traffic minor : ℕ) → TrafficSizes traffic → TrafficSizes minor → CrossingSizes (crossingOf traffic minor site)
-  crossing-sizes from traffic minor sizes minor-sizes = let r = crossing-rules site valid from in let c = r .obeyed in record {
+  crossing-sizes from traffic minor sizes minor-sizes = let r = crossing-rules years site valid from in let c = r .obeyed in record {
     kind-least = from;
-    kind-most = valid-kind site valid;
+    kind-most = valid-kind years site valid;
     traffic = sizes;
     minor = minor-sizes;
     skew-most = le-trans (obeys-most (r .angle) (site .skew) (c .skew)) (r .angle-most);
@@ -210,7 +223,7 @@ module _ (site : Site) (valid : Valid site) where
   }
 
   pub crossing-minor : 1 ≤ site .kind → TrafficSizes (number (site .«minor_traffic»))
-  crossing-minor from = traffic-sizes (site .«minor_traffic») (crossing-rules site valid from .obeyed .«minor_traffic»)
+  crossing-minor from = traffic-sizes (site .«minor_traffic») (crossing-rules years site valid from .obeyed .«minor_traffic»)
 
   -- OF EVERY KIND
   by-ranges : {P : Type 0} → (site .kind ≡ 0 → P) → (1 ≤ site .kind → P) → P
@@ -222,10 +235,23 @@ module _ (site : Site) (valid : Valid site) where
 
   pub site-traffic : TrafficSizes (number (site .traffic))
   site-traffic =
-      by-ranges (λ e. traffic-sizes (site .traffic) (segment-ranges site valid e .traffic))
-      (λ from. traffic-sizes (site .traffic) (crossing-rules site valid from .obeyed .traffic))
+      by-ranges (λ e. traffic-sizes (site .traffic) (segment-ranges years site valid e .traffic))
+      (λ from. traffic-sizes (site .traffic) (crossing-rules years site valid from .obeyed .traffic))
 
   pub observed-most : number (site .observed) ≤ 500
   observed-most =
-      by-ranges (λ e. obeys-most rules.observed (site .observed) (segment-ranges site valid e .observed))
-      (λ from. obeys-most rules.observed (site .observed) (crossing-rules site valid from .obeyed .observed))
+      by-ranges (λ e. obeys-most rules.observed (site .observed) (segment-ranges years site valid e .observed))
+      (λ from. obeys-most rules.observed (site .observed) (crossing-rules years site valid from .obeyed .observed))
+
+  -- THE TRAFFIC OF A LATER YEAR of a site that has one for each year
+  pub later-traffic-sizes : yearly site ≡ true → (i : ℕ) → suc i < years → TrafficSizes (number (getD (laterSlots (site .«later_traffic»)) i Absent))
+  later-traffic-sizes e i h =
+      let slot = getD (laterSlots (site .«later_traffic»)) i Absent in
+      traffic-sizes slot (fit-obeys rules.traffic slot (later-fits-at _ _ (tests years site valid .later-traffic) i (rw e (omega arith))))
+
+  pub later-minor-sizes : yearly site ≡ true → 1 ≤ site .kind → (i : ℕ) → suc i < years
+      → TrafficSizes (number (getD (laterSlots (site .«later_minor»)) i Absent))
+  later-minor-sizes e from i h =
+      let slot = getD (laterSlots (site .«later_minor»)) i Absent in
+      traffic-sizes slot (fit-obeys rules.traffic slot (later-fits-at _ _ (tests years site valid .later-minor) i
+      (rw (ne-eqb (site .kind) 0 (λ z. omega arith), e) (omega arith))))

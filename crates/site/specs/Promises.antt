@@ -19,41 +19,41 @@ use Rattle.site.specs.RecordCauses.{RecordCause, refused-by-cause}
 use Rattle.site.specs.Theorems.{RecordLength, read-length}
 
 -- the site reader: its answer, document 01's number for it, what is so of a site that it reads, and why it refuses
-pub record ReadsSite (part : List ℕ) (answer : SiteAnswer) : Type 0 where
-  pub answer-is : answer ≡ readSite part
-  pub number-is : readNumber answer ≡ refusalOf part
+pub record ReadsSite (years : ℕ) (part : List ℕ) (answer : SiteAnswer) : Type 0 where
+  pub answer-is : answer ≡ readSite years part
+  pub number-is : readNumber answer ≡ refusalOf years part
   pub place-is : readPlace answer ≡ 0
-  pub valid : (site : Site) (n : ℕ) → answer ≡ Read site n → Valid site
+  pub valid : (site : Site) (n : ℕ) → answer ≡ Read site n → Valid years site
   pub bounds : (site : Site) (n : ℕ) → answer ≡ Read site n → RecordLength part n
-  pub fields : (site : Site) (n : ℕ) → answer ≡ Read site n → FieldsRead part site n
-  pub cause : (number : ℕ) → answer ≡ Refused number → RecordCause part number
+  pub fields : (site : Site) (n : ℕ) → answer ≡ Read site n → FieldsRead years part site n
+  pub cause : (number : ℕ) → answer ≡ Refused number → RecordCause years part number
 
-pub reads-site : (part : List ℕ) (answer : SiteAnswer) → answer ≡ readSite part → ReadsSite part answer
-reads-site part answer e =
+pub reads-site : (years : ℕ) (part : List ℕ) (answer : SiteAnswer) → answer ≡ readSite years part → ReadsSite years part answer
+reads-site years part answer e =
     record {
       answer-is = e;
-      number-is = ap readNumber e ∙ number-read part;
+      number-is = ap readNumber e ∙ number-read years part;
       place-is = refl;
-      valid = λ site n q. read-valid part site n (sym e ∙ q);
-      bounds = λ site n q. read-length part site n (sym e ∙ q);
-      fields = λ site n q. fields-read part site n (sym e ∙ q);
-      cause = λ number q. refused-by-cause part number .0 (sym e ∙ q);
+      valid = λ site n q. read-valid years part site n (sym e ∙ q);
+      bounds = λ site n q. read-length years part site n (sym e ∙ q);
+      fields = λ site n q. fields-read years part site n (sym e ∙ q);
+      cause = λ number q. refused-by-cause years part number .0 (sym e ∙ q);
     }
 
 -- the site writer: its answer, document 01's number for it, and the buffer afterwards, byte for byte
-pub record WritesSite (site : Site) (before afterwards : List ℕ) (answer : WriteAnswer) : Type 0 where
-  pub answer-is : answer ≡ writeAnswer site (length before)
-  pub number-is : writeNumber answer ≡ writeRefusal site (length before)
+pub record WritesSite (years : ℕ) (site : Site) (before afterwards : List ℕ) (answer : WriteAnswer) : Type 0 where
+  pub answer-is : answer ≡ writeAnswer years site (length before)
+  pub number-is : writeNumber answer ≡ writeRefusal years site (length before)
   pub place-is : writePlace answer ≡ 0
-  pub buffer-is : afterwards ≡ writeInto site before
+  pub buffer-is : afterwards ≡ writeInto years site before
 
-pub number-written : (site : Site) (room : ℕ) → writeNumber (writeAnswer site room) ≡ writeRefusal site room
+pub number-written : (years : ℕ) (site : Site) (room : ℕ) → writeNumber (writeAnswer years site room) ≡ writeRefusal years site room
 unfolding writeAnswer
-number-written site room =
-    number-of-answer writeNumber (writeRefusal site room) (Written (length (recordOf site))) (Unwritten (writeRefusal site room)) refl refl
+number-written years site room =
+    number-of-answer writeNumber (writeRefusal years site room) (Written (length (recordOf site))) (Unwritten (writeRefusal years site room)) refl refl
 
-pub writes-site : (site : Site) (before afterwards : List ℕ) (answer : WriteAnswer)
-    → answer ≡ writeAnswer site (length before) → afterwards ≡ writeInto site before
-    → WritesSite site before afterwards answer
-writes-site site before afterwards answer e b =
-    record { answer-is = e; number-is = ap writeNumber e ∙ number-written site (length before); place-is = refl; buffer-is = b }
+pub writes-site : (years : ℕ) (site : Site) (before afterwards : List ℕ) (answer : WriteAnswer)
+    → answer ≡ writeAnswer years site (length before) → afterwards ≡ writeInto years site before
+    → WritesSite years site before afterwards answer
+writes-site years site before afterwards answer e b =
+    record { answer-is = e; number-is = ap writeNumber e ∙ number-written years site (length before); place-is = refl; buffer-is = b }

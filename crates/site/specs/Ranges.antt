@@ -13,8 +13,9 @@ use Rattle.site.specs.declared.values.Slot.{Slot}
 use Rattle.site.specs.declared.values.Slot.the-variants.{Absent, Number}
 use Rattle.site.specs.declared.values.Site.{Site}
 use Rattle.site.specs.Rules as rules
-use Rattle.site.specs.Rules.{entriesOf, lastKind, segment, crossing, inside, settled, settle}
-use Rattle.site.specs.Writing.{slotsOf, curveHeld, rulesHeld, fits, allFit, sound, Valid}
+use Rattle.site.specs.Rules.{entriesOf, lastKind, yearsKnown, segment, crossing, inside, settled, settle}
+use Rattle.site.specs.Yearly.{laterSlots, laterGiven, laterMinor}
+use Rattle.site.specs.Writing.{slotsOf, curveHeld, rulesHeld, fits, allFit, laterFits, soundSite, sound, Valid}
 use Rattle.laws.specs.Truth.{and-left, and-right}
 
 -- a slot holds a number from low to high
@@ -104,16 +105,42 @@ pub record CrossingRanges (angle left right sight : Rule) (site : Site) : Type 0
   pub «right_lanes» : Obeys right (site .«right_lanes»)
   pub «limited_sight» : Obeys sight (site .«limited_sight»)
 
-pub valid-fits : (site : Site) → Valid site → (kind : ℕ) → site .kind ≡ kind
-    → allFit (rulesHeld kind (slotsOf site)) (slotsOf site) ≡ true
-unfolding sound
-valid-fits site v kind e =
-    rw e at (and-right (leb (site .kind) lastKind) (allFit (rulesHeld (site .kind) (slotsOf site)) (slotsOf site)) (v .is-sound))
+-- what the tests of a site come to
+pub record Tests (years : ℕ) (site : Site) : Type 0 where
+  pub years-in : yearsKnown years ≡ true
+  pub known : leb (site .kind) lastKind ≡ true
+  pub fit : allFit (rulesHeld (site .kind) (slotsOf site)) (slotsOf site) ≡ true
+  pub later-traffic : laterFits (laterGiven years site) (laterSlots (site .«later_traffic»)) ≡ true
+  pub later-minor : laterFits (laterMinor (site .kind) (laterGiven years site)) (laterSlots (site .«later_minor»)) ≡ true
 
-pub valid-kind : (site : Site) → Valid site → site .kind ≤ lastKind
-unfolding sound
-valid-kind site v =
-    leb-true (site .kind) lastKind (and-left (leb (site .kind) lastKind) (allFit (rulesHeld (site .kind) (slotsOf site)) (slotsOf site)) (v .is-sound))
+pub tests : (years : ℕ) (site : Site) → Valid years site → Tests years site
+unfolding sound soundSite
+tests years site v =
+    let y = and-left (yearsKnown years) _ (v .is-sound) in
+    let s = and-right (yearsKnown years) _ (v .is-sound) in
+    let k = and-left (leb (site .kind) lastKind) _ s in
+    let s1 = and-right (leb (site .kind) lastKind) _ s in
+    let f = and-left (allFit (rulesHeld (site .kind) (slotsOf site)) (slotsOf site)) _ s1 in
+    let both = and-right (allFit (rulesHeld (site .kind) (slotsOf site)) (slotsOf site)) _ s1 in
+    record {
+      years-in = y;
+      known = k;
+      fit = f;
+      later-traffic = and-left (laterFits (laterGiven years site) (laterSlots (site .«later_traffic»))) _ both;
+      later-minor = and-right (laterFits (laterGiven years site) (laterSlots (site .«later_traffic»))) _ both;
+    }
+
+pub sound-by : (years : ℕ) (site : Site) → Tests years site → Valid years site
+unfolding sound soundSite
+sound-by years site t =
+    record { is-sound = rw (t .years-in, t .known, t .fit, t .later-traffic, t .later-minor) }
+
+pub valid-fits : (years : ℕ) (site : Site) → Valid years site → (kind : ℕ) → site .kind ≡ kind
+    → allFit (rulesHeld kind (slotsOf site)) (slotsOf site) ≡ true
+valid-fits years site v kind e = rw e at (tests years site v .fit)
+
+pub valid-kind : (years : ℕ) (site : Site) → Valid years site → site .kind ≤ lastKind
+valid-kind years site v = leb-true (site .kind) lastKind (tests years site v .known)
 
 road-by : (site : Site) (c : Bool)
     → Obeys (settled c (OnCurve rules.curveLength)) (site .«curve_length») → Obeys (settled c (OnCurve rules.radius)) (site .radius)
@@ -143,9 +170,9 @@ segment-by site c e =
       «hazard_rating» = r11 .1 .1 .1 .1 .0;
     }
 
-pub segment-ranges : (site : Site) → Valid site → site .kind ≡ 0 → SegmentRanges site
+pub segment-ranges : (years : ℕ) (site : Site) → Valid years site → site .kind ≡ 0 → SegmentRanges site
 unfolding entriesOf
-segment-ranges site v e = segment-by site (curveHeld segment (slotsOf site)) (valid-fits site v 0 e)
+segment-ranges years site v e = segment-by site (curveHeld segment (slotsOf site)) (valid-fits years site v 0 e)
 
 crossing-by : (site : Site) (angle left right sight : Rule) (c : Bool)
     → allFit (settle c (crossing angle left right sight)) (slotsOf site) ≡ true
@@ -167,22 +194,22 @@ crossing-by site angle left right sight c e =
     }
 
 -- kind 1, 3ST
-pub three-leg-ranges : (site : Site) → Valid site → site .kind ≡ 1
+pub three-leg-ranges : (years : ℕ) (site : Site) → Valid years site → site .kind ≡ 1
     → CrossingRanges rules.skew (rules.turnLanes 1) (rules.turnLanes 1) (rules.limitedSight 2) site
 unfolding entriesOf
-three-leg-ranges site v e =
-    crossing-by site rules.skew (rules.turnLanes 1) (rules.turnLanes 1) (rules.limitedSight 2) (curveHeld (entriesOf 1) (slotsOf site)) (valid-fits site v 1 e)
+three-leg-ranges years site v e =
+    crossing-by site rules.skew (rules.turnLanes 1) (rules.turnLanes 1) (rules.limitedSight 2) (curveHeld (entriesOf 1) (slotsOf site)) (valid-fits years site v 1 e)
 
 -- kind 2, 4ST
-pub four-leg-ranges : (site : Site) → Valid site → site .kind ≡ 2
+pub four-leg-ranges : (years : ℕ) (site : Site) → Valid years site → site .kind ≡ 2
     → CrossingRanges rules.skew (rules.turnLanes 2) (rules.turnLanes 2) (rules.limitedSight 4) site
 unfolding entriesOf
-four-leg-ranges site v e =
-    crossing-by site rules.skew (rules.turnLanes 2) (rules.turnLanes 2) (rules.limitedSight 4) (curveHeld (entriesOf 2) (slotsOf site)) (valid-fits site v 2 e)
+four-leg-ranges years site v e =
+    crossing-by site rules.skew (rules.turnLanes 2) (rules.turnLanes 2) (rules.limitedSight 4) (curveHeld (entriesOf 2) (slotsOf site)) (valid-fits years site v 2 e)
 
 -- kind 3, 4SG
-pub signal-ranges : (site : Site) → Valid site → site .kind ≡ 3
+pub signal-ranges : (years : ℕ) (site : Site) → Valid years site → site .kind ≡ 3
     → CrossingRanges Lacking (rules.turnLanes 2) (rules.turnLanes 2) Lacking site
 unfolding entriesOf
-signal-ranges site v e =
-    crossing-by site Lacking (rules.turnLanes 2) (rules.turnLanes 2) Lacking (curveHeld (entriesOf 3) (slotsOf site)) (valid-fits site v 3 e)
+signal-ranges years site v e =
+    crossing-by site Lacking (rules.turnLanes 2) (rules.turnLanes 2) Lacking (curveHeld (entriesOf 3) (slotsOf site)) (valid-fits years site v 3 e)

@@ -1,16 +1,18 @@
 -- Reading: what the site reader answers for the bytes of a part, which starts at the record's kind byte.
-use Prim.Native.Nat.{ℕ, _+_, _*_, _/_, _%_}
-use mathlib.Core.Bool.{Bool, false, cond, _&&_, _||_, not}
-use mathlib.Core.List.{List, [], _∷_}
-use lib.ListN.{length, getD, drop}
+use Prim.Native.Nat.{ℕ, zero, suc, _+_, _-_, _*_, _/_, _%_}
+use mathlib.Core.Bool.{Bool, true, false, cond, _&&_, _||_, not}
+use mathlib.Core.List.{List, [], _∷_, _++_}
+use lib.ListN.{length, getD, take, drop}
 use lib.Dec.{ltb, eqb}
 use Rattle.site.specs.declared.rules.Rule.{Rule}
 use Rattle.site.specs.declared.rules.Entry.{Entry}
 use Rattle.site.specs.declared.values.Slot.{Slot}
 use Rattle.site.specs.declared.values.Slot.the-variants.{Absent, Number}
+use Rattle.site.specs.declared.values.Later.{Later}
 use Rattle.site.specs.declared.values.Site.{Site}
 use Rattle.site.specs.declared.values.SiteAnswer.{SiteAnswer}
-use Rattle.site.specs.Rules.{entriesOf, lastKind, allows, absentOf, needed, lacking, bits, ruleOf, onCurve, settle, holds}
+use Rattle.site.specs.Rules.{entriesOf, lastKind, yearsKnown, laterYears, traffic, allows, absentOf, needed, lacking, bits, ruleOf, onCurve, settle, holds}
+use Rattle.site.specs.Yearly.{laterOf, laterMinor}
 use Rattle.site.specs.Answers.{readAnswer}
 
 -- "Two-byte numbers are unsigned, high byte first": the one that a list starts with
@@ -89,9 +91,9 @@ unfoldable pub fieldsValues : List Rule → ℕ → List ℕ → List Slot
 fieldsValues [] map s = []
 fieldsValues (rule ∷ rules) map s = fieldValue rule map s ∷ fieldsValues rules (restOf rule map) (after rule map s)
 
--- a site of its kind and its slots
-abbrev pub siteOf : ℕ → List Slot → Site
-siteOf kind slots =
+-- a site of its kind, its slots and the later years of its traffics
+abbrev pub siteOf : ℕ → List Slot → (traffic minor : Later) → Site
+siteOf kind slots traffic minor =
     record {
       kind = kind;
       traffic = getD slots 0 Absent;
@@ -114,39 +116,100 @@ siteOf kind slots =
       «left_lanes» = getD slots 17 Absent;
       «right_lanes» = getD slots 18 Absent;
       «limited_sight» = getD slots 19 Absent;
+      «later_traffic» = traffic;
+      «later_minor» = minor;
     }
+
+-- document 02, request 4: "Bit 15 of any kind of record .. has no field of its own": it stands or not, and the map without it is
+-- that of the fields
+abbrev pub yearlyBit : ℕ → ℕ
+yearlyBit map = map / 32768 % 2
+
+abbrev pub fieldMap : ℕ → ℕ
+fieldMap map = map - 32768 * yearlyBit map
 
 -- the parts of a record
 abbrev pub kindIn : List ℕ → ℕ
 kindIn s = getD s 0 0
 
+abbrev pub wholeMapIn : List ℕ → ℕ
+wholeMapIn s = word (drop 1 s)
+
 abbrev pub mapIn : List ℕ → ℕ
-mapIn s = word (drop 1 s)
+mapIn s = fieldMap (wholeMapIn s)
 
 abbrev pub rulesIn : List ℕ → List Rule
 rulesIn s = rulesRead (kindIn s) (mapIn s)
 
-abbrev pub lengthIn : List ℕ → ℕ
-lengthIn s = 3 + 2 * words (rulesIn s) (mapIn s)
+-- "each traffic field is followed by Y − 1 more values": how many follow the major traffic, and the minor
+abbrev pub laterIn : (years : ℕ) → List ℕ → ℕ
+laterIn years s = yearlyBit (wholeMapIn s) * (years - 1)
 
-abbrev pub siteIn : List ℕ → Site
-siteIn s = siteOf (kindIn s) (fieldsValues (rulesIn s) (mapIn s) (drop 3 s))
+abbrev pub minorIn : (years : ℕ) → List ℕ → ℕ
+minorIn years s = laterMinor (kindIn s) (laterIn years s)
 
--- "6, 7, all fields present (1), then field by field 8, 9": the first refusal after the kind, or 0; s follows the map
-unfoldable pub recordNumber : List Rule → ℕ → List ℕ → ℕ
-recordNumber rules map s =
-    cond (lacks rules map) 6
-    (cond (misses rules map) 7
-    (cond (ltb (length s) (2 * words rules map)) 1
-    (fieldsNumber rules map s)))
+-- they stand after the first number of the fields and after the second, the fields of bits 0 and 1: the fields without them
+abbrev pub gathered : (later minor : ℕ) → List ℕ → List ℕ
+gathered later minor s = take 2 s ++ (take 2 (drop (2 + 2 * later) s) ++ drop (4 + 2 * later + 2 * minor) s)
 
--- "kind and map present (1), 5, 6, 7, all fields present (1), then field by field 8, 9"
-unfoldable pub refusalOf : List ℕ → ℕ
-refusalOf s =
-    cond (ltb (length s) 3) 1
+abbrev pub fieldsIn : (years : ℕ) → List ℕ → List ℕ
+fieldsIn years s = gathered (laterIn years s) (minorIn years s) (drop 3 s)
+
+abbrev pub laterAt : List ℕ → List ℕ
+laterAt s = drop 5 s
+
+abbrev pub minorAt : (years : ℕ) → List ℕ → List ℕ
+minorAt years s = drop (7 + 2 * laterIn years s) s
+
+-- so many values, "for years two to Y"; the years after them hold no number
+unfoldable pub laterRead : (years later : ℕ) → List ℕ → List Slot
+laterRead zero later s = []
+laterRead (suc years) zero s = Absent ∷ laterRead years zero s
+laterRead (suc years) (suc later) s = Number (word s) ∷ laterRead years later (drop 2 s)
+
+-- "Each has the range of the first"
+unfoldable pub laterAllowed : (later : ℕ) → List ℕ → Bool
+laterAllowed zero s = true
+laterAllowed (suc later) s = allows traffic (word s) && laterAllowed later (drop 2 s)
+
+abbrev pub allLaterAllowed : (years : ℕ) → List ℕ → Bool
+allLaterAllowed years s = laterAllowed (laterIn years s) (laterAt s) && laterAllowed (minorIn years s) (minorAt years s)
+
+abbrev pub lengthIn : (years : ℕ) → List ℕ → ℕ
+lengthIn years s = 3 + 2 * (words (rulesIn s) (mapIn s) + (laterIn years s + minorIn years s))
+
+abbrev pub siteIn : (years : ℕ) → List ℕ → Site
+siteIn years s =
+    siteOf (kindIn s) (fieldsValues (rulesIn s) (mapIn s) (fieldsIn years s))
+    (laterOf (laterRead laterYears (laterIn years s) (laterAt s)))
+    (laterOf (laterRead laterYears (minorIn years s) (minorAt years s)))
+
+-- "Bit 15 with Y = 1 is refused with 7"
+abbrev pub yearlyInOne : (years : ℕ) → List ℕ → Bool
+yearlyInOne years s = eqb (yearlyBit (wholeMapIn s)) 1 && eqb years 1
+
+abbrev pub missesIn : (years : ℕ) → List ℕ → Bool
+missesIn years s = misses (rulesIn s) (mapIn s) || yearlyInOne years s
+
+-- "6, 7, all fields present (1), then field by field 8, 9": the first refusal after the kind, or 0. A later value outside its range is
+-- 8 in its turn: what stands before it has no default, so that no other number can come first
+unfoldable pub recordNumber : (years : ℕ) → List ℕ → ℕ
+recordNumber years s =
+    cond (lacks (rulesIn s) (mapIn s)) 6
+    (cond (missesIn years s) 7
+    (cond (ltb (length s) (lengthIn years s)) 1
+    (cond (allLaterAllowed years s) (fieldsNumber (rulesIn s) (mapIn s) (fieldsIn years s)) 8)))
+
+-- "Where a request hands .. the years to the site reader .., one outside its limits is .. 4 at place 0, tried first"; then "kind
+-- and map present (1), 5, 6, 7, all fields present (1), then field by field 8, 9"
+unfoldable pub refusalOf : (years : ℕ) → List ℕ → ℕ
+refusalOf years s =
+    cond (yearsKnown years)
+    (cond (ltb (length s) 3) 1
     (cond (ltb lastKind (kindIn s)) 5
-    (recordNumber (rulesIn s) (mapIn s) (drop 3 s)))
+    (recordNumber years s)))
+    4
 
--- what the site reader answers for a part
-unfoldable pub readSite : List ℕ → SiteAnswer
-readSite s = readAnswer (refusalOf s) (siteIn s) (lengthIn s)
+-- what the site reader answers for a part, in a project of so many years
+unfoldable pub readSite : (years : ℕ) → List ℕ → SiteAnswer
+readSite years s = readAnswer (refusalOf years s) (siteIn years s) (lengthIn years s)

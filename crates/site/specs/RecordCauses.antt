@@ -1,180 +1,340 @@
 -- Document 01's causes to refuse the bytes that a record starts, 1 and 5 to 9, in its own words and order and by bit number.
 -- The site reader has a number for them exactly where that cause is the first.
 use mathlib.Core.Path.{_≡_, refl, ap, sym, _∙_}
-use mathlib.Core.Bool.{Bool, true, false, cond, not, Bool·not-not}
+use mathlib.Core.Bool.{Bool, true, false, cond, _&&_, _||_, not, Bool·not-not}
 use mathlib.Core.List.{List}
 use mathlib.Core.Logic.{_↔_}
-use Prim.Native.Nat.{ℕ, _<_, _≤_}
+use Prim.Native.Nat.{ℕ, zero, suc, _+_, _*_, _<_, _≤_}
 use native.Mathlib.Omega.{arith}
 use lib.ListN.{length, drop}
 use lib.Dec.{eqb}
-use borrow.Author.Tests.{eqb-true, eqb-false, ne-eqb}
+use borrow.Author.Tests.{eqb-true, eqb-false, eq-eqb, ne-eqb}
 use Rattle.site.specs.declared.values.SiteAnswer.the-variants.{Refused}
-use Rattle.site.specs.Rules.{lastKind}
+use Rattle.site.specs.Rules.{lastKind, yearsKnown, traffic, allows}
 use Rattle.site.specs.Answers.{readNumber}
-use Rattle.site.specs.Record.{lacks, misses, words, fieldsNumber, kindIn, mapIn, rulesIn, refusalOf, readSite}
-use Rattle.site.specs.Fields.{lacked, mapBits, fieldIn, bitAt, standing, numberAt, fieldsEnd, inRange, spellsDefault}
-use Rattle.laws.specs.Truth.{not-both, never-so}
-use Rattle.site.specs.Accepted.{HeadPresent, Tried, head-short, kind-unknown, map-lacks, map-misses, fields-short}
-use Rattle.site.specs.Accepted.{fields-tell, tried, tried-number, accepted, accept, number-read}
+use Rattle.site.specs.Record.{word, lacks, words, fieldsNumber, kindIn, wholeMapIn, mapIn, rulesIn, laterIn, minorIn, fieldsIn, laterAt, minorAt}
+use Rattle.site.specs.Record.{laterAllowed, allLaterAllowed, lengthIn, yearlyInOne, missesIn, refusalOf, readSite}
+use Rattle.site.specs.Fields.{Field, lacked, mapBits, rowsOf, fieldAt, fieldIn, bitAt, standing, numbersIn, valueAt, numberAt, fieldsEnd, inRange}
+use Rattle.site.specs.Fields.{spellsDefault}
+use Rattle.laws.specs.Truth.{and-left, and-right, not-both, never-so}
+use Rattle.site.specs.Accepted.{HeadPresent, MapPasses, Tried, years-unknown, head-short, kind-unknown, map-lacks, map-misses, fields-short}
+use Rattle.site.specs.Accepted.{later-refused, fields-tell, fields-long, tried, tried-number, accepted, accept, number-read}
 use Rattle.site.specs.ReadWrite.{value-taken}
-use Rattle.site.specs.BitLaws.{bitNumber, BitsTell, none-refused, first-refused, refused-first}
+use Rattle.site.specs.BitLaws.{bit-by-power, bitNumber, BitsTell, none-refused, first-refused, refused-first}
 use Rattle.site.specs.Curve.{mapMatched, misses-by-bits}
 use Rattle.site.specs.FieldsRead.{rulesAt, bitsHeld, each-has-bit, among, by-bits, fields-by-bits, lacks-exactly}
-use Rattle.site.specs.FieldsRead.{words-standing, wrongNumber, wrong-number, number-of}
+use Rattle.site.specs.FieldsRead.{words-standing, wrongNumber, wrong-number}
+use Rattle.site.specs.LaterLaws.{allowed-at, Outside, some-outside}
+use Rattle.site.specs.PlaceLaws.{BothStand, passes-both, number-of, later-of, minor-of, end-of}
 
 -- no bit stands that the kind lacks
 abbrev pub NoneLacked : List ℕ → Type 0
 NoneLacked s = (b : ℕ) → bitAt b (mapIn s) ≡ true → fieldIn s b ≡ lacked → ⊥
 
--- nor is one missing: "Bits 0 and 1 always stand", and the curve bits are matched
-pub record MapRight (s : List ℕ) : Type 0 where
-  pub head : HeadPresent s
+-- nor is one missing: "Bits 0 and 1 always stand", the curve bits are matched, and "Bit 15 with Y = 1 is refused"
+abbrev pub allMatched : (years : ℕ) → List ℕ → Bool
+allMatched years s = mapMatched (kindIn s) (mapIn s) && not (bitAt 15 (wholeMapIn s) && eqb years 1)
+
+pub record MapRight (years : ℕ) (s : List ℕ) : Type 0 where
+  pub head : HeadPresent years s
   pub none-lacked : NoneLacked s
-  pub all-matched : mapMatched (kindIn s) (mapIn s) ≡ true
+  pub all-matched : allMatched years s ≡ true
+
+-- the numbers of a bit, "Each has the range of the first"
+abbrev pub AllInRange : (years : ℕ) → List ℕ → ℕ → Type 0
+AllInRange years s b = (i : ℕ) → i < numbersIn years s b → inRange (fieldIn s b) (valueAt years b i s) ≡ true
 
 -- "all fields present", and those that stand below a bit are in their range and spell no default out
-pub record RightBelow (s : List ℕ) (b : ℕ) : Type 0 where
-  pub map-right : MapRight s
-  pub present : fieldsEnd s ≤ length s
-  pub in-range : (c : ℕ) → c < b → bitAt c (mapIn s) ≡ true → inRange (fieldIn s c) (numberAt c s) ≡ true
-  pub not-spelled : (c : ℕ) → c < b → bitAt c (mapIn s) ≡ true → spellsDefault (fieldIn s c) (numberAt c s) ≡ false
+pub record RightBelow (years : ℕ) (s : List ℕ) (b : ℕ) : Type 0 where
+  pub map-right : MapRight years s
+  pub present : fieldsEnd years s ≤ length s
+  pub in-range : (c : ℕ) → c < b → bitAt c (mapIn s) ≡ true → AllInRange years s c
+  pub not-spelled : (c : ℕ) → c < b → bitAt c (mapIn s) ≡ true → spellsDefault (fieldIn s c) (numberAt years c s) ≡ false
 
--- "kind and map present (1), 5, 6, 7, all fields present (1), then field by field 8, 9"
-pub data RecordCause (s : List ℕ) : ℕ → Type 0 where
-  map-past : length s < 3 → RecordCause s 1
-  kind-above : 3 ≤ length s → lastKind < kindIn s → RecordCause s 5
-  bit-lacked : HeadPresent s → (b : ℕ) → bitAt b (mapIn s) ≡ true → fieldIn s b ≡ lacked → RecordCause s 6
-  bit-missing : HeadPresent s → NoneLacked s → mapMatched (kindIn s) (mapIn s) ≡ false → RecordCause s 7
-  field-past : MapRight s → length s < fieldsEnd s → RecordCause s 1
-  field-outside : (b : ℕ) → RightBelow s b → bitAt b (mapIn s) ≡ true → inRange (fieldIn s b) (numberAt b s) ≡ false → RecordCause s 8
-  field-spelled : (b : ℕ) → RightBelow s b → bitAt b (mapIn s) ≡ true → inRange (fieldIn s b) (numberAt b s) ≡ true
-      → spellsDefault (fieldIn s b) (numberAt b s) ≡ true → RecordCause s 9
+-- years "outside its limits is .. 4 .., tried first"; "kind and map present (1), 5, 6, 7, all fields present (1), then field by field
+-- 8, 9"
+pub data RecordCause (years : ℕ) (s : List ℕ) : ℕ → Type 0 where
+  years-outside : yearsKnown years ≡ false → RecordCause years s 4
+  map-past : yearsKnown years ≡ true → length s < 3 → RecordCause years s 1
+  kind-above : yearsKnown years ≡ true → 3 ≤ length s → lastKind < kindIn s → RecordCause years s 5
+  bit-lacked : HeadPresent years s → (b : ℕ) → bitAt b (mapIn s) ≡ true → fieldIn s b ≡ lacked → RecordCause years s 6
+  bit-missing : HeadPresent years s → NoneLacked s → allMatched years s ≡ false → RecordCause years s 7
+  field-past : MapRight years s → length s < fieldsEnd years s → RecordCause years s 1
+  field-outside : (b i : ℕ) → RightBelow years s b → bitAt b (mapIn s) ≡ true → i < numbersIn years s b
+      → inRange (fieldIn s b) (valueAt years b i s) ≡ false → RecordCause years s 8
+  field-spelled : (b : ℕ) → RightBelow years s b → bitAt b (mapIn s) ≡ true → AllInRange years s b
+      → spellsDefault (fieldIn s b) (numberAt years b s) ≡ true → RecordCause years s 9
 
-pub cause-not-zero : {s : List ℕ} {n : ℕ} → RecordCause s n → n ≡ 0 → ⊥
-cause-not-zero (map-past h) e = omega arith
-cause-not-zero (kind-above h k) e = omega arith
+pub cause-not-zero : {years : ℕ} {s : List ℕ} {n : ℕ} → RecordCause years s n → n ≡ 0 → ⊥
+cause-not-zero (years-outside y) e = omega arith
+cause-not-zero (map-past y h) e = omega arith
+cause-not-zero (kind-above y h k) e = omega arith
 cause-not-zero (bit-lacked h b t l) e = omega arith
 cause-not-zero (bit-missing h l m) e = omega arith
 cause-not-zero (field-past m h) e = omega arith
-cause-not-zero (field-outside b r t o) e = omega arith
+cause-not-zero (field-outside b i r t h o) e = omega arith
 cause-not-zero (field-spelled b r t i d) e = omega arith
 
--- the refusal of a bit that stands, told by its field
-module _ (s : List ℕ) where
-  abbrev refusedAt : ℕ → ℕ
-  refusedAt b = bitNumber (rulesAt (kindIn s) true) b (mapIn s) (drop 3 s)
+-- the fields of bits 0 and 1 have the range of a traffic, and no default
+record Leading (x : Field) : Type 0 where
+  ranges : (number : ℕ) → inRange x number ≡ allows traffic number
+  no-default : (number : ℕ) → spellsDefault x number ≡ false
 
-  refused-at : (b : ℕ) → refusedAt b ≡ cond (bitAt b (mapIn s)) (wrongNumber (fieldIn s b) (numberAt b s)) 0
-  refused-at b = rw (wrong-number (fieldIn s b) _, number-of b s)
+leading : (kind b : ℕ) → b < 2 → Leading (fieldAt (rowsOf kind) b)
+unfolding fieldAt
+leading zero zero h = record { ranges = λ number. refl; no-default = λ number. refl }
+leading zero (suc zero) h = record { ranges = λ number. refl; no-default = λ number. refl }
+leading zero (suc (suc b)) h = absurd (omega arith)
+leading (suc zero) zero h = record { ranges = λ number. refl; no-default = λ number. refl }
+leading (suc zero) (suc zero) h = record { ranges = λ number. refl; no-default = λ number. refl }
+leading (suc zero) (suc (suc b)) h = absurd (omega arith)
+leading (suc (suc zero)) zero h = record { ranges = λ number. refl; no-default = λ number. refl }
+leading (suc (suc zero)) (suc zero) h = record { ranges = λ number. refl; no-default = λ number. refl }
+leading (suc (suc zero)) (suc (suc b)) h = absurd (omega arith)
+leading (suc (suc (suc kind))) zero h = record { ranges = λ number. refl; no-default = λ number. refl }
+leading (suc (suc (suc kind))) (suc zero) h = record { ranges = λ number. refl; no-default = λ number. refl }
+leading (suc (suc (suc kind))) (suc (suc b)) h = absurd (omega arith)
 
+some-number : (years : ℕ) (s : List ℕ) (b : ℕ) → 0 < numbersIn years s b
+some-number years s zero = omega arith
+some-number years s (suc zero) = omega arith
+some-number years s (suc (suc b)) = omega arith
+
+module _ (years : ℕ) (s : List ℕ) where
   -- where the head is there: what the definition's tests say, bit by bit
-  module _ (head : HeadPresent s) where
+  module _ (head : HeadPresent years s) where
     lacks-none : lacks (rulesIn s) (mapIn s) ≡ false → NoneLacked s
     lacks-none e b t l = not-both _ (lacks-exactly (kindIn s) (mapIn s) (head .known) .1 (record { at = b; stands = t; holds = l })) e
 
     none-lacks : NoneLacked s → lacks (rulesIn s) (mapIn s) ≡ false
     none-lacks none = never-so _ (λ e. let r = lacks-exactly (kindIn s) (mapIn s) (head .known) .0 e in none (r .at) (r .stands) (r .holds))
 
-    missing : misses (rulesIn s) (mapIn s) ≡ not (mapMatched (kindIn s) (mapIn s))
-    missing = misses-by-bits (kindIn s) (mapIn s) (head .known)
+    missing : missesIn years s ≡ not (allMatched years s)
+    missing =
+        rw (misses-by-bits (kindIn s) (mapIn s) (head .known), bit-by-power 15 (wholeMapIn s)) (by (mapMatched (kindIn s) (mapIn s)) (yearlyInOne years s))
+      where
+        by : (a b : Bool) → (not a || b) ≡ not (a && not b)
+        by true true = refl
+        by true false = refl
+        by false b = refl
 
-    matching : mapMatched (kindIn s) (mapIn s) ≡ not (misses (rulesIn s) (mapIn s))
+    matching : allMatched years s ≡ not (missesIn years s)
     matching = rw missing (sym (Bool·not-not _))
 
     counted : NoneLacked s → words (rulesIn s) (mapIn s) ≡ standing mapBits (mapIn s)
     counted none = words-standing (kindIn s) (mapIn s) (head .known) none
 
-  -- the fields' first refusal is the first bit that is refused
-  module _ (map-right : MapRight s) (present : fieldsEnd s ≤ length s) where
-    right-below : (b : ℕ) → ((c : ℕ) → c < b → refusedAt c ≡ 0) → RightBelow s b
-    right-below b below =
-        record { map-right = map-right; present = present; in-range = λ c h t. right c h t .0; not-spelled = λ c h t. right c h t .1 }
+  map-right : MapPasses years s → MapRight years s
+  map-right p = record { head = p .head; none-lacked = lacks-none (p .head) (p .lack); all-matched = matching (p .head) ∙ ap not (p .miss) }
+
+  passes-of : MapRight years s → MapPasses years s
+  passes-of m = record { head = m .head; lack = none-lacks (m .head) (m .none-lacked); miss = missing (m .head) ∙ ap not (m .all-matched) }
+
+  ends : (p : MapPasses years s) → lengthIn years s ≡ fieldsEnd years s
+  ends p = end-of years s (passes-both years s p) (counted (p .head) (lacks-none (p .head) (p .lack)))
+
+  -- where the map is right and the fields are there
+  module _ (p : MapPasses years s) (full : lengthIn years s ≤ length s) where
+    both : BothStand (mapIn s)
+    both = passes-both years s p
+
+    stands-first : (b : ℕ) → b < 2 → bitAt b (mapIn s) ≡ true
+    stands-first zero h = eq-eqb _ 1 (both .zeroth)
+    stands-first (suc zero) h = eq-eqb _ 1 (both .first)
+    stands-first (suc (suc b)) h = absurd (omega arith)
+
+    abbrev refusedAt : ℕ → ℕ
+    refusedAt b = bitNumber (rulesAt (kindIn s) true) b (mapIn s) (fieldsIn years s)
+
+    refused-at : (b : ℕ) → refusedAt b ≡ cond (bitAt b (mapIn s)) (wrongNumber (fieldIn s b) (numberAt years b s)) 0
+    refused-at b = rw (wrong-number (fieldIn s b) _, number-of years s both (fields-long years s p full) b)
+
+    -- a later value that is in its range, and one that is not
+    first-later : (i : ℕ) → inRange (fieldIn s 0) (valueAt years 0 (suc i) s) ≡ allows traffic (word (drop (2 * i) (laterAt s)))
+    first-later i = leading (kindIn s) 0 (omega arith) .ranges _ ∙ ap (allows traffic) (sym (later-of years s i))
+
+    second-later : (i : ℕ) → inRange (fieldIn s 1) (valueAt years 1 (suc i) s) ≡ allows traffic (word (drop (2 * i) (minorAt years s)))
+    second-later i = leading (kindIn s) 1 (omega arith) .ranges _ ∙ ap (allows traffic) (sym (minor-of years s both i))
+
+    -- where the later values of a traffic are in their range, its bit has all its numbers there if it has the first
+    first-in : laterAllowed (laterIn years s) (laterAt s) ≡ true → inRange (fieldIn s 0) (numberAt years 0 s) ≡ true → AllInRange years s 0
+    first-in r e zero h = e
+    first-in r e (suc i) h = first-later i ∙ allowed-at (laterIn years s) (laterAt s) r i (omega arith)
+
+    later-in-range : allLaterAllowed years s ≡ true → (b i : ℕ) → suc i < numbersIn years s b → inRange (fieldIn s b) (valueAt years b (suc i) s) ≡ true
+    later-in-range r zero i h =
+        first-later i ∙ allowed-at (laterIn years s) (laterAt s) (and-left (laterAllowed (laterIn years s) (laterAt s)) _ r) i (omega arith)
+    later-in-range r (suc zero) i h =
+        second-later i ∙ allowed-at (minorIn years s) (minorAt years s) (and-right (laterAllowed (laterIn years s) (laterAt s)) _ r) i (omega arith)
+    later-in-range r (suc (suc b)) i h = absurd (omega arith)
+
+    all-in : allLaterAllowed years s ≡ true → (b : ℕ) → inRange (fieldIn s b) (numberAt years b s) ≡ true → AllInRange years s b
+    all-in r b e zero h = e
+    all-in r b e (suc i) h = later-in-range r b i h
+
+    -- and numbers that are all in their range have later values there
+    in-allowed : AllInRange years s 0 → AllInRange years s 1 → allLaterAllowed years s ≡ true
+    in-allowed first second = both-true _ _ (never-false _ one) (never-false _ two)
       where
-        right : (c : ℕ) → c < b → bitAt c (mapIn s) ≡ true
-            → (inRange (fieldIn s c) (numberAt c s) ≡ true) × (spellsDefault (fieldIn s c) (numberAt c s) ≡ false)
-        right c h t = value-taken _ _ (rw t at (sym (refused-at c) ∙ below c h))
+        never-false : (b : Bool) → (b ≡ false → ⊥) → b ≡ true
+        never-false true ne = refl
+        never-false false ne = absurd (ne refl)
 
-    field-cause : {number : ℕ} → (number ≡ 0 → ⊥) → BitsTell (bitsHeld (kindIn s)) (rulesAt (kindIn s) true) (mapIn s) (drop 3 s) number
-        → RecordCause s number
-    field-cause ne (none-refused all) = absurd (ne refl)
-    field-cause {number} ne (first-refused some b is below) = by b (right-below b below) _ _ _ refl refl refl (sym (refused-at b) ∙ is)
+        both-true : (a b : Bool) → a ≡ true → b ≡ true → (a && b) ≡ true
+        both-true a b x y = rw (x, y)
+
+        one : laterAllowed (laterIn years s) (laterAt s) ≡ false → ⊥
+        one e =
+            let o = some-outside (laterIn years s) (laterAt s) e in
+            not-both _ (first (suc (o .at)) (omega (arith, o .below))) (first-later (o .at) ∙ o .outside)
+
+        two : laterAllowed (minorIn years s) (minorAt years s) ≡ false → ⊥
+        two e =
+            let o = some-outside (minorIn years s) (minorAt years s) e in
+            not-both _ (second (suc (o .at)) (omega (arith, o .below))) (second-later (o .at) ∙ o .outside)
+
+    nothing-below : RightBelow years s 0
+    nothing-below =
+        record { map-right = map-right p; present = omega (arith, ends p); in-range = λ c h. absurd (omega arith); not-spelled = λ c h. absurd (omega arith) }
+
+    -- THE LATER VALUES TELL 8
+    later-cause : allLaterAllowed years s ≡ false → RecordCause years s 8
+    later-cause e = by (laterAllowed (laterIn years s) (laterAt s)) refl e
       where
-        by : (b : ℕ) → RightBelow s b → (t i d : Bool) → bitAt b (mapIn s) ≡ t → inRange (fieldIn s b) (numberAt b s) ≡ i
-            → spellsDefault (fieldIn s b) (numberAt b s) ≡ d → cond t (cond i (cond d 9 0) 8) 0 ≡ number → RecordCause s number
-        by b r true true true p q w z = rw (← z) (field-spelled b r p q w)
-        by b r true true false p q w z = absurd (ne (sym z))
-        by b r true false d p q w z = rw (← z) (field-outside b r p q)
-        by b r false i d p q w z = absurd (ne (sym z))
+        second : laterAllowed (laterIn years s) (laterAt s) ≡ true → Outside (minorIn years s) (minorAt years s)
+            → (b : Bool) → inRange (fieldIn s 0) (numberAt years 0 s) ≡ b → RecordCause years s 8
+        second r o false q = field-outside 0 0 nothing-below (stands-first 0 (omega arith)) (omega arith) q
+        second r o true q =
+            field-outside 1 (suc (o .at)) (record {
+              map-right = map-right p;
+              present = omega (arith, ends p);
+              in-range = λ c h t. one c h;
+              not-spelled = λ c h t. leading (kindIn s) c (omega arith) .no-default _;
+            }) (stands-first 1 (omega arith)) (omega (arith, o .below)) (second-later (o .at) ∙ o .outside)
+          where
+            one : (c : ℕ) → c < 1 → AllInRange years s c
+            one zero h = first-in r q
+            one (suc c) h = absurd (omega arith)
 
-  map-right : (head : HeadPresent s) → lacks (rulesIn s) (mapIn s) ≡ false → misses (rulesIn s) (mapIn s) ≡ false → MapRight s
-  map-right h l m = record { head = h; none-lacked = lacks-none h l; all-matched = matching h ∙ ap not m }
+        by : (b : Bool) → laterAllowed (laterIn years s) (laterAt s) ≡ b → (b && laterAllowed (minorIn years s) (minorAt years s)) ≡ false
+            → RecordCause years s 8
+        by false r q =
+            let o = some-outside (laterIn years s) (laterAt s) r in
+            field-outside 0 (suc (o .at)) nothing-below (stands-first 0 (omega arith)) (omega (arith, o .below)) (first-later (o .at) ∙ o .outside)
+        by true r q = second r (some-outside (minorIn years s) (minorAt years s) q) _ refl
 
-  cause-of : {n : ℕ} → Tried s n → (n ≡ 0 → ⊥) → RecordCause s n
-  cause-of (head-short h) ne = map-past h
-  cause-of (kind-unknown l k) ne = kind-above l k
+    -- the fields' first refusal is the first bit that is refused
+    module _ (allowed : allLaterAllowed years s ≡ true) where
+      right-below : (b : ℕ) → ((c : ℕ) → c < b → refusedAt c ≡ 0) → RightBelow years s b
+      right-below b below =
+          record {
+            map-right = map-right p;
+            present = omega (arith, ends p);
+            in-range = λ c h t. all-in allowed c (right c h t .0);
+            not-spelled = λ c h t. right c h t .1;
+          }
+        where
+          right : (c : ℕ) → c < b → bitAt c (mapIn s) ≡ true
+              → (inRange (fieldIn s c) (numberAt years c s) ≡ true) × (spellsDefault (fieldIn s c) (numberAt years c s) ≡ false)
+          right c h t = value-taken _ _ (rw t at (sym (refused-at c) ∙ below c h))
+
+      field-cause : {number : ℕ} → (number ≡ 0 → ⊥) → BitsTell (bitsHeld (kindIn s)) (rulesAt (kindIn s) true) (mapIn s) (fieldsIn years s) number
+          → RecordCause years s number
+      field-cause ne (none-refused all) = absurd (ne refl)
+      field-cause {number} ne (first-refused some b is below) = by b (right-below b below) _ _ _ refl refl refl (sym (refused-at b) ∙ is)
+        where
+          by : (b : ℕ) → RightBelow years s b → (t i d : Bool) → bitAt b (mapIn s) ≡ t → inRange (fieldIn s b) (numberAt years b s) ≡ i
+              → spellsDefault (fieldIn s b) (numberAt years b s) ≡ d → cond t (cond i (cond d 9 0) 8) 0 ≡ number → RecordCause years s number
+          by b r true true true q i d z = rw (← z) (field-spelled b r q (all-in allowed b i) d)
+          by b r true true false q i d z = absurd (ne (sym z))
+          by b r true false d q i w z = rw (← z) (field-outside b 0 r q (some-number years s b) i)
+          by b r false i d q w x z = absurd (ne (sym z))
+
+  cause-of : {n : ℕ} → Tried years s n → (n ≡ 0 → ⊥) → RecordCause years s n
+  cause-of (years-unknown y) ne = years-outside y
+  cause-of (head-short y h) ne = map-past y h
+  cause-of (kind-unknown y l k) ne = kind-above y l k
   cause-of (map-lacks h l) ne = let w = lacks-exactly (kindIn s) (mapIn s) (h .known) .0 l in bit-lacked h (w .at) (w .stands) (w .holds)
   cause-of (map-misses h l m) ne = bit-missing h (lacks-none h l) (matching h ∙ ap not m)
-  cause-of (fields-short h l m f) ne = field-past (map-right h l m) (omega (arith, counted h (lacks-none h l)))
-  cause-of (fields-tell h l m f) ne =
-      field-cause (map-right h l m) (omega (arith, counted h (lacks-none h l))) ne (fields-by-bits (kindIn s) (mapIn s) (drop 3 s) (h .known))
+  cause-of (fields-short p f) ne = field-past (map-right p) (omega (arith, ends p))
+  cause-of (later-refused p f r) ne = later-cause p f r
+  cause-of (fields-tell p f r) ne = field-cause p f r ne (fields-by-bits (kindIn s) (mapIn s) (fieldsIn years s) (p .head .known))
 
   -- and a cause tells the number
-  module _ (b number : ℕ) (r : RightBelow s b) (stood : bitAt b (mapIn s) ≡ true) where
-    below : (c : ℕ) → c < b → refusedAt c ≡ 0
-    below c h = refused-at c ∙ by (bitAt c (mapIn s)) refl
+  module _ (b : ℕ) (r : RightBelow years s b) (stood : bitAt b (mapIn s) ≡ true) where
+    passing : MapPasses years s
+    passing = passes-of (r .map-right)
+
+    there : lengthIn years s ≤ length s
+    there = omega (arith, r .present, ends passing)
+
+    below : (c : ℕ) → c < b → refusedAt passing there c ≡ 0
+    below c h = refused-at passing there c ∙ by (bitAt c (mapIn s)) refl
       where
-        by : (t : Bool) → bitAt c (mapIn s) ≡ t → cond t (wrongNumber (fieldIn s c) (numberAt c s)) 0 ≡ 0
-        by true t = rw (r .in-range c h t, r .not-spelled c h t)
+        by : (t : Bool) → bitAt c (mapIn s) ≡ t → cond t (wrongNumber (fieldIn s c) (numberAt years c s)) 0 ≡ 0
+        by true t = rw (r .in-range c h t 0 (some-number years s c), r .not-spelled c h t)
         by false t = refl
 
-    field-number : wrongNumber (fieldIn s b) (numberAt b s) ≡ number → (number ≡ 0 → ⊥) → fieldsNumber (rulesIn s) (mapIn s) (drop 3 s) ≡ number
-    field-number e ne =
-        by-bits (kindIn s) (mapIn s) (drop 3 s) (r .map-right .head .known) .number
-        ∙ refused-first (bitsHeld (kindIn s)) (rulesAt (kindIn s) true) (mapIn s) (drop 3 s) number b (each-has-bit (kindIn s) true) ne
-        (among (kindIn s) b (r .map-right .none-lacked b stood)) (refused-at b ∙ rw stood e) below
+    field-number : (number : ℕ) → wrongNumber (fieldIn s b) (numberAt years b s) ≡ number → (number ≡ 0 → ⊥)
+        → fieldsNumber (rulesIn s) (mapIn s) (fieldsIn years s) ≡ number
+    field-number number e ne =
+        by-bits (kindIn s) (mapIn s) (fieldsIn years s) (passing .head .known) .number
+        ∙ refused-first (bitsHeld (kindIn s)) (rulesAt (kindIn s) true) (mapIn s) (fieldsIn years s) number b (each-has-bit (kindIn s) true) ne
+        (among (kindIn s) b (r .map-right .none-lacked b stood)) (refused-at passing there b ∙ rw stood e) below
 
-  fields-told : {n b : ℕ} → RightBelow s b → fieldsNumber (rulesIn s) (mapIn s) (drop 3 s) ≡ n → Tried s n
-  fields-told r e =
-      let m = r .map-right in
-      rw (← e) (fields-tell (m .head) (none-lacks (m .head) (m .none-lacked)) (missing (m .head) ∙ ap not (m .all-matched))
-      (omega (arith, r .present, counted (m .head) (m .none-lacked))))
+    outside-told : (i : ℕ) → i < numbersIn years s b → inRange (fieldIn s b) (valueAt years b i s) ≡ false → Tried years s 8
+    outside-told i h o = by (allLaterAllowed years s) refl i h o
+      where
+        by : (a : Bool) → allLaterAllowed years s ≡ a → (i : ℕ) → i < numbersIn years s b → inRange (fieldIn s b) (valueAt years b i s) ≡ false → Tried years s 8
+        by false e i h o = later-refused passing there e
+        by true e zero h o = rw (← field-number 8 (rw o) (λ z. omega arith)) (fields-tell passing there e)
+        by true e (suc i) h o = not-both _ (later-in-range passing there e b i h) o
 
-  tried-of : {n : ℕ} → RecordCause s n → Tried s n
-  tried-of (map-past h) = head-short h
-  tried-of (kind-above h k) = kind-unknown h k
+    spelled-told : AllInRange years s b → spellsDefault (fieldIn s b) (numberAt years b s) ≡ true → Tried years s 9
+    spelled-told all d =
+        rw (← field-number 9 (rw (all 0 (some-number years s b), d)) (λ z. omega arith)) (fields-tell passing there (by b r d))
+      where
+        by : (b : ℕ) → RightBelow years s b → spellsDefault (fieldIn s b) (numberAt years b s) ≡ true → allLaterAllowed years s ≡ true
+        by zero r d = not-both _ d (leading (kindIn s) 0 (omega arith) .no-default _)
+        by (suc zero) r d = not-both _ d (leading (kindIn s) 1 (omega arith) .no-default _)
+        by (suc (suc b)) r d =
+            in-allowed passing there (r .in-range 0 (omega arith) (stands-first passing there 0 (omega arith)))
+            (r .in-range 1 (omega arith) (stands-first passing there 1 (omega arith)))
+
+  tried-of : {n : ℕ} → RecordCause years s n → Tried years s n
+  tried-of (years-outside y) = years-unknown y
+  tried-of (map-past y h) = head-short y h
+  tried-of (kind-above y h k) = kind-unknown y h k
   tried-of (bit-lacked h b t l) = map-lacks h (lacks-exactly (kindIn s) (mapIn s) (h .known) .1 (record { at = b; stands = t; holds = l }))
   tried-of (bit-missing h l m) = map-misses h (none-lacks h l) (missing h ∙ ap not m)
-  tried-of (field-past m h) =
-      fields-short (m .head) (none-lacks (m .head) (m .none-lacked)) (missing (m .head) ∙ ap not (m .all-matched))
-      (omega (arith, counted (m .head) (m .none-lacked)))
-  tried-of (field-outside b r t o) = fields-told r (field-number b 8 r t (rw o) (λ z. omega arith))
-  tried-of (field-spelled b r t i d) = fields-told r (field-number b 9 r t (rw (i, d)) (λ z. omega arith))
+  tried-of (field-past m h) = fields-short (passes-of m) (omega (arith, ends (passes-of m)))
+  tried-of (field-outside b i r t h o) = outside-told b r t i h o
+  tried-of (field-spelled b r t i d) = spelled-told b r t i d
 
-  pub cause-number : {n : ℕ} → RecordCause s n → refusalOf s ≡ n
-  cause-number c = tried-number s (tried-of c)
+  pub cause-number : {n : ℕ} → RecordCause years s n → refusalOf years s ≡ n
+  cause-number c = tried-number years s (tried-of c)
 
-  record-cause : (number : ℕ) → refusalOf s ≡ number → (number ≡ 0 → ⊥) → RecordCause s number
-  record-cause number e = cause-of (rw e at (tried s))
+  record-cause : (number : ℕ) → refusalOf years s ≡ number → (number ≡ 0 → ⊥) → RecordCause years s number
+  record-cause number e = cause-of (rw e at (tried years s))
 
   -- THE NUMBER IS THE FIRST CAUSE'S
-  pub record-cause-exactly : (n : ℕ) → ((refusalOf s ≡ n) × (n ≡ 0 → ⊥)) ↔ RecordCause s n
+  pub record-cause-exactly : (n : ℕ) → ((refusalOf years s ≡ n) × (n ≡ 0 → ⊥)) ↔ RecordCause years s n
   record-cause-exactly n = (λ h. record-cause n (h .0) (h .1), λ c. (cause-number c, cause-not-zero c))
 
   -- AND NONE IS FOUND WHERE THE READER REFUSES NOTHING
-  pub no-record-cause : (refusalOf s ≡ 0) ↔ ((n : ℕ) → RecordCause s n → ⊥)
-  no-record-cause = (λ e n c. cause-not-zero c (sym (cause-number c) ∙ e), λ none. by none (eqb (refusalOf s) 0) refl)
+  pub no-record-cause : (refusalOf years s ≡ 0) ↔ ((n : ℕ) → RecordCause years s n → ⊥)
+  no-record-cause = (λ e n c. cause-not-zero c (sym (cause-number c) ∙ e), λ none. by none (eqb (refusalOf years s) 0) refl)
     where
-      by : ((n : ℕ) → RecordCause s n → ⊥) → (b : Bool) → eqb (refusalOf s) 0 ≡ b → refusalOf s ≡ 0
-      by none true t = eqb-true (refusalOf s) 0 t
-      by none false t = absurd (none (refusalOf s) (record-cause (refusalOf s) refl (eqb-false (refusalOf s) 0 t)))
+      by : ((n : ℕ) → RecordCause years s n → ⊥) → (b : Bool) → eqb (refusalOf years s) 0 ≡ b → refusalOf years s ≡ 0
+      by none true t = eqb-true (refusalOf years s) 0 t
+      by none false t = absurd (none (refusalOf years s) (record-cause (refusalOf years s) refl (eqb-false (refusalOf years s) 0 t)))
 
   -- so the reader refuses with a number exactly where that cause is the first
-  pub refused-by-cause : (number : ℕ) → (readSite s ≡ Refused number) ↔ RecordCause s number
+  pub refused-by-cause : (number : ℕ) → (readSite years s ≡ Refused number) ↔ RecordCause years s number
   unfolding readSite
   refused-by-cause number = (told, λ c. rw (cause-number c, ne-eqb number 0 (cause-not-zero c)))
     where
-      told : readSite s ≡ Refused number → RecordCause s number
+      told : readSite years s ≡ Refused number → RecordCause years s number
       told e =
-          let n : refusalOf s ≡ number = sym (number-read s) ∙ ap readNumber e in
-          record-cause number n (λ z. let a = accept s (accepted s (n ∙ z)) in let c : _≡_ {A = ℕ} 0 1 = cc in omega arith)
+          let n : refusalOf years s ≡ number = sym (number-read years s) ∙ ap readNumber e in
+          record-cause number n (λ z. let a = accept years s (accepted years s (n ∙ z)) in let c : _≡_ {A = ℕ} 0 1 = cc in omega arith)

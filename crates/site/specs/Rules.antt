@@ -161,6 +161,17 @@ slotCount = 20
 abbrev pub inside : ℕ → ℕ → ℕ → Bool
 inside low high value = leb low value && leb value high
 
+-- "years Y, 1 to 10"
+abbrev pub mostYears : ℕ
+mostYears = 10
+
+abbrev pub yearsKnown : ℕ → Bool
+yearsKnown years = inside 1 mostYears years
+
+-- years two to ten
+abbrev pub laterYears : ℕ
+laterYears = 9
+
 -- a number that the rule takes
 abbrev pub allows : Rule → ℕ → Bool
 allows Foreign value = false

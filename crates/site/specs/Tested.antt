@@ -4,7 +4,7 @@ use mathlib.Core.Bool.{Bool, true, false, _&&_, _||_, not, true≢false}
 use mathlib.Core.List.{List, [], _∷_}
 use Prim.Native.Nat.{ℕ, zero, suc, _+_, _≤_}
 use native.Mathlib.Omega.{arith}
-use lib.ListN.{length, length-map}
+use lib.ListN.{length, getD, length-map}
 use lib.Dec.{leb, ltb, eqb}
 use borrow.Author.Tests.{eqb-true, leb-true}
 use Rattle.site.specs.declared.rules.Rule.{Rule}
@@ -142,6 +142,16 @@ tested-rules kind curved h =
       needs-curve = not-or (hasCurve entries) (needsCurve entries) n;
       tops-low = settle-every (λ entry. topLow (ruleOf entry)) topLow curved (settled-low curved) entries top;
     }
+
+-- the first field, and one of the two after it, always stand, and the other is foreign: "Bits 0 and 1 always stand"
+abbrev pub leads : List Rule → Bool
+leads rules =
+    needed (getD rules 0 Foreign)
+    && ((needed (getD rules 1 Foreign) && eqb (bits (getD rules 2 Foreign)) 0) || (eqb (bits (getD rules 1 Foreign)) 0 && needed (getD rules 2 Foreign)))
+
+pub rules-lead : (kind : ℕ) (curved : Bool) → kind ≤ lastKind → leads (settle curved (entriesOf kind)) ≡ true
+unfolding entriesOf
+rules-lead kind curved = by-kind (λ kind. leads (settle curved (entriesOf kind)) ≡ true) refl refl refl refl kind
 
 pub entries-count : (kind : ℕ) → kind ≤ lastKind → length (entriesOf kind) ≡ slotCount
 entries-count kind h = sym (length-map (entriesOf kind) (settled true)) ∙ tested-rules kind true h .count

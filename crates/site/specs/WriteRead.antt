@@ -1,28 +1,37 @@
 -- What is written is read back: field by field, then the curve, then the whole record.
-use mathlib.Core.Path.{_≡_, refl, ap, sym, _∙_}
-use mathlib.Core.Bool.{Bool, true, false, cond, _||_, not, and-false, or-true, true≢false}
+use mathlib.Core.Path.{_≡_, refl, ap, sym, subst, _∙_}
+use mathlib.Core.Bool.{Bool, true, false, cond, _&&_, _||_, not, and-false, or-true, true≢false}
 use mathlib.Core.List.{List, [], _∷_, _++_, append-assoc}
-use Prim.Native.Nat.{ℕ, zero, suc, _+_, _*_, _/_, _%_, _≤_}
-use native.Mathlib.Nat.{le-refl, le-trans}
+use Prim.Native.Nat.{ℕ, zero, suc, _+_, _-_, _*_, _/_, _%_, _^_, _<_, _≤_}
+use native.Mathlib.Nat.{le-refl, le-trans, lt-of-lt-of-le, pow-le-pow-right}
 use native.Mathlib.Omega.{arith}
-use lib.ListN.{length, length-append}
+use lib.ListN.{length, getD, drop, length-append}
+use lib.Seq.{drop-at, drop-drop}
 use lib.Dec.{eqb}
+use lib.Pow.{pow-pos, pow-add}
 use borrow.Author.Tests.{eqb-true, not-true}
 use Rattle.site.specs.declared.rules.Rule.{Rule}
+use Rattle.site.specs.declared.rules.Rule.the-variants.{Foreign}
 use Rattle.site.specs.declared.rules.Entry.{Entry}
 use Rattle.site.specs.declared.rules.Entry.the-variants.{Always, OnCurve}
 use Rattle.site.specs.declared.values.Slot.{Slot}
 use Rattle.site.specs.declared.values.Slot.the-variants.{Absent, Number}
 use Rattle.site.specs.declared.values.Site.{Site}
 use Rattle.site.specs.declared.values.SiteAnswer.the-variants.{Read}
-use Rattle.site.specs.Rules.{entriesOf, lastKind, slotCount, allows, absentOf, needed, lacking, bits, settle, absent, holds}
+use Rattle.site.specs.Yearly.{laterSlots, laterOf, laterGiven, laterMinor}
+use Rattle.site.specs.Yearly as years-given
+use Rattle.site.specs.Rules.{entriesOf, lastKind, yearsKnown, laterYears, slotCount, allows, absentOf, needed, lacking, bits, settle, absent, holds}
 use Rattle.site.specs.Record.{bitOf, stands, lackedBitStands, neededBitAbsent, anyField, lacks, misses, curved, rulesRead}
-use Rattle.site.specs.Record.{words, fieldNumber, fieldValue, after, fieldsNumber, fieldsValues, siteOf, readSite}
-use Rattle.site.specs.Writing.{slotsOf, curveHeld, rulesHeld, fits, allFit, slotBit, mapOf, slotBytes, fieldBytes, bytesOf, recordBy, recordOf, Valid}
+use Rattle.site.specs.Record.{words, fieldNumber, fieldValue, after, fieldsNumber, fieldsValues, siteOf, yearlyBit, fieldMap, wholeMapIn, mapIn}
+use Rattle.site.specs.Record.{rulesIn, laterIn, minorIn, gathered, fieldsIn, laterRead, laterAllowed, laterAt, minorAt, lengthIn, siteIn, missesIn, readSite}
+use Rattle.site.specs.Writing.{slotsOf, curveHeld, rulesHeld, fits, allFit, slotBit, mapOf, slotBytes, fieldBytes, bytesOf}
+use Rattle.site.specs.Writing.{laterBytes, spreadBytes, recordBy, recordOf, laterFits, Valid}
 use Rattle.laws.specs.Truth.{and-left, and-right, not-both, never-so}
 use Rattle.site.specs.Digits.{digit-low, digit-rest, two-bytes}
-use Rattle.site.specs.Ranges.{valid-fits, valid-kind}
-use Rattle.site.specs.Tested.{right, entryRight, hasCurve, needsCurve, bits-most, every}
+use Rattle.site.specs.Ranges.{tests, valid-kind}
+use Rattle.site.specs.Tested.{right, entryRight, hasCurve, needsCurve, bitCount, bits-most, every, leads, rules-lead}
+use Rattle.laws.specs.Walk.{next}
+use Rattle.site.specs.LaterLaws.{bit-of-whole, fields-of-whole, gathered-spread, past, LaterReadBack, later-read-back}
 use Rattle.site.specs.Tested.{allows-bit, needed-bit, tested-rules, entries-count}
 use Rattle.site.specs.Accepted.{Accepted, accept}
 
@@ -46,6 +55,34 @@ slot-bit-most rule (Number value) = by (holds (absentOf rule) value)
     by : (b : Bool) → cond b 0 (bits rule) ≤ bits rule
     by true = omega arith
     by false = le-refl (bits rule)
+
+-- a map is below 2 to its count of bits
+map-below : (rules : List Rule) (slots : List Slot) → mapOf rules slots < 2 ^ bitCount rules
+unfolding mapOf bitCount
+map-below [] slots = pow-pos 0
+map-below (rule ∷ rules) [] = pow-pos (bits rule + bitCount rules)
+map-below (rule ∷ rules) (slot ∷ slots) =
+    rw (pow-add 2 (bits rule) (bitCount rules)) (by (bits rule) (slotBit rule slot) (bits-most rule) (slot-bit-most rule slot) (map-below rules slots))
+  where
+    by : (b d : ℕ) → b ≤ 1 → d ≤ b → mapOf rules slots < 2 ^ bitCount rules
+        → d + (1 + b) * mapOf rules slots < 2 ^ b * 2 ^ bitCount rules
+    by zero d h k l = omega arith
+    by (suc zero) d h k l = omega arith
+    by (suc (suc b)) d h k l = let z : ⊥ = omega arith in absurd z
+
+bits-left : (rules : List Rule) (i : ℕ) → bitCount (drop i rules) ≤ bitCount rules
+unfolding bitCount
+bits-left [] zero = omega arith
+bits-left [] (suc i) = omega arith
+bits-left (rule ∷ rules) zero = omega arith
+bits-left (rule ∷ rules) (suc i) = omega (arith, bits-left rules i)
+
+pub map-small : (rules : List Rule) (slots : List Slot) (i : ℕ) → bitCount rules ≤ 15
+    → mapOf (drop i rules) (drop i slots) < 32768
+map-small rules slots i h = by (bitCount (drop i rules)) (map-below (drop i rules) (drop i slots)) (omega (arith, bits-left rules i))
+  where
+    by : (n : ℕ) → mapOf (drop i rules) (drop i slots) < 2 ^ n → n ≤ 15 → mapOf (drop i rules) (drop i slots) < 32768
+    by n l k = let two : 0 < 2 = omega arith in lt-of-lt-of-le l (pow-le-pow-right two k)
 
 -- what one field that is written says to the reader
 record FieldReadBack (rule : Rule) (slot : Slot) (map : ℕ) (t : List ℕ) : Type 0 where
@@ -211,34 +248,268 @@ curve-kept kind slots hk l f = by (curveHeld (entriesOf kind) slots) refl f
     by true q g = curve-written (entriesOf kind) slots same g (tested-rules kind true hk .needs-curve (held-has (entriesOf kind) slots q))
     by false q g = straight-written (entriesOf kind) slots (tested-rules kind false hk .entries-right) same q
 
-module _ (kind : ℕ) (slots : List Slot) (t : List ℕ) (hk : kind ≤ lastKind) (l : length slots ≡ slotCount)
-    (f : allFit (rulesHeld kind slots) slots ≡ true) where
-  same-rules : rulesRead kind (mapOf (rulesHeld kind slots) slots) ≡ rulesHeld kind slots
+-- every slot is within its rule
+all-fit-at : (rules : List Rule) (slots : List Slot) → allFit rules slots ≡ true → length slots ≡ length rules
+    → (i : ℕ) → i < length rules → fits (getD rules i Foreign) (getD slots i Absent) ≡ true
+unfolding allFit
+all-fit-at [] slots f l i h = absurd (omega arith)
+all-fit-at (rule ∷ rules) [] f l i h = absurd (omega arith)
+all-fit-at (rule ∷ rules) (slot ∷ slots) f l zero h = and-left (fits rule slot) _ f
+all-fit-at (rule ∷ rules) (slot ∷ slots) f l (suc i) h = all-fit-at rules slots (and-right (fits rule slot) _ f) (omega arith) i (omega arith)
+
+-- WHERE THE LATER VALUES STAND: after the field of bit 0, and after that of bit 1
+module _ (rules : List Rule) (slots : List Slot) where
+  abbrev pub firstField : List ℕ
+  firstField = fieldBytes (getD rules 0 Foreign) (getD slots 0 Absent)
+
+  abbrev pub secondField : List ℕ
+  secondField = fieldBytes (getD rules 1 Foreign) (getD slots 1 Absent) ++ fieldBytes (getD rules 2 Foreign) (getD slots 2 Absent)
+
+  abbrev pub otherFields : List ℕ
+  otherFields = bytesOf (drop 3 rules) (drop 3 slots)
+
+  pub spread-parts : (traffic minor t : List ℕ)
+      → spreadBytes rules slots traffic minor ++ t ≡ firstField ++ (traffic ++ (secondField ++ (minor ++ (otherFields ++ t))))
+  unfolding spreadBytes
+  spread-parts traffic minor t = simp append-assoc
+
+  module _ (lr : length rules ≡ slotCount) (ls : length slots ≡ slotCount) where
+    pub bytes-parts : bytesOf rules slots ≡ firstField ++ (secondField ++ otherFields)
+    unfolding bytesOf
+    bytes-parts =
+        let a : 0 < length rules = omega arith in
+        let b : 1 < length rules = omega arith in
+        let c : 2 < length rules = omega arith in
+        let d : 0 < length slots = omega arith in
+        let e : 1 < length slots = omega arith in
+        let f : 2 < length slots = omega arith in
+        let one = fieldBytes (getD rules 1 Foreign) (getD slots 1 Absent) in
+        let two = fieldBytes (getD rules 2 Foreign) (getD slots 2 Absent) in
+        ap (λ (l : List Rule). bytesOf l slots) (next rules 0 Foreign a)
+        ∙ ap (λ (l : List Slot). bytesOf (getD rules 0 Foreign ∷ drop 1 rules) l) (next slots 0 Absent d)
+        ∙ ap (λ (l : List Rule). firstField ++ bytesOf l (drop 1 slots)) (next rules 1 Foreign b)
+        ∙ ap (λ (l : List Slot). firstField ++ bytesOf (getD rules 1 Foreign ∷ drop 2 rules) l) (next slots 1 Absent e)
+        ∙ ap (λ (l : List Rule). firstField ++ (one ++ bytesOf l (drop 2 slots))) (next rules 2 Foreign c)
+        ∙ ap (λ (l : List Slot). firstField ++ (one ++ bytesOf (getD rules 2 Foreign ∷ drop 3 rules) l)) (next slots 2 Absent f)
+        ∙ ap (λ (l : List ℕ). firstField ++ l) (sym (append-assoc one two otherFields))
+
+    -- these two fields have a number each
+    module _ (lead : leads rules ≡ true) (fit : allFit rules slots ≡ true) where
+      fits-at : (i : ℕ) → i < slotCount → fits (getD rules i Foreign) (getD slots i Absent) ≡ true
+      fits-at i h = all-fit-at rules slots fit (ls ∙ sym lr) i (omega arith)
+
+      bit-at : (i : ℕ) → i < slotCount → needed (getD rules i Foreign) ≡ true → slotBit (getD rules i Foreign) (getD slots i Absent) ≡ 1
+      bit-at i h n = needed-written (getD rules i Foreign) (getD slots i Absent) n (fits-at i h)
+
+      no-bit-at : (i : ℕ) → eqb (bits (getD rules i Foreign)) 0 ≡ true → slotBit (getD rules i Foreign) (getD slots i Absent) ≡ 0
+      no-bit-at i e = omega (arith, slot-bit-most (getD rules i Foreign) (getD slots i Absent), eqb-true (bits (getD rules i Foreign)) 0 e)
+
+      pub first-long : length firstField ≡ 2
+      first-long =
+          omega (arith, length-field (getD rules 0 Foreign) (getD slots 0 Absent), bit-at 0 (omega arith) (and-left (needed (getD rules 0 Foreign)) _ lead))
+
+      one-stands : (a b c d : Bool) → needed (getD rules 1 Foreign) ≡ a → eqb (bits (getD rules 2 Foreign)) 0 ≡ b
+          → eqb (bits (getD rules 1 Foreign)) 0 ≡ c → needed (getD rules 2 Foreign) ≡ d → ((a && b) || (c && d)) ≡ true
+          → slotBit (getD rules 1 Foreign) (getD slots 1 Absent) + slotBit (getD rules 2 Foreign) (getD slots 2 Absent) ≡ 1
+      one-stands true true c d p q r u e = omega (arith, bit-at 1 (omega arith) p, no-bit-at 2 q)
+      one-stands true false true true p q r u e = omega (arith, bit-at 2 (omega arith) u, no-bit-at 1 r)
+      one-stands false b true true p q r u e = omega (arith, bit-at 2 (omega arith) u, no-bit-at 1 r)
+      one-stands true false true false p q r u e = absurd (true≢false (sym e))
+      one-stands true false false d p q r u e = absurd (true≢false (sym e))
+      one-stands false b true false p q r u e = absurd (true≢false (sym e))
+      one-stands false b false d p q r u e = absurd (true≢false (sym e))
+
+      pub second-long : length secondField ≡ 2
+      second-long =
+          omega (
+            arith,
+            length-append (fieldBytes (getD rules 1 Foreign) (getD slots 1 Absent)) (fieldBytes (getD rules 2 Foreign) (getD slots 2 Absent)),
+            length-field (getD rules 1 Foreign) (getD slots 1 Absent),
+            length-field (getD rules 2 Foreign) (getD slots 2 Absent),
+            one-stands _ _ _ _ refl refl refl refl (and-right (needed (getD rules 0 Foreign)) _ lead),
+          )
+
+-- A RECORD READ BACK, with later values after each traffic or without
+module _ (years kind : ℕ) (slots : List Slot) (yearly : Bool) (traffic minor : List Slot) (t : List ℕ) (known : yearsKnown years ≡ true)
+    (hk : kind ≤ lastKind) (l : length slots ≡ slotCount) (f : allFit (rulesHeld kind slots) slots ≡ true)
+    (lt : length traffic ≡ laterYears) (lm : length minor ≡ laterYears) (spans : (yearly && eqb years 1) ≡ false)
+    (ft : laterFits (cond yearly (years - 1) 0) traffic ≡ true) (fm : laterFits (laterMinor kind (cond yearly (years - 1) 0)) minor ≡ true) where
+  abbrev rules : List Rule
+  rules = rulesHeld kind slots
+
+  abbrev map : ℕ
+  map = mapOf rules slots
+
+  abbrev later : ℕ
+  later = cond yearly (years - 1) 0
+
+  abbrev others : List ℕ
+  others = otherFields rules slots ++ t
+
+  abbrev fields : List ℕ
+  fields = firstField rules slots ++ (laterBytes traffic ++ (secondField rules slots ++ (laterBytes minor ++ others)))
+
+  abbrev whole : List ℕ
+  whole = kind ∷ (map + cond yearly 32768 0) / 256 ∷ (map + cond yearly 32768 0) % 256 ∷ fields
+
+  same-rules : rulesRead kind map ≡ rules
   same-rules = ap (λ (c : Bool). settle c (entriesOf kind)) (curve-kept kind slots hk l f)
 
-  same-count : length slots ≡ length (rulesHeld kind slots)
-  same-count = l ∙ sym (tested-rules _ _ hk .count)
+  rules-count : length rules ≡ slotCount
+  rules-count = tested-rules _ _ hk .count
 
-  read-back : readSite (recordBy (rulesHeld kind slots) kind slots ++ t) ≡ Read (siteOf kind slots) (length (recordBy (rulesHeld kind slots) kind slots))
+  small : map < 32768
+  small = map-small rules slots 0 (tested-rules _ _ hk .few)
+
+  map-is : mapIn whole ≡ map
+  map-is = rw (two-bytes (map + cond yearly 32768 0)) (fields-of-whole map small yearly)
+
+  bit-is : yearlyBit (wholeMapIn whole) ≡ cond yearly 1 0
+  bit-is = rw (two-bytes (map + cond yearly 32768 0)) (bit-of-whole map small yearly)
+
+  later-is : laterIn years whole ≡ later
+  later-is = rw bit-is (by yearly)
+    where
+      by : (b : Bool) → cond b 1 0 * (years - 1) ≡ cond b (years - 1) 0
+      by true = omega arith
+      by false = omega arith
+
+  first-two : length (firstField rules slots) ≡ 2
+  first-two = first-long rules slots rules-count l (rules-lead _ _ hk) f
+
+  second-two : length (secondField rules slots) ≡ 2
+  second-two = second-long rules slots rules-count l (rules-lead _ _ hk) f
+
+  traffic-back : LaterReadBack laterYears later traffic (secondField rules slots ++ (laterBytes minor ++ others))
+  traffic-back = later-read-back laterYears later traffic _ lt ft
+
+  minor-back : LaterReadBack laterYears (laterMinor kind later) minor others
+  minor-back = later-read-back laterYears (laterMinor kind later) minor _ lm fm
+
+  -- the fields without the later values, and these
+  fields-are : fieldsIn years whole ≡ bytesOf rules slots ++ t
+  fields-are =
+      rw later-is
+      (gathered-spread later (laterMinor kind later) (firstField rules slots) (laterBytes traffic) (secondField rules slots) (laterBytes minor) others
+      first-two (traffic-back .long) second-two (minor-back .long)
+      ∙ joined (firstField rules slots) (secondField rules slots) (otherFields rules slots)
+      ∙ ap (λ (x : List ℕ). x ++ t) (sym (bytes-parts rules slots rules-count l)))
+    where
+      joined : (a b r : List ℕ) → a ++ (b ++ (r ++ t)) ≡ (a ++ (b ++ r)) ++ t
+      joined a b r = sym (append-assoc a (b ++ r) t ∙ ap (λ (x : List ℕ). a ++ x) (append-assoc b r t))
+
+  traffic-at : laterAt whole ≡ laterBytes traffic ++ (secondField rules slots ++ (laterBytes minor ++ others))
+  traffic-at = drop-at (firstField rules slots) _ 2 first-two
+
+  minor-at : minorAt years whole ≡ laterBytes minor ++ others
+  minor-at =
+      let e : 7 + 2 * later ≡ 3 + (2 + 2 * later + 2) = omega arith in
+      rw (later-is, e)
+      (sym (drop-drop (2 + 2 * later + 2) 3 whole) ∙ sym (drop-drop 2 (2 + 2 * later) fields)
+      ∙ ap (drop 2) (past later (firstField rules slots) (laterBytes traffic) _ first-two (traffic-back .long))
+      ∙ drop-at (secondField rules slots) _ 2 second-two)
+
+  traffic-read : laterRead laterYears (laterIn years whole) (laterAt whole) ≡ traffic
+  traffic-read = rw (later-is, traffic-at) (traffic-back .values)
+
+  minor-read : laterRead laterYears (minorIn years whole) (minorAt years whole) ≡ minor
+  minor-read = rw (minor-at, later-is) (minor-back .values)
+
+  fields-back : FieldsReadBack rules slots t
+  fields-back = fields-read-back rules slots t f (l ∙ sym rules-count)
+
+  words-are : words (rulesIn whole) (mapIn whole) ≡ words rules map
+  words-are = rw (map-is, same-rules) refl
+
+  spread-long : length (spreadBytes rules slots (laterBytes traffic) (laterBytes minor)) ≡ 2 * (words rules map + (later + laterMinor kind later))
+  unfolding spreadBytes
+  spread-long =
+      let first = firstField rules slots in
+      let one = fieldBytes (getD rules 1 Foreign) (getD slots 1 Absent) in
+      let two = fieldBytes (getD rules 2 Foreign) (getD slots 2 Absent) in
+      let rest = otherFields rules slots in
+      let T = laterBytes traffic in
+      let M = laterBytes minor in
+      omega (
+        arith,
+        length-bytes rules slots (l ∙ sym rules-count),
+        ap length (bytes-parts rules slots rules-count l),
+        first-two,
+        second-two,
+        length-append first (secondField rules slots ++ rest),
+        length-append (secondField rules slots) rest,
+        length-append one two,
+        length-append first (T ++ (one ++ (two ++ (M ++ rest)))),
+        length-append T (one ++ (two ++ (M ++ rest))),
+        length-append one (two ++ (M ++ rest)),
+        length-append two (M ++ rest),
+        length-append M rest,
+        traffic-back .long,
+        minor-back .long,
+      )
+
+  length-is : lengthIn years whole ≡ 3 + length (spreadBytes rules slots (laterBytes traffic) (laterBytes minor))
+  length-is = rw (words-are, later-is) (omega (arith, spread-long))
+
+  accepts : Accepted years whole
+  accepts =
+      record {
+        passes = record {
+          head = record { years-in = known; long = omega arith; known = hk };
+          lack = rw (map-is, same-rules) (fields-back .lack);
+          miss = rw (map-is, same-rules, fields-back .miss, bit-is) (several yearly spans);
+        };
+        full = omega (
+          arith,
+          length-is,
+          ap length (spread-parts rules slots (laterBytes traffic) (laterBytes minor) t),
+          length-append (spreadBytes rules slots (laterBytes traffic) (laterBytes minor)) t,
+        );
+        later-in = rw (minor-at, later-is, traffic-at, traffic-back .right, minor-back .right);
+        no-field-refused = rw (fields-are, map-is, same-rules) (fields-back .number);
+      }
+    where
+      several : (b : Bool) → (b && eqb years 1) ≡ false → (eqb (cond b 1 0) 1 && eqb years 1) ≡ false
+      several true e = e
+      several false e = refl
+
+  site-is : siteIn years whole ≡ siteOf kind slots (laterOf traffic) (laterOf minor)
+  site-is =
+      let values : fieldsValues (rulesIn whole) (mapIn whole) (fieldsIn years whole) ≡ slots = rw (fields-are, map-is, same-rules) (fields-back .values) in
+      ap (λ (x : List Slot). siteOf kind x (laterOf (laterRead laterYears (laterIn years whole) (laterAt whole))) (laterOf (laterRead laterYears (minorIn years whole) (minorAt years whole)))) values
+      ∙ ap (λ (x : List Slot). siteOf kind slots (laterOf x) (laterOf (laterRead laterYears (minorIn years whole) (minorAt years whole)))) traffic-read
+      ∙ ap (λ (x : List Slot). siteOf kind slots (laterOf traffic) (laterOf x)) minor-read
+
+  read-back : readSite years (recordBy rules kind slots yearly traffic minor ++ t)
+      ≡ Read (siteOf kind slots (laterOf traffic) (laterOf minor)) (length (recordBy rules kind slots yearly traffic minor))
   unfolding recordBy
   read-back =
-      let rules = rulesHeld kind slots in
-      let map = mapOf rules slots in
-      let s = kind ∷ map / 256 ∷ map % 256 ∷ (bytesOf rules slots ++ t) in
-      let bs = fields-read-back rules slots t f same-count in
-      let n = length-bytes rules slots same-count in
-      let a : Accepted s =
-      record {
-        long = omega arith;
-        known = hk;
-        lack = rw (two-bytes map, same-rules) (bs .lack);
-        miss = rw (two-bytes map, same-rules) (bs .miss);
-        full = rw (two-bytes map, same-rules) (omega (arith, length-append (bytesOf rules slots) t));
-        no-field-refused = rw (two-bytes map, same-rules) (bs .number);
-      }
-      in
-      accept s a ∙ rw (two-bytes map, same-rules, bs .values) (ap (Read (siteOf kind slots)) (omega arith))
+      ap (λ (x : List ℕ). readSite years (kind ∷ (map + cond yearly 32768 0) / 256 ∷ (map + cond yearly 32768 0) % 256 ∷ x))
+      (spread-parts rules slots (laterBytes traffic) (laterBytes minor) t)
+      ∙ accept years whole accepts ∙ ap (λ (x : Site). Read x (lengthIn years whole)) site-is
+      ∙ ap (Read (siteOf kind slots (laterOf traffic) (laterOf minor))) (length-is ∙ omega arith)
+
+first-absent : (slot : Slot) (later : ℕ) (slots : List Slot) → later ≡ 0 → laterFits later (slot ∷ slots) ≡ true → absent slot ≡ true
+unfolding laterFits
+first-absent slot zero slots z e = and-left (absent slot) _ e
+first-absent slot (suc later) slots z e = absurd (omega arith)
+
+-- a site with later values is one of several years
+several-years : (years : ℕ) (site : Site) → Valid years site → (years-given.yearly site && eqb years 1) ≡ false
+several-years years site v = by (site .«later_traffic» .second) refl (eqb years 1) refl
+  where
+    by : (slot : Slot) → site .«later_traffic» .second ≡ slot → (b : Bool) → eqb years 1 ≡ b → (not (absent slot) && b) ≡ false
+    by Absent e b q = refl
+    by (Number value) e false q = refl
+    by (Number value) e true q =
+        let one = eqb-true years 1 q in
+        let none : laterGiven years site ≡ 0 = rw e (omega arith) in
+        let z = first-absent (site .«later_traffic» .second) (laterGiven years site) _ none (tests years site v .later-traffic) in
+        absurd (true≢false (sym (rw e at z)))
 
 -- for every site that the writer takes: what it emits, followed by any bytes, reads back as the same site
-pub write-read : (site : Site) (t : List ℕ) → Valid site → readSite (recordOf site ++ t) ≡ Read site (length (recordOf site))
-write-read site t v = read-back (site .kind) (slotsOf site) t (valid-kind site v) refl (valid-fits site v (site .kind) refl)
+pub write-read : (years : ℕ) (site : Site) (t : List ℕ) → Valid years site → readSite years (recordOf site ++ t) ≡ Read site (length (recordOf site))
+write-read years site t v =
+    let c = tests years site v in
+    read-back years (site .kind) (slotsOf site) (years-given.yearly site) (laterSlots (site .«later_traffic»)) (laterSlots (site .«later_minor»)) t
+    (c .years-in) (valid-kind years site v) refl (c .fit) refl refl (several-years years site v) (c .later-traffic) (c .later-minor)

@@ -1,11 +1,12 @@
 -- Writing: what the site writer answers for a site, and what it leaves in the buffer.
-use Prim.Native.Nat.{ℕ, _+_, _*_, _/_, _%_}
+use Prim.Native.Nat.{ℕ, zero, suc, _+_, _*_, _/_, _%_}
 use mathlib.Core.Path.{_≡_}
 use mathlib.Core.Bool.{Bool, true, false, cond, _&&_, _||_, not}
 use mathlib.Core.List.{List, [], _∷_, _++_}
-use lib.ListN.{length}
+use lib.ListN.{length, getD, drop}
 use lib.Dec.{leb, eqb}
 use Rattle.site.specs.declared.rules.Rule.{Rule}
+use Rattle.site.specs.declared.rules.Rule.the-variants.{Foreign}
 use Rattle.site.specs.declared.rules.Entry.{Entry}
 use Rattle.site.specs.declared.values.Slot.{Slot}
 use Rattle.site.specs.declared.values.Slot.the-variants.{Absent, Number}
@@ -13,7 +14,8 @@ use Rattle.site.specs.declared.values.Site.{Site}
 use Rattle.site.specs.declared.values.Measure.{Measure}
 use Rattle.site.specs.declared.values.Measure.the-variants.{Length, OutsideRange}
 use Rattle.site.specs.declared.values.WriteAnswer.{WriteAnswer}
-use Rattle.site.specs.Rules.{entriesOf, lastKind, allows, absentOf, needed, bits, onCurve, settle, absent, holds}
+use Rattle.site.specs.Rules.{entriesOf, lastKind, yearsKnown, traffic, allows, absentOf, needed, bits, onCurve, settle, absent, holds}
+use Rattle.site.specs.Yearly.{laterSlots, yearly, laterGiven, laterMinor}
 use Rattle.site.specs.Answers.{wroteAnswer}
 use Rattle.laws.specs.Lent.{laid}
 
@@ -88,34 +90,72 @@ bytesOf [] slots = []
 bytesOf (rule ∷ rules) [] = []
 bytesOf (rule ∷ rules) (slot ∷ slots) = fieldBytes rule slot ++ bytesOf rules slots
 
--- "A record is a kind byte, a two-byte bit map, then two bytes for each bit that stands"
-unfoldable pub recordBy : List Rule → ℕ → List Slot → List ℕ
-recordBy rules kind slots = kind ∷ (twoBytes (mapOf rules slots) ++ bytesOf rules slots)
+-- document 02, request 4: the later values, year by year
+unfoldable pub laterBytes : List Slot → List ℕ
+laterBytes [] = []
+laterBytes (slot ∷ slots) = slotBytes slot ++ laterBytes slots
+
+-- "each traffic field is followed by Y − 1 more values": the fields of traffic, length and minor traffic and of all others, with the
+-- later values of traffic and of minor traffic after each
+unfoldable pub spreadBytes : List Rule → List Slot → (traffic minor : List ℕ) → List ℕ
+spreadBytes rules slots traffic minor =
+    fieldBytes (getD rules 0 Foreign) (getD slots 0 Absent)
+    ++ (traffic
+    ++ (fieldBytes (getD rules 1 Foreign) (getD slots 1 Absent)
+    ++ (fieldBytes (getD rules 2 Foreign) (getD slots 2 Absent)
+    ++ (minor
+    ++ bytesOf (drop 3 rules) (drop 3 slots)))))
+
+-- "A record is a kind byte, a two-byte bit map, then two bytes for each bit that stands", and bit 15 where there are later values
+unfoldable pub recordBy : List Rule → (kind : ℕ) → List Slot → (yearly : Bool) → (traffic minor : List Slot) → List ℕ
+recordBy rules kind slots yearly traffic minor =
+    kind ∷ (twoBytes (mapOf rules slots + cond yearly 32768 0) ++ spreadBytes rules slots (laterBytes traffic) (laterBytes minor))
 
 abbrev pub recordOf : Site → List ℕ
-recordOf site = recordBy (rulesHeld (site .kind) (slotsOf site)) (site .kind) (slotsOf site)
+recordOf site =
+    recordBy (rulesHeld (site .kind) (slotsOf site)) (site .kind) (slotsOf site)
+    (yearly site) (laterSlots (site .«later_traffic»)) (laterSlots (site .«later_minor»))
+
+-- "The site writer counts yearly values with Y = 1, or not Y − 1 of them for each traffic field, as outside the range": the first
+-- later years have a value, within the traffic's range, and the others hold no number
+unfoldable pub laterFits : ℕ → List Slot → Bool
+laterFits later [] = eqb later 0
+laterFits zero (slot ∷ slots) = absent slot && laterFits zero slots
+laterFits (suc later) (slot ∷ slots) = fits traffic slot && laterFits later slots
+
+abbrev pub laterSound : (years : ℕ) → Site → Bool
+laterSound years site =
+    laterFits (laterGiven years site) (laterSlots (site .«later_traffic»))
+    && laterFits (laterMinor (site .kind) (laterGiven years site)) (laterSlots (site .«later_minor»))
 
 -- nothing of a site is outside its range: "a kind above 3, a value that the kind lacks, half a curve, or a spiral or D on a
 -- straight road counts as outside its range"
-unfoldable pub sound : Site → Bool
-sound site = leb (site .kind) lastKind && allFit (rulesHeld (site .kind) (slotsOf site)) (slotsOf site)
+unfoldable pub soundSite : (years : ℕ) → Site → Bool
+soundSite years site =
+    leb (site .kind) lastKind && (allFit (rulesHeld (site .kind) (slotsOf site)) (slotsOf site) && laterSound years site)
 
--- a site that the writer takes, and a record can be read as
-pub record Valid (site : Site) : Type 0 where
-  pub is-sound : sound site ≡ true
+-- nor are the years
+unfoldable pub sound : (years : ℕ) → Site → Bool
+sound years site = yearsKnown years && soundSite years site
+
+-- a site that the writer takes, and a record can be read as, in a project of so many years
+pub record Valid (years : ℕ) (site : Site) : Type 0 where
+  pub is-sound : sound years site ≡ true
 
 -- what a site measures: the length of its record
-unfoldable pub measureOf : Site → Measure
-measureOf site = cond (sound site) (Length (length (recordOf site))) OutsideRange
+unfoldable pub measureOf : (years : ℕ) → Site → Measure
+measureOf years site = cond (sound years site) (Length (length (recordOf site))) OutsideRange
 
--- "It refuses only with 8, then 10": the writer's number where the buffer has so much room
-unfoldable pub writeRefusal : Site → ℕ → ℕ
-writeRefusal site room = cond (sound site) (cond (leb (length (recordOf site)) room) 0 10) 8
+-- years "outside its limits is .. 4 .., tried first"; then "It refuses only with 8, then 10": the writer's number where the buffer has
+-- so much room
+unfoldable pub writeRefusal : (years : ℕ) → Site → ℕ → ℕ
+writeRefusal years site room =
+    cond (yearsKnown years) (cond (soundSite years site) (cond (leb (length (recordOf site)) room) 0 10) 8) 4
 
 -- what the site writer answers
-unfoldable pub writeAnswer : Site → ℕ → WriteAnswer
-writeAnswer site room = wroteAnswer (writeRefusal site room) (length (recordOf site))
+unfoldable pub writeAnswer : (years : ℕ) → Site → ℕ → WriteAnswer
+writeAnswer years site room = wroteAnswer (writeRefusal years site room) (length (recordOf site))
 
 -- the buffer afterwards
-unfoldable pub writeInto : Site → List ℕ → List ℕ
-writeInto site before = cond (sound site) (laid (recordOf site) before) before
+unfoldable pub writeInto : (years : ℕ) → Site → List ℕ → List ℕ
+writeInto years site before = cond (sound years site) (laid (recordOf site) before) before

@@ -4,7 +4,7 @@ ghost use mathlib.Core.Path.{_≡_};
 ghost use Prim.Native.Nat.{_≤_};
 ghost use lib.ListN.{length};
 ghost use Rattle.site.specs.Rules.{segment, crossing, entriesOf, lastKind, slotCount, inside, allows, absentOf};
-ghost use Rattle.site.specs.Rules.{needed, lacking, bits, ruleOf, onCurve, settled, settle, absent, holds};
+ghost use Rattle.site.specs.Rules.{needed, lacking, bits, ruleOf, onCurve, settled, settle, absent, holds, yearsKnown};
 use crate::values::Slot;
 
 // What a kind says of a field. Ranges are from the first number to the second; the third is the
@@ -40,11 +40,16 @@ pub const SLOTS: usize = 20;
 
 pub const LAST_KIND: u8 = 3;
 
-// Kind, map and 15 fields, in bytes.
-pub const LONGEST_RECORD: usize = 33;
+const MOST_YEARS: u64 = 10;
+
+// Years two to ten.
+pub const LATER_YEARS: usize = 9;
+
+// Kind, map and the 7 fields of a crossing, with the later years of both traffics, in bytes.
+pub const LONGEST_RECORD: usize = 53;
 
 // Document 01's ranges and defaults, each once.
-const TRAFFIC: Rule = Needed(1, 20000);
+pub const TRAFFIC: Rule = Needed(1, 20000);
 
 const LENGTH: Rule = Needed(1, 20000);
 
@@ -146,6 +151,13 @@ fn is_inside(low: u16, high: u16, value: u16) -> bool
     ensures { λ r. ⌜ r ≡ inside low high value ⌝ }
 {
     low <= value && value <= high
+}
+
+// Whether a project can have so many years.
+pub fn are_years_known(years: u64) -> bool
+    ensures { λ r. ⌜ r ≡ yearsKnown years ⌝ }
+{
+    1 <= years && years <= MOST_YEARS
 }
 
 // A number that the rule takes.

@@ -1,8 +1,12 @@
 // A site's values, what it is made of, and what the reader and the writer answer.
 ghost use mathlib.Core.Path.{_≡_};
+ghost use Prim.Native.Nat.{_≤_};
+ghost use Rattle.site.specs.Yearly.{laterOf, laterSlots, yearly, laterMinor};
 ghost use Rattle.site.specs.Record.{siteOf};
 ghost use Rattle.site.specs.Writing.{slotsOf};
+use crate::rules::LATER_YEARS;
 use crate::rules::SLOTS;
+use crate::rules::is_absent;
 
 // What a field holds. An absent history, the curve of a straight road, and a field that the kind
 // lacks hold no number.
@@ -11,9 +15,23 @@ pub enum Slot {
     Number(u16),
 }
 
+// A traffic in each year after the first; a year that is not given holds no number.
+pub struct Later {
+    pub second: Slot,
+    pub third: Slot,
+    pub fourth: Slot,
+    pub fifth: Slot,
+    pub sixth: Slot,
+    pub seventh: Slot,
+    pub eighth: Slot,
+    pub ninth: Slot,
+    pub tenth: Slot,
+}
+
 // One site. The slots stand in the rising order of the bits of each kind: a segment's bits skip
 // minor_traffic and end at hazard_rating, a crossing's are traffic, minor_traffic, observed and
-// skew to limited_sight. Kinds above 3 can be held, and no record has one.
+// skew to limited_sight. Kinds above 3 can be held, and no record has one. The later years of each
+// traffic stand last.
 pub struct Site {
     pub kind: u8,
     pub traffic: Slot,
@@ -36,11 +54,72 @@ pub struct Site {
     pub left_lanes: Slot,
     pub right_lanes: Slot,
     pub limited_sight: Slot,
+    pub later_traffic: Later,
+    pub later_minor: Later,
 }
 
-// A site of its kind and its slots.
-pub fn site_of(kind: u8, slots: [Slot; SLOTS]) -> Site
-    ensures { λ r. ⌜ r ≡ siteOf kind slots ⌝ }
+// The later years of nine slots, year by year.
+pub fn later_of(slots: [Slot; LATER_YEARS]) -> Later
+    ensures { λ r. ⌜ r ≡ laterOf slots ⌝ }
+{
+    Later {
+        second: slots[0],
+        third: slots[1],
+        fourth: slots[2],
+        fifth: slots[3],
+        sixth: slots[4],
+        seventh: slots[5],
+        eighth: slots[6],
+        ninth: slots[7],
+        tenth: slots[8],
+    }
+}
+
+// And their slots.
+pub fn later_slots(later: Later) -> [Slot; LATER_YEARS]
+    ensures { λ r. ⌜ r ≡ laterSlots later ⌝ }
+{
+    let second = later.second;
+    let third = later.third;
+    let fourth = later.fourth;
+    let fifth = later.fifth;
+    let sixth = later.sixth;
+    let seventh = later.seventh;
+    let eighth = later.eighth;
+    let ninth = later.ninth;
+    let tenth = later.tenth;
+    [
+        second,
+        third,
+        fourth,
+        fifth,
+        sixth,
+        seventh,
+        eighth,
+        ninth,
+        tenth,
+    ]
+}
+
+// Whether a site has a traffic for each year.
+pub fn is_yearly(site: Site) -> bool
+    ensures { λ r. ⌜ r ≡ yearly site ⌝ }
+{
+    let later = site.later_traffic;
+    let second = later.second;
+    !is_absent(second)
+}
+
+// How many later values follow the minor traffic: as many as the traffic, which a segment does not have.
+pub fn minor_later(kind: u8, later: usize) -> usize
+    ensures { λ r. ⌜ (r ≡ laterMinor kind later) × (r ≤ later) ⌝ }
+{
+    if kind == 0 { 0 } else { later }
+}
+
+// A site of its kind, its slots and the later years of its traffics.
+pub fn site_of(kind: u8, slots: [Slot; SLOTS], traffic: Later, minor: Later) -> Site
+    ensures { λ r. ⌜ r ≡ siteOf kind slots traffic minor ⌝ }
 {
     Site {
         kind,
@@ -64,6 +143,8 @@ pub fn site_of(kind: u8, slots: [Slot; SLOTS]) -> Site
         left_lanes: slots[17],
         right_lanes: slots[18],
         limited_sight: slots[19],
+        later_traffic: traffic,
+        later_minor: minor,
     }
 }
 

@@ -1,19 +1,27 @@
 // The reader of one site's record.
 ghost use mathlib.Core.Path.{_≡_};
-ghost use Prim.Native.Nat.{_+_, _*_, _≤_, _<_};
-ghost use mathlib.Core.Bool.{cond};
+ghost use Prim.Native.Nat.{_+_, _-_, _*_, _≤_, _<_};
+ghost use mathlib.Core.Bool.{true, cond, _&&_};
 ghost use lib.ListN.{length, drop};
-ghost use Rattle.site.specs.Rules.{lastKind, slotCount};
+ghost use lib.Dec.{eqb};
+ghost use Rattle.site.specs.Rules.{lastKind, slotCount, laterYears, yearsKnown};
 ghost use Rattle.site.specs.Answers.{readAnswer};
 ghost use Rattle.site.specs.Record.{stands, lackedBitStands, lacks, neededBitAbsent, misses, curveBitStands, curved, rulesRead};
-ghost use Rattle.site.specs.Record.{fieldWords, words, valueNumber, fieldNumber, fieldValue, fieldsNumber, fieldsValues, siteOf, recordNumber};
+ghost use Rattle.site.specs.Record.{fieldWords, words, valueNumber, fieldNumber, fieldValue, fieldsNumber, fieldsValues, siteOf};
+ghost use Rattle.site.specs.Record.{yearlyBit, fieldMap, gathered, laterRead, laterAllowed};
+ghost use Rattle.site.specs.Record.{siteIn, lengthIn, recordNumber};
+ghost use Rattle.site.specs.Yearly.{laterOf, laterMinor};
+ghost use Rattle.site.specs.LaterLaws.{placeAfter};
+ghost use Rattle.site.specs.Accepted.{Parts};
 ghost use Rattle.site.specs.Promises.{ReadsSite};
 use site::rules;
 use site::rules::Entry;
 use site::rules::LAST_KIND;
+use site::rules::LATER_YEARS;
 use site::rules::Rule;
 use site::rules::SLOTS;
 use site::values;
+use site::values::Later;
 use site::values::SiteAnswer;
 use site::values::Slot;
 use site::words::bit_of;
@@ -134,47 +142,183 @@ fn field_value(rule: Rule, map: u16, s: &[u8], at: usize) -> Slot
     }
 }
 
-// The fields one by one: the first refusal, or the site of those that stand and of those that do not, with its record's length.
-fn read_values(kind: u8, rules: [Rule; SLOTS], map: u16, s: &[u8]) -> SiteAnswer
-    requires { ⌜ (length rules ≡ slotCount) × (2 * words rules map ≤ length (now s)) ⌝ }
+// Bit 15 of a map, and the map of the fields without it.
+fn yearly_bit(map: u16) -> usize
+    ensures { λ r. ⌜ (r ≡ yearlyBit map) × (r ≤ 1) ⌝ }
+{
+    if map < 32768 { 0 } else { 1 }
+}
+
+fn field_map(map: u16) -> u16
+    ensures { λ r. ⌜ r ≡ fieldMap map ⌝ }
+{
+    if map < 32768 { map } else { map - 32768 }
+}
+
+// Whether so many values from a place on are in the range of a traffic.
+fn are_later_allowed(later: usize, s: &[u8], at: usize) -> bool
+    requires { ⌜ at + 2 * later ≤ length (now s) ⌝ }
+    ensures { λ r. ⌜ r ≡ laterAllowed later (drop at (now (s .entry))) ⌝ }
+{
+    let mut i = 0;
+    while i < later {
+        if !rules::does_allow(rules::TRAFFIC, word_at(s, at + 2 * i)) {
+            return false;
+        }
+        i += 1;
+    }
+    true
+}
+
+// So many later years from a place on; the years after them hold no number.
+fn later_at(later: usize, s: &[u8], at: usize) -> Later
+    requires { ⌜ (later ≤ laterYears) × (at + 2 * later ≤ length (now s)) ⌝ }
+    ensures { λ r. ⌜ r ≡ laterOf (laterRead laterYears later (drop at (now (s .entry)))) ⌝ }
+{
+    let none = Slot::Absent;
+    let mut slots = [none; LATER_YEARS];
+    let mut i = 0;
+    while i < later {
+        slots[i] = Slot::Number(word_at(s, at + 2 * i));
+        i += 1;
+    }
+    values::later_of(slots)
+}
+
+// Where the next number of the fields stands behind the map, after so many: the later values stand behind the first two.
+fn place_of(count: usize, later: usize, minor: usize) -> usize
+    requires { ⌜ (count ≤ slotCount) × (later ≤ laterYears) × (minor ≤ laterYears) ⌝ }
+    ensures { λ r. ⌜ (r ≡ placeAfter later minor count) × (r ≤ 2 * count + (2 * later + 2 * minor)) ⌝ }
+{
+    if count == 0 {
+        0
+    } else if count == 1 {
+        2 + 2 * later
+    } else {
+        2 * count + 2 * (later + minor)
+    }
+}
+
+// The fields one by one: the first refusal, or the site of those that stand and of those that do not, with these later years and
+// its record's length. s is what follows the map, with the later values behind the traffics.
+fn read_values(
+    kind: u8,
+    rules: [Rule; SLOTS],
+    map: u16,
+    s: &[u8],
+    later: usize,
+    minor: usize,
+    traffic: Later,
+    minor_traffic: Later,
+) -> SiteAnswer
+    requires { ⌜ (length rules ≡ slotCount) × (later ≤ laterYears) × (minor ≤ laterYears) ⌝ }
+    requires { ⌜ (4 + 2 * later + 2 * minor ≤ length (now s)) × (2 * (words rules map + (later + minor)) ≤ length (now s)) ⌝ }
     ensures { λ r. ⌜
-        r ≡ readAnswer (fieldsNumber rules map (now (s .entry))) (siteOf kind (fieldsValues rules map (now (s .entry)))) (3 + 2 * words rules map)
+        r ≡ readAnswer (fieldsNumber rules map (gathered later minor (now (s .entry))))
+        (siteOf kind (fieldsValues rules map (gathered later minor (now (s .entry)))) traffic «minor_traffic»)
+        (3 + 2 * (words rules map + (later + minor)))
         ⌝ }
 {
     let none = Slot::Absent;
     let mut slots = [none; SLOTS];
     let mut rest = map;
-    let mut at = 0;
+    let mut count = 0;
     let mut i = 0;
     while i < SLOTS {
         let rule = rules[i];
-        let number = field_number(rule, rest, s, at);
+        let place = place_of(count, later, minor);
+        let number = field_number(rule, rest, s, place);
         if number != 0 {
             return SiteAnswer::Refused(number);
         }
-        slots[i] = field_value(rule, rest, s, at);
-        at += 2 * field_words(rule, rest);
+        slots[i] = field_value(rule, rest, s, place);
+        count += field_words(rule, rest);
         rest = rest_of(rule, rest);
         i += 1;
     }
-    SiteAnswer::Read(values::site_of(kind, slots), 3 + at)
+    SiteAnswer::Read(
+        values::site_of(kind, slots, traffic, minor_traffic),
+        3 + 2 * (count + (later + minor)),
+    )
 }
 
-// A record whose kind and map are there, by the rules that they choose: s is what follows the map.
-fn read_fields(kind: u8, rules: [Rule; SLOTS], map: u16, s: &[u8]) -> SiteAnswer
-    requires { ⌜ length rules ≡ slotCount ⌝ }
+// A record whose map is right and whose fields are all there: the later values are tried, then the fields one by one.
+fn read_present(kind: u8, rules: [Rule; SLOTS], map: u16, part: &[u8], later: usize) -> SiteAnswer
+    requires { ⌜ (length rules ≡ slotCount) × (later ≤ laterYears) ⌝ }
+    requires { ⌜ (7 + 2 * later + 2 * laterMinor kind later ≤ length (now part)) × (3 + 2 * (words rules map + (later + laterMinor kind later)) ≤ length (now part)) ⌝ }
     ensures { λ r. ⌜
-        r ≡ readAnswer (recordNumber rules map (now (s .entry))) (siteOf kind (fieldsValues rules map (now (s .entry)))) (3 + 2 * words rules map)
+        r ≡ readAnswer
+        (cond (laterAllowed later (drop 5 (now (part .entry))) && laterAllowed (laterMinor kind later) (drop (7 + 2 * later) (now (part .entry))))
+        (fieldsNumber rules map (gathered later (laterMinor kind later) (drop 3 (now (part .entry))))) 8)
+        (siteOf kind (fieldsValues rules map (gathered later (laterMinor kind later) (drop 3 (now (part .entry)))))
+        (laterOf (laterRead laterYears later (drop 5 (now (part .entry)))))
+        (laterOf (laterRead laterYears (laterMinor kind later) (drop (7 + 2 * later) (now (part .entry))))))
+        (3 + 2 * (words rules map + (later + laterMinor kind later)))
         ⌝ }
+{
+    let minor = values::minor_later(kind, later);
+    let behind = 7 + 2 * later;
+    if !are_later_allowed(later, part, 5) {
+        return SiteAnswer::Refused(8);
+    }
+    if !are_later_allowed(minor, part, behind) {
+        return SiteAnswer::Refused(8);
+    }
+    let traffic = later_at(later, part, 5);
+    let minor_traffic = later_at(minor, part, behind);
+    read_values(
+        kind,
+        rules,
+        map,
+        &part[3..],
+        later,
+        minor,
+        traffic,
+        minor_traffic,
+    )
+}
+
+// Whether later values are told of in a project of one year.
+fn is_yearly_in_one(years: u64, yearly: usize) -> bool
+    ensures { λ r. ⌜ r ≡ (eqb yearly 1 && eqb years 1) ⌝ }
+{
+    if yearly == 1 { years == 1 } else { false }
+}
+
+// How many later values follow the traffic.
+fn later_in(years: u64, yearly: usize) -> usize
+    requires { ⌜ (yearsKnown years ≡ true) × (yearly ≤ 1) ⌝ }
+    ensures { λ r. ⌜ (r ≡ yearly * (years - 1)) × (r ≤ laterYears) ⌝ }
+{
+    if yearly == 0 { 0 } else { years as usize - 1 }
+}
+
+// A record whose kind and map are there, by the rules that they choose.
+fn read_record(
+    years: u64,
+    kind: u8,
+    rules: [Rule; SLOTS],
+    map: u16,
+    yearly: usize,
+    part: &[u8],
+) -> SiteAnswer
+    requires { ⌜ (yearsKnown years ≡ true) × (length rules ≡ slotCount) × (yearly ≤ 1) × (kind ≤ lastKind) ⌝ }
+    requires { ⌜ Parts (now part) kind map yearly rules ⌝ }
+    ensures { λ r. ⌜ r ≡ readAnswer (recordNumber years (now (part .entry))) (siteIn years (now (part .entry))) (lengthIn years (now (part .entry))) ⌝ }
 {
     let fault = map_number(rules, map);
     if fault != 0 {
         return SiteAnswer::Refused(fault);
     }
-    if s.len() < 2 * count_words(rules, map) {
+    if is_yearly_in_one(years, yearly) {
+        return SiteAnswer::Refused(7);
+    }
+    let later = later_in(years, yearly);
+    let minor = values::minor_later(kind, later);
+    if part.len() < 3 + 2 * (count_words(rules, map) + (later + minor)) {
         return SiteAnswer::Refused(1);
     }
-    read_values(kind, rules, map, s)
+    read_present(kind, rules, map, part, later)
 }
 
 // The rules by which a kind and a map are read.
@@ -186,10 +330,13 @@ fn rules_read(kind: u8, map: u16) -> [Rule; SLOTS]
     rules::settle_rules(is_curved(entries, map), entries)
 }
 
-// The record that a part starts with: its site and its length, or document 01's 1 or 5 to 9.
-pub fn read_site(part: &[u8]) -> SiteAnswer
-    ensures { λ r. ⌜ ReadsSite (now (part .entry)) r ⌝ }
+// The record that a part starts with, in a project of so many years: its site and its length, or document 01's 1 or 4 to 9.
+pub fn read_site(years: u64, part: &[u8]) -> SiteAnswer
+    ensures { λ r. ⌜ ReadsSite years (now (part .entry)) r ⌝ }
 {
+    if !rules::are_years_known(years) {
+        return SiteAnswer::Refused(4);
+    }
     if part.len() < 3 {
         return SiteAnswer::Refused(1);
     }
@@ -197,6 +344,14 @@ pub fn read_site(part: &[u8]) -> SiteAnswer
     if LAST_KIND < kind {
         return SiteAnswer::Refused(5);
     }
-    let map = word_at(part, 1);
-    read_fields(kind, rules_read(kind, map), map, &part[3..])
+    let whole = word_at(part, 1);
+    let map = field_map(whole);
+    read_record(
+        years,
+        kind,
+        rules_read(kind, map),
+        map,
+        yearly_bit(whole),
+        part,
+    )
 }

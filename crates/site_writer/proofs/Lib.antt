@@ -1,3 +1,4 @@
 -- What the proofs share.
 pub mod WriteSteps
 pub mod WriteWhole
+pub mod LaterSteps

@@ -1,28 +1,56 @@
 -- What the writer's steps say of a site, of its record's length, and of the answer and the buffer afterwards.
-use mathlib.Core.Path.{_≡_, ap}
-use mathlib.Core.Bool.{false, cond}
-use mathlib.Core.List.{List}
-use Prim.Native.Nat.{ℕ, _+_, _<_, _≤_}
+use mathlib.Core.Path.{_≡_, refl, ap, sym, _∙_}
+use mathlib.Core.Bool.{Bool, true, false, cond, _&&_, and-false, and-true}
+use mathlib.Core.List.{List, [], _∷_, _++_}
+use Prim.Native.Nat.{ℕ, _+_, _*_, _<_, _≤_}
 use native.Mathlib.Omega.{arith}
-use lib.ListN.{length}
+use lib.ListN.{length, getD, length-append}
+use lib.Dec.{leb}
 use borrow.Author.Tests.{lt-leb, le-leb}
 use lib.Seq.{sets}
-use Rattle.laws.specs.Stores.{sets-laid}
+use Rattle.laws.specs.Stores.{Puts, sets-more, sets-laid}
 use Rattle.site.specs.declared.rules.Rule.{Rule}
 use Rattle.site.specs.declared.values.Slot.{Slot}
 use Rattle.site.specs.declared.values.Site.{Site}
 use Rattle.site.specs.declared.values.Measure.the-variants.{Length, OutsideRange}
 use Rattle.site.specs.declared.values.WriteAnswer.the-variants.{Written, Unwritten}
-use Rattle.site.specs.Rules.{lastKind}
-use Rattle.site.specs.Writing.{slotsOf, rulesHeld, allFit, bytesOf, recordBy, recordOf, sound, Valid, measureOf}
+use Rattle.site.specs.declared.rules.Rule.the-variants.{Foreign}
+use Rattle.site.specs.declared.values.Slot.the-variants.{Absent}
+use Rattle.site.specs.Rules.{lastKind, yearsKnown, laterYears, slotCount}
+use Rattle.site.specs.Yearly.{laterSlots, yearly, laterGiven, laterMinor}
+use Rattle.laws.specs.Truth.{and-left, and-right}
+use Rattle.site.specs.Writing.{slotsOf, rulesHeld, allFit, mapOf, twoBytes, fieldBytes, bytesOf, laterBytes, spreadBytes, recordBy, recordOf, laterFits, laterSound, soundSite}
+use Rattle.site.specs.Writing.{sound, Valid, measureOf}
 use Rattle.site.specs.Writing.{writeRefusal, writeAnswer, writeInto}
 use Rattle.site.specs.Tested.{bitCount, tested-rules}
+use Rattle.site.specs.WriteRead.{firstField, secondField, otherFields, bytes-parts}
+use Rattle.site.specs.LaterLaws.{later-read-back}
+use Rattle.site.specs.Theorems.{ten-exactly, zero-exactly}
 use Rattle.site.specs.Promises.{WritesSite, writes-site}
 
--- a kind above the last is outside its range
-pub kind-outside : (site : Site) → lastKind < site .kind → sound site ≡ false
+-- years outside their limits, a kind above the last, or later years that are not right are outside their range
+pub years-outside : (years : ℕ) (site : Site) → yearsKnown years ≡ false → sound years site ≡ false
 unfolding sound
-kind-outside site h = rw (lt-leb (site .kind) lastKind h)
+years-outside years site e = rw e
+
+pub kind-outside : (years : ℕ) (site : Site) → lastKind < site .kind → sound years site ≡ false
+unfolding sound soundSite
+kind-outside years site h = rw (lt-leb (site .kind) lastKind h) (and-false (yearsKnown years))
+
+pub later-outside : (years : ℕ) (site : Site) → laterSound years site ≡ false → sound years site ≡ false
+unfolding sound soundSite
+later-outside years site e =
+    rw e (by (yearsKnown years) (leb (site .kind) lastKind) (allFit (rulesHeld (site .kind) (slotsOf site)) (slotsOf site)))
+  where
+    by : (a b c : Bool) → (a && (b && (c && false))) ≡ false
+    by true true true = refl
+    by true true false = refl
+    by true false c = refl
+    by false b c = refl
+
+pub not-measured : (years : ℕ) (site : Site) → sound years site ≡ false → OutsideRange ≡ measureOf years site
+unfolding measureOf
+not-measured years site e = rw e
 
 -- of any other the slots are found, and the rules that they are held to
 pub record Found (site : Site) (slots : List Slot) (rules : List Rule) : Type 0 where
@@ -35,40 +63,111 @@ pub found : (site : Site) (slots : List Slot) (rules : List Rule) → site .kind
 found site slots rules k s r = record { kind-known = k; slots-are = s; rules-are = r }
 
 module _ {site : Site} {slots : List Slot} {rules : List Rule} (f : Found site slots rules) where
-  slots-tell : sound site ≡ allFit rules slots
-  unfolding sound
-  slots-tell = rw (f .rules-are, f .slots-are, le-leb (site .kind) lastKind (f .kind-known))
-
   pub bits-few : bitCount rules ≤ 15
   bits-few = rw (f .rules-are) (tested-rules _ _ (f .kind-known) .few)
 
-  pub record-is : recordOf site ≡ recordBy rules (site .kind) slots
-  record-is = rw (f .rules-are, f .slots-are)
+  rules-count : length rules ≡ slotCount
+  rules-count = rw (f .rules-are) (tested-rules _ _ (f .kind-known) .count)
 
-  record-long : length (recordOf site) ≡ 3 + length (bytesOf rules slots)
+  slots-count : length slots ≡ slotCount
+  slots-count = ap length (f .slots-are)
+
+  record-is : recordOf site
+      ≡ recordBy rules (site .kind) slots (yearly site) (laterSlots (site .«later_traffic»)) (laterSlots (site .«later_minor»))
+  record-is = rw (f .rules-are, f .slots-are) refl
+
+  pub spread-long : length (recordOf site)
+      ≡ 3 + length (spreadBytes rules slots (laterBytes (laterSlots (site .«later_traffic»))) (laterBytes (laterSlots (site .«later_minor»))))
   unfolding recordBy
-  record-long = omega (arith, ap length record-is)
+  spread-long = omega (arith, ap length record-is)
 
-  -- and their measure is the site's
-  pub measured-by : measureOf site ≡ cond (allFit rules slots) (Length (3 + length (bytesOf rules slots))) OutsideRange
-  unfolding measureOf
-  measured-by = rw (slots-tell, record-long)
+  -- kind and map, and the fields behind them, are its record
+  pub all-put : (before : List ℕ) {head after : List ℕ} (map : ℕ) {place : ℕ} → map ≡ mapOf rules slots + cond (yearly site) 32768 0
+      → head ≡ sets before 0 (site .kind ∷ twoBytes map)
+      → Puts head 3 (spreadBytes rules slots (laterBytes (laterSlots (site .«later_traffic»))) (laterBytes (laterSlots (site .«later_minor»)))) place after
+      → (place ≡ length (recordOf site)) × (after ≡ sets before 0 (recordOf site))
+  unfolding recordBy
+  all-put before map m h p =
+      let spread = spreadBytes rules slots (laterBytes (laterSlots (site .«later_traffic»))) (laterBytes (laterSlots (site .«later_minor»))) in
+      let is = record-is ∙ ap (λ (x : ℕ). site .kind ∷ (twoBytes x ++ spread)) (sym m) in
+      (omega (arith, p .place-is, ap length is), p .stored ∙ rw h (sets-more before 0 (site .kind ∷ twoBytes map) spread) ∙ ap (sets before 0) (sym is))
+
+  -- where its later years are right, its record has their bytes and those of its slots
+  module _ (years : ℕ) (later : laterSound years site ≡ true) where
+    abbrev given : ℕ
+    given = laterGiven years site
+
+    abbrev traffic : List ℕ
+    traffic = laterBytes (laterSlots (site .«later_traffic»))
+
+    abbrev minor : List ℕ
+    minor = laterBytes (laterSlots (site .«later_minor»))
+
+    traffic-long : length traffic ≡ 2 * given
+    traffic-long = later-read-back laterYears given (laterSlots (site .«later_traffic»)) [] refl (and-left (laterFits given (laterSlots (site .«later_traffic»))) _ later) .long
+
+    minor-long : length minor ≡ 2 * laterMinor (site .kind) given
+    minor-long =
+        later-read-back laterYears (laterMinor (site .kind) given) (laterSlots (site .«later_minor»)) [] refl
+        (and-right (laterFits given (laterSlots (site .«later_traffic»))) _ later) .long
+
+    record-long : length (recordOf site) ≡ 3 + 2 * (given + laterMinor (site .kind) given) + length (bytesOf rules slots)
+    unfolding recordBy spreadBytes
+    record-long =
+        let first = firstField rules slots in
+        let one = fieldBytes (getD rules 1 Foreign) (getD slots 1 Absent) in
+        let two = fieldBytes (getD rules 2 Foreign) (getD slots 2 Absent) in
+        let rest = otherFields rules slots in
+        omega (
+          arith,
+          traffic-long,
+          minor-long,
+          ap length (bytes-parts rules slots rules-count slots-count),
+          ap (λ (x : List Slot). length (spreadBytes (rulesHeld (site .kind) x) x traffic minor)) (f .slots-are),
+          ap (λ (x : List Rule). length (spreadBytes x slots traffic minor)) (f .rules-are),
+          length-append first (secondField rules slots ++ rest),
+          length-append (secondField rules slots) rest,
+          length-append one two,
+          length-append first (traffic ++ (one ++ (two ++ (minor ++ rest)))),
+          length-append traffic (one ++ (two ++ (minor ++ rest))),
+          length-append one (two ++ (minor ++ rest)),
+          length-append two (minor ++ rest),
+          length-append minor rest,
+        )
+
+    -- and their measure is the site's
+    module _ (known : yearsKnown years ≡ true) where
+      slots-tell : sound years site ≡ allFit rules slots
+      unfolding sound soundSite
+      slots-tell = rw (known, f .rules-are, f .slots-are, le-leb (site .kind) lastKind (f .kind-known), later) (and-true _)
+
+      pub measured-by : measureOf years site
+          ≡ cond (allFit rules slots) (Length (3 + 2 * (given + laterMinor (site .kind) given) + length (bytesOf rules slots))) OutsideRange
+      unfolding measureOf
+      measured-by = rw (slots-tell, record-long)
 
 -- the writer's answers
-module _ (site : Site) (before : List ℕ) where
-  pub outside : sound site ≡ false → WritesSite site before before (Unwritten 8)
-  unfolding writeRefusal writeAnswer writeInto
-  outside e = writes-site site before before (Unwritten 8) (rw e) (rw e)
+module _ (years : ℕ) (site : Site) (before : List ℕ) where
+  pub years-refused : yearsKnown years ≡ false → WritesSite years site before before (Unwritten 4)
+  unfolding writeRefusal writeAnswer writeInto sound
+  years-refused e = writes-site years site before before (Unwritten 4) (rw e) (rw e)
 
-  pub room-refused : Valid site → length before < length (recordOf site) → WritesSite site before before (Unwritten 10)
-  unfolding writeRefusal writeAnswer writeInto
+  pub outside : yearsKnown years ≡ true → sound years site ≡ false → WritesSite years site before before (Unwritten 8)
+  unfolding writeRefusal writeAnswer writeInto sound
+  outside y e =
+      let f : soundSite years site ≡ false = rw y at e in
+      writes-site years site before before (Unwritten 8) (rw (y, f)) (rw (y, f))
+
+  pub room-refused : Valid years site → length before < length (recordOf site) → WritesSite years site before before (Unwritten 10)
+  unfolding writeAnswer writeInto
   room-refused v h =
       let l = lt-leb (length (recordOf site)) (length before) h in
-      writes-site site before before (Unwritten 10) (rw (v .is-sound, l)) (rw (v .is-sound, l))
+      writes-site years site before before (Unwritten 10) (rw (ten-exactly years site (length before) .1 (v, h))) (rw (v .is-sound, l))
 
-  pub all-written : Valid site → length (recordOf site) ≤ length before
-      → WritesSite site before (sets before 0 (recordOf site)) (Written (length (recordOf site)))
-  unfolding writeRefusal writeAnswer writeInto
+  pub all-written : Valid years site → length (recordOf site) ≤ length before
+      → WritesSite years site before (sets before 0 (recordOf site)) (Written (length (recordOf site)))
+  unfolding writeAnswer writeInto
   all-written v h =
       let l = le-leb (length (recordOf site)) (length before) h in
-      writes-site site before _ (Written (length (recordOf site))) (rw (v .is-sound, l)) (rw (v .is-sound, l) (sets-laid (recordOf site) before h))
+      writes-site years site before _ (Written (length (recordOf site))) (rw (zero-exactly years site (length before) .1 (v, h)))
+      (rw (v .is-sound, l) (sets-laid (recordOf site) before h))

@@ -1,17 +1,22 @@
 // The writer of one site's record.
 ghost use mathlib.Core.Path.{_≡_};
 ghost use Prim.Native.Nat.{_+_, _*_, _≤_, _<_};
-ghost use lib.ListN.{length};
+ghost use lib.ListN.{length, drop};
 ghost use lib.Seq.{sets};
-ghost use mathlib.Core.Bool.{cond, _&&_, not};
+ghost use mathlib.Core.Bool.{true, cond, _&&_, not};
+ghost use mathlib.Core.List.{_∷_};
 ghost use Rattle.site.specs.declared.values.Measure.the-variants.{Length, OutsideRange};
-ghost use Rattle.site.specs.Rules.{lastKind, slotCount, bits, onCurve, absent};
-ghost use Rattle.site.specs.Writing.{curveHeld, rulesHeld, fits, allFit, slotBit, mapOf, fieldBytes, bytesOf, recordBy, recordOf, sound, Valid, measureOf};
+ghost use Rattle.site.specs.Rules.{lastKind, slotCount, laterYears, yearsKnown, traffic, bits, onCurve, absent};
+ghost use Rattle.site.specs.Yearly.{laterGiven};
+ghost use Rattle.laws.specs.Stores.{Puts};
+ghost use Rattle.site.specs.Writing.{curveHeld, rulesHeld, fits, allFit, slotBit, mapOf, twoBytes, slotBytes, fieldBytes, bytesOf};
+ghost use Rattle.site.specs.Writing.{laterBytes, spreadBytes, recordOf, laterFits, laterSound, sound, Valid, measureOf};
 ghost use Rattle.site.specs.Tested.{bitCount};
 ghost use Rattle.site.specs.Promises.{WritesSite};
 use site::rules;
 use site::rules::Entry;
 use site::rules::LAST_KIND;
+use site::rules::LATER_YEARS;
 use site::rules::Rule;
 use site::rules::SLOTS;
 use site::values;
@@ -108,36 +113,81 @@ fn map_of(rules: [Rule; SLOTS], slots: [Slot; SLOTS]) -> u16
     map
 }
 
+// Writes a slot's number at a place, where it holds one, and answers the place after it.
+fn put_slot(slot: Slot, buffer: &mut [u8], at: usize) -> usize
+    requires { ⌜ at + length (slotBytes slot) ≤ length (now buffer) ⌝ }
+    ensures { λ r. ⌜ Puts (now (buffer .entry)) at (slotBytes slot) r (now (buffer .exit)) ⌝ }
+{
+    match slot {
+        Slot::Absent => at,
+        Slot::Number(value) => {
+            put_word(value, buffer, at);
+            at + 2
+        }
+    }
+}
+
 // Writes a field at a place, where its bit stands, and answers the place after it.
 fn put_field(rule: Rule, slot: Slot, buffer: &mut [u8], at: usize) -> usize
     requires { ⌜ at + length (fieldBytes rule slot) ≤ length (now buffer) ⌝ }
-    ensures { λ r. ⌜ (r ≡ at + length (fieldBytes rule slot)) × (now (buffer .exit) ≡ sets (now (buffer .entry)) at (fieldBytes rule slot)) ⌝ }
+    ensures { λ r. ⌜ Puts (now (buffer .entry)) at (fieldBytes rule slot) r (now (buffer .exit)) ⌝ }
 {
     if slot_bit(rule, slot) == 1 {
-        match slot {
-            Slot::Absent => at,
-            Slot::Number(value) => {
-                put_word(value, buffer, at);
-                at + 2
-            }
-        }
+        put_slot(slot, buffer, at)
     } else {
         at
     }
 }
 
-// Writes the fields, in rising order, after the kind and the map, and answers the place after them.
-fn put_fields(rules: [Rule; SLOTS], slots: [Slot; SLOTS], buffer: &mut [u8]) -> usize
-    requires { ⌜ (length rules ≡ slotCount) × (length slots ≡ slotCount) × (3 + length (bytesOf rules slots) ≤ length (now buffer)) ⌝ }
-    ensures { λ r. ⌜ (r ≡ 3 + length (bytesOf rules slots)) × (now (buffer .exit) ≡ sets (now (buffer .entry)) 3 (bytesOf rules slots)) ⌝ }
+// Writes the later values of a traffic at a place, and answers the place after them.
+fn put_later(later: usize, slots: [Slot; LATER_YEARS], buffer: &mut [u8], at: usize) -> usize
+    requires { ⌜ (later ≤ laterYears) × (length slots ≡ laterYears) × (laterFits later slots ≡ true) × (at + length (laterBytes slots) ≤ length (now buffer)) ⌝ }
+    ensures { λ r. ⌜ Puts (now (buffer .entry)) at (laterBytes slots) r (now (buffer .exit)) ⌝ }
 {
-    let mut at = 3;
+    let mut place = at;
     let mut i = 0;
-    while i < SLOTS {
-        at = put_field(rules[i], slots[i], buffer, at);
+    while i < later {
+        place = put_slot(slots[i], buffer, place);
         i += 1;
     }
-    at
+    place
+}
+
+// Writes the fields of the slots after the minor traffic at a place, in rising order, and answers the place after them.
+fn put_fields(rules: [Rule; SLOTS], slots: [Slot; SLOTS], buffer: &mut [u8], at: usize) -> usize
+    requires { ⌜ (length rules ≡ slotCount) × (length slots ≡ slotCount) × (at + length (bytesOf (drop 3 rules) (drop 3 slots)) ≤ length (now buffer)) ⌝ }
+    ensures { λ r. ⌜ Puts (now (buffer .entry)) at (bytesOf (drop 3 rules) (drop 3 slots)) r (now (buffer .exit)) ⌝ }
+{
+    let mut place = at;
+    let mut i = 3;
+    while i < SLOTS {
+        place = put_field(rules[i], slots[i], buffer, place);
+        i += 1;
+    }
+    place
+}
+
+// Writes all fields after the kind and the map, with the later values behind their traffics, and answers the place after them.
+fn put_spread(
+    rules: [Rule; SLOTS],
+    slots: [Slot; SLOTS],
+    later: usize,
+    traffic: [Slot; LATER_YEARS],
+    minor_later: usize,
+    minor: [Slot; LATER_YEARS],
+    buffer: &mut [u8],
+) -> usize
+    requires { ⌜ (length rules ≡ slotCount) × (length slots ≡ slotCount) × (later ≤ laterYears) × (length traffic ≡ laterYears) × (laterFits later traffic ≡ true) ⌝ }
+    requires { ⌜ («minor_later» ≤ laterYears) × (length minor ≡ laterYears) × (laterFits «minor_later» minor ≡ true) ⌝ }
+    requires { ⌜ 3 + length (spreadBytes rules slots (laterBytes traffic) (laterBytes minor)) ≤ length (now buffer) ⌝ }
+    ensures { λ r. ⌜ Puts (now (buffer .entry)) 3 (spreadBytes rules slots (laterBytes traffic) (laterBytes minor)) r (now (buffer .exit)) ⌝ }
+{
+    let after_traffic = put_field(rules[0], slots[0], buffer, 3);
+    let after_later = put_later(later, traffic, buffer, after_traffic);
+    let after_length = put_field(rules[1], slots[1], buffer, after_later);
+    let after_minor = put_field(rules[2], slots[2], buffer, after_length);
+    let after_later_minor = put_later(minor_later, minor, buffer, after_minor);
+    put_fields(rules, slots, buffer, after_later_minor)
 }
 
 // How many bytes a slot takes in the record.
@@ -147,12 +197,12 @@ fn field_length(rule: Rule, slot: Slot) -> usize
     2 * slot_bit(rule, slot) as usize
 }
 
-// The length of the record, where every slot is within its rule.
-fn measure_slots(rules: [Rule; SLOTS], slots: [Slot; SLOTS]) -> Measure
-    requires { ⌜ (length rules ≡ slotCount) × (length slots ≡ slotCount) ⌝ }
-    ensures { λ r. ⌜ r ≡ cond (allFit rules slots) (Length (3 + length (bytesOf rules slots))) OutsideRange ⌝ }
+// The length of the record with so many bytes more for later values, where every slot is within its rule.
+fn measure_slots(rules: [Rule; SLOTS], slots: [Slot; SLOTS], more: usize) -> Measure
+    requires { ⌜ (length rules ≡ slotCount) × (length slots ≡ slotCount) × (more ≤ 4 * laterYears) ⌝ }
+    ensures { λ r. ⌜ r ≡ cond (allFit rules slots) (Length (3 + more + length (bytesOf rules slots))) OutsideRange ⌝ }
 {
-    let mut n = 3;
+    let mut n = 3 + more;
     let mut i = 0;
     while i < SLOTS {
         if !does_fit(rules[i], slots[i]) {
@@ -164,69 +214,150 @@ fn measure_slots(rules: [Rule; SLOTS], slots: [Slot; SLOTS]) -> Measure
     Measure::Length(n)
 }
 
-// The length of a site's record, where nothing of it is outside its range.
-pub fn measure_site(site: Site) -> Measure
-    ensures { λ r. ⌜ r ≡ measureOf site ⌝ }
+// Whether a later year's slot is right: a traffic within its range where the year is given, and no number where it is not.
+fn is_later_right(given: bool, slot: Slot) -> bool
+    ensures { λ r. ⌜ r ≡ cond given (fits traffic slot) (absent slot) ⌝ }
 {
+    if given {
+        does_fit(rules::TRAFFIC, slot)
+    } else {
+        rules::is_absent(slot)
+    }
+}
+
+// Whether just so many later years are given.
+fn does_later_fit(later: usize, slots: [Slot; LATER_YEARS]) -> bool
+    requires { ⌜ (later ≤ laterYears) × (length slots ≡ laterYears) ⌝ }
+    ensures { λ r. ⌜ r ≡ laterFits later slots ⌝ }
+{
+    let mut i = 0;
+    while i < LATER_YEARS {
+        if !is_later_right(i < later, slots[i]) {
+            return false;
+        }
+        i += 1;
+    }
+    true
+}
+
+// How many later values follow the traffic of a site.
+fn later_given(years: u64, site: Site) -> usize
+    requires { ⌜ yearsKnown years ≡ true ⌝ }
+    ensures { λ r. ⌜ (r ≡ laterGiven years site) × (r ≤ laterYears) ⌝ }
+{
+    if values::is_yearly(site) {
+        years as usize - 1
+    } else {
+        0
+    }
+}
+
+// Whether the later years of both traffics are those of the project, or none.
+fn is_later_sound(years: u64, site: Site) -> bool
+    requires { ⌜ yearsKnown years ≡ true ⌝ }
+    ensures { λ r. ⌜ r ≡ laterSound years site ⌝ }
+{
+    let later = later_given(years, site);
+    let traffic = site.later_traffic;
+    let minor = site.later_minor;
+    if !does_later_fit(later, values::later_slots(traffic)) {
+        return false;
+    }
+    does_later_fit(
+        values::minor_later(site.kind, later),
+        values::later_slots(minor),
+    )
+}
+
+// The length of a site's record, where nothing of it is outside its range.
+pub fn measure_site(years: u64, site: Site) -> Measure
+    ensures { λ r. ⌜ r ≡ measureOf years site ⌝ }
+{
+    if !rules::are_years_known(years) {
+        return Measure::OutsideRange;
+    }
     let kind = site.kind;
     if LAST_KIND < kind {
         return Measure::OutsideRange;
     }
+    if !is_later_sound(years, site) {
+        return Measure::OutsideRange;
+    }
     let slots = values::slots_of(site);
-    measure_slots(rules_held(kind, slots), slots)
+    let later = later_given(years, site);
+    let more = 2 * (later + values::minor_later(kind, later));
+    measure_slots(rules_held(kind, slots), slots, more)
 }
 
 // Whether nothing of a site is outside its range.
-pub fn is_sound(site: Site) -> bool
-    ensures { λ r. ⌜ r ≡ sound site ⌝ }
+pub fn is_sound(years: u64, site: Site) -> bool
+    ensures { λ r. ⌜ r ≡ sound years site ⌝ }
 {
-    let measure = measure_site(site);
+    let measure = measure_site(years, site);
     match measure {
         Measure::OutsideRange => false,
         Measure::Length(_) => true,
     }
 }
 
-// Writes the record of slots by their rules from the start of a buffer that has space for it, and answers its length.
-fn put_slots(rules: [Rule; SLOTS], kind: u8, slots: [Slot; SLOTS], buffer: &mut [u8]) -> usize
-    requires { ⌜ (length rules ≡ slotCount) × (length slots ≡ slotCount) × (bitCount rules ≤ 15) ⌝ }
-    requires { ⌜ length (recordBy rules kind slots) ≤ length (now buffer) ⌝ }
-    ensures { λ r. ⌜ (r ≡ length (recordBy rules kind slots)) × (now (buffer .exit) ≡ sets (now (buffer .entry)) 0 (recordBy rules kind slots)) ⌝ }
+// Bit 15 of a map, which stands where there are later values.
+fn bit_of_years(yearly: bool) -> u16
+    ensures { λ r. ⌜ r ≡ cond yearly 32768 0 ⌝ }
 {
-    let map = map_of(rules, slots);
+    if yearly { 32768 } else { 0 }
+}
+
+// Writes the kind and the map of a record, and answers nothing.
+fn put_head(kind: u8, map: u16, buffer: &mut [u8])
+    requires { ⌜ 3 ≤ length (now buffer) ⌝ }
+    ensures { λ r. ⌜ now (buffer .exit) ≡ sets (now (buffer .entry)) 0 (kind ∷ twoBytes map) ⌝ }
+{
     buffer[0] = kind;
     put_word(map, buffer, 1);
-    put_fields(rules, slots, buffer)
 }
 
 // Writes the record of a valid site from the start of a buffer that has space for it, and answers its length.
-pub fn put_record(site: Site, buffer: &mut [u8]) -> usize
-    requires { ⌜ Valid site × (length (recordOf site) ≤ length (now buffer)) ⌝ }
+pub fn put_record(years: u64, site: Site, buffer: &mut [u8]) -> usize
+    requires { ⌜ Valid years site × (length (recordOf site) ≤ length (now buffer)) ⌝ }
     ensures { λ r. ⌜ (r ≡ length (recordOf site)) × (now (buffer .exit) ≡ sets (now (buffer .entry)) 0 (recordOf site)) ⌝ }
 {
     let kind = site.kind;
+    let traffic = site.later_traffic;
+    let minor = site.later_minor;
     let slots = values::slots_of(site);
-    put_slots(rules_held(kind, slots), kind, slots, buffer)
+    let rules = rules_held(kind, slots);
+    let later = later_given(years, site);
+    put_head(
+        kind,
+        map_of(rules, slots) + bit_of_years(values::is_yearly(site)),
+        buffer,
+    );
+    put_spread(
+        rules,
+        slots,
+        later,
+        values::later_slots(traffic),
+        values::minor_later(kind, later),
+        values::later_slots(minor),
+        buffer,
+    )
 }
 
 // Writes the record of a site from the start of the buffer: its length, or document 01's 8 or 10.
-pub fn write_site(site: Site, buffer: &mut [u8]) -> WriteAnswer
-    ensures { λ r. ⌜ WritesSite site (now (buffer .entry)) (now (buffer .exit)) r ⌝ }
+pub fn write_site(years: u64, site: Site, buffer: &mut [u8]) -> WriteAnswer
+    ensures { λ r. ⌜ WritesSite years site (now (buffer .entry)) (now (buffer .exit)) r ⌝ }
 {
-    let kind = site.kind;
-    if LAST_KIND < kind {
-        return WriteAnswer::Unwritten(8);
+    if !rules::are_years_known(years) {
+        return WriteAnswer::Unwritten(4);
     }
-    let slots = values::slots_of(site);
-    let rules = rules_held(kind, slots);
-    let measure = measure_slots(rules, slots);
+    let measure = measure_site(years, site);
     match measure {
         Measure::OutsideRange => WriteAnswer::Unwritten(8),
         Measure::Length(n) => {
             if buffer.len() < n {
                 return WriteAnswer::Unwritten(10);
             }
-            WriteAnswer::Written(put_slots(rules, kind, slots, buffer))
+            WriteAnswer::Written(put_record(years, site, buffer))
         }
     }
 }

@@ -33,7 +33,7 @@ module _ (header : Header) (site : Site) where
   lent-order : (room : ℕ)
       → numberWithin (lineNumber (lineAnswer editionOne header site)) (lineValues (lineAnswer editionOne header site)) room ≡ lineOrder header site room
   unfolding lineAnswer lineOrder
-  lent-order room = by (inLimits header) (sound site)
+  lent-order room = by (inLimits header) (sound (header .years) site)
     where
       none : (number : ℕ) → cond (leb 0 room) number 10 ≡ number
       none number = rw (le-leb 0 room (omega arith)) refl

@@ -1,4 +1,4 @@
--- A project file written from a lent run of numbers, 21 a site; the number that the call answers, and the count or index beside it.
+-- A project file written from a lent run of numbers, 39 a site; the number that the call answers, and the count or index beside it.
 use Prim.Native.Nat.{ℕ, zero, suc, _*_}
 use mathlib.Core.Path.{_≡_, ap, sym, _∙_}
 use mathlib.Core.List.{List, [], _∷_}
@@ -14,11 +14,11 @@ use Rattle.project_writer.specs.Causes.{FileCause}
 use Rattle.project_writer.specs.Promise.{WritesProject, writes-project}
 use Rattle.unit.specs.SiteNumbers.{siteFrom, siteNumbers}
 
--- how many sites so many numbers are: 21 each, and a rest of fewer is a site too, of the kind 255 (`siteFrom`)
+-- how many sites so many numbers are: 39 each, and a rest of fewer is a site too, of the kind 255 (`siteFrom`)
 abbrev pub siteCount : ℕ → ℕ
 siteCount numbers = quotientUp numbers siteNumbers
 
--- the sites that are left, from an index on: each stands at 21 times its index
+-- the sites that are left, from an index on: each stands at 39 times its index
 unfoldable pub givenFrom : (left i : ℕ) → List ℕ → List Site
 givenFrom zero i numbers = []
 givenFrom (suc left) i numbers = siteFrom (drop (siteNumbers * i) numbers) ∷ givenFrom left (suc i) numbers

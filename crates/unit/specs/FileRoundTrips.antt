@@ -98,4 +98,4 @@ module _ {file run report : List ℕ} {count : ℕ} (r : ReadsProject file run r
 
   -- and there are numbers that give its sites
   pub file-given : sitesGiven (sitesRun (sitesIn file)) ≡ sitesIn file
-  file-given = given-again (sitesIn file) (writable-sound (headerIn file) (sitesIn file) (accepted-writable file (countIn file) accepted))
+  file-given = given-again _ (sitesIn file) (writable-sound (headerIn file) (sitesIn file) (accepted-writable file (countIn file) accepted))

@@ -67,10 +67,10 @@ unfoldable pub sitesRun : List Site → List ℕ
 sitesRun [] = []
 sitesRun (site ∷ sites) = siteRun site ++ sitesRun sites
 
-pub given-again : (sites : List Site) → soundSites sites ≡ length sites → sitesGiven (sitesRun sites) ≡ sites
+pub given-again : (years : ℕ) (sites : List Site) → soundSites years sites ≡ length sites → sitesGiven (sitesRun sites) ≡ sites
 unfolding sitesRun sitesGiven givenFrom
-given-again [] e = rw (quotient-up-zero siteNumbers (omega arith))
-given-again (site ∷ sites) e =
-    let all = all-sound site sites e in
+given-again years [] e = rw (quotient-up-zero siteNumbers (omega arith))
+given-again years (site ∷ sites) e =
+    let all = all-sound years site sites e in
     let rest = sitesRun sites in
-    given-more (siteRun site) rest refl ∙ rw (site-read site rest (all .0), given-again sites (all .1))
+    given-more (siteRun site) rest refl ∙ rw (site-read years site rest (all .0), given-again years sites (all .1))

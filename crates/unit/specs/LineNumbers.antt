@@ -31,7 +31,7 @@ LendsLine answer before afterwards number = LendsValues (lineNumber answer) (lin
 
 -- THE ORDER of the call's numbers: a header value outside its limits, 4; the site outside its range, 8; too little space, 10
 unfoldable pub lineOrder : Header → Site → ℕ → ℕ
-lineOrder header site room = cond (inLimits header) (cond (sound site) (cond (leb 4 room) 0 10) 8) 4
+lineOrder header site room = cond (inLimits header) (cond (sound (header .years) site) (cond (leb 4 room) 0 10) 8) 4
 
 -- a site's line made from a lent run of numbers: edition 1's answer lent, in that order; where the number is 0, the line that the
 -- other run starts with afterwards is right at every depth, in order, narrow, and between prediction and history

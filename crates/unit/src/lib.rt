@@ -4,4 +4,5 @@ mod lent;
 pub mod lines;
 pub mod projects;
 pub mod sites;
+mod slots;
 pub mod writing;

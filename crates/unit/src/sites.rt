@@ -1,16 +1,18 @@
-// The site reader and the site writer for programs in other languages. A site is a run of numbers:
-// the kind, then its twenty slots in the order of the struct, an absent one coded as 65,536. The reader leaves the record's
-// length after them; the calls that take a site read the first 21 numbers, so that a run is handed on as it was left.
+// The site reader and the site writer for programs in other languages. A site is a run of 39 numbers: the kind, then its twenty
+// slots in the order of the struct, nine for the later years of its traffic and nine for those of its minor traffic, an absent one
+// coded as 65,536. The reader leaves the record's length after them; the calls that take a site read the first 39 numbers, so that
+// a run is handed on as it was left.
 ghost use mathlib.Core.Path.{_≡_};
 ghost use mathlib.Core.List.{map};
 ghost use Prim.Native.Nat.{_≤_};
 ghost use lib.ListN.{length};
 ghost use lib.Seq.{sets};
 ghost use Rattle.site.specs.declared.values.SiteAnswer.the-variants.{Read};
-ghost use Rattle.site.specs.Rules.{slotCount};
-ghost use Rattle.unit.specs.SiteNumbers.{code, readValues, slotFrom, kindFrom, siteFrom, siteNumbers, answerNumbers};
+ghost use Rattle.unit.specs.SiteNumbers.{allSlots, allCount, code, readValues, slotFrom, kindFrom, siteFrom, siteNumbers, answerNumbers};
 ghost use Rattle.unit.specs.SiteNumbers.{ReadsNumbers, WritesNumbers};
-use site::rules::SLOTS;
+use crate::slots::ALL_SLOTS;
+use crate::slots::site_of_all;
+use crate::slots::slot_at;
 use site::values;
 use site::values::Site;
 use site::values::SiteAnswer;
@@ -19,9 +21,9 @@ use site::values::WriteAnswer;
 
 const ABSENT: u64 = 65536;
 
-pub(crate) const SITE_NUMBERS: usize = SLOTS + 1;
+pub(crate) const SITE_NUMBERS: usize = ALL_SLOTS + 1;
 
-const ANSWER_NUMBERS: usize = SLOTS + 2;
+const ANSWER_NUMBERS: usize = ALL_SLOTS + 2;
 
 fn code_of(slot: Slot) -> u64
     ensures { λ r. ⌜ r ≡ code slot ⌝ }
@@ -32,14 +34,19 @@ fn code_of(slot: Slot) -> u64
     }
 }
 
-// Stores the codes of the slots after the kind.
-fn put_slots(slots: [Slot; SLOTS], values: &mut [u64])
-    requires { ⌜ (length slots ≡ slotCount) × (siteNumbers ≤ length (now values)) ⌝ }
-    ensures { λ r. ⌜ now (values .exit) ≡ sets (now (values .entry)) 1 (map code slots) ⌝ }
+// Stores the codes of all the slots after the kind.
+fn put_slots(site: Site, values: &mut [u64])
+    requires { ⌜ siteNumbers ≤ length (now values) ⌝ }
+    ensures { λ r. ⌜ now (values .exit) ≡ sets (now (values .entry)) 1 (map code (allSlots site)) ⌝ }
 {
+    let later_traffic = site.later_traffic;
+    let later_minor = site.later_minor;
+    let slots = values::slots_of(site);
+    let traffic = values::later_slots(later_traffic);
+    let minor = values::later_slots(later_minor);
     let mut i = 0;
-    while i < SLOTS {
-        values[1 + i] = code_of(slots[i]);
+    while i < ALL_SLOTS {
+        values[i + 1] = code_of(slot_at(slots, traffic, minor, i));
         i += 1;
     }
 }
@@ -50,20 +57,19 @@ fn put_site(site: Site, n: usize, values: &mut [u64])
     ensures { λ r. ⌜ now (values .exit) ≡ sets (now (values .entry)) 0 (readValues (Read site n)) ⌝ }
 {
     let kind = site.kind;
-    let slots = values::slots_of(site);
     values[0] = kind as u64;
-    put_slots(slots, values);
+    put_slots(site, values);
     values[SITE_NUMBERS] = n as u64;
 }
 
-// Reads the record that a part starts with: 0, with the kind, the twenty slots and the record's
-// length in values[0] to values[21] and the rest of values as it was; or 1 or 5 to 9, then 10 where
-// values has fewer than 22 numbers, and values as it was.
+// Reads the record that a part starts with, in a project of so many years: 0, with the site in values[0] to values[38], the
+// record's length in values[39] and the rest of values as it was; or 4 where years is outside its limits, or 1 or 5 to 9, then 10
+// where values has fewer than 40 numbers, and values as it was.
 #[no_mangle]
-pub extern "C" fn crash_site_read(part: &[u8], values: &mut [u64]) -> u64
-    ensures { λ r. ⌜ ReadsNumbers (now (part .entry)) (now (values .entry)) (now (values .exit)) r ⌝ }
+pub extern "C" fn crash_site_read(years: u64, part: &[u8], values: &mut [u64]) -> u64
+    ensures { λ r. ⌜ ReadsNumbers years (now (part .entry)) (now (values .entry)) (now (values .exit)) r ⌝ }
 {
-    let answer = site_reader::read_site(part);
+    let answer = site_reader::read_site(years, part);
     match answer {
         SiteAnswer::Refused(number) => number as u64,
         SiteAnswer::Read(site, n) => {
@@ -98,41 +104,46 @@ fn kind_from(number: u64) -> u8
     if number < 256 { number as u8 } else { NO_KIND }
 }
 
-fn slots_from(numbers: &[u64]) -> [Slot; SLOTS]
-    requires { ⌜ length (now numbers) ≡ slotCount ⌝ }
+fn slots_from(numbers: &[u64]) -> [Slot; ALL_SLOTS]
+    requires { ⌜ length (now numbers) ≡ allCount ⌝ }
     ensures { λ r. ⌜ r ≡ map slotFrom (now (numbers .entry)) ⌝ }
 {
     let none = Slot::Absent;
-    let mut slots = [none; SLOTS];
+    let mut slots = [none; ALL_SLOTS];
     let mut i = 0;
-    while i < SLOTS {
+    while i < ALL_SLOTS {
         slots[i] = slot_from(numbers[i]);
         i += 1;
     }
     slots
 }
 
-// The site of the first 21 numbers; fewer are taken for a site of the kind 255.
+// The site of the first 39 numbers; fewer are taken for a site of the kind 255.
 pub fn site_from(values: &[u64]) -> Site
     ensures { λ r. ⌜ r ≡ siteFrom (now (values .entry)) ⌝ }
 {
     if values.len() < SITE_NUMBERS {
         let none = Slot::Absent;
-        return values::site_of(NO_KIND, [none; SLOTS]);
+        return site_of_all(NO_KIND, [none; ALL_SLOTS]);
     }
     let kind = kind_from(values[0]);
-    values::site_of(kind, slots_from(&values[1..SITE_NUMBERS]))
+    site_of_all(kind, slots_from(&values[1..SITE_NUMBERS]))
 }
 
-// Writes the record of a site from the start of the buffer: 0, with the record's length in written and the rest of the buffer
-// as it was; or 8 where the site is outside its range, then 10 where the buffer is shorter than the record, and buffer and
-// written as they were. The site is the first 21 numbers of values, and what follows them bears on nothing; fewer numbers, a
-// kind above 255 or a slot above 65,536 are outside their range: 8.
+// Writes the record of a site from the start of the buffer, in a project of so many years: 0, with the record's length in written
+// and the rest of the buffer as it was; or 4 where years is outside its limits, then 8 where the site is outside its range, then
+// 10 where the buffer is shorter than the record, and buffer and written as they were. The site is the first 39 numbers of values,
+// and what follows them bears on nothing; fewer numbers, a kind above 255 or a slot above 65,536 are outside their range: 8.
 #[no_mangle]
-pub extern "C" fn crash_site_write(values: &[u64], buffer: &mut [u8], written: &mut u64) -> u64
-    ensures { λ r. ⌜ WritesNumbers (now (values .entry)) (now (buffer .entry)) (now (buffer .exit)) (now (written .entry)) (now (written .exit)) r ⌝ }
+pub extern "C" fn crash_site_write(
+    years: u64,
+    values: &[u64],
+    buffer: &mut [u8],
+    written: &mut u64,
+) -> u64
+    ensures { λ r. ⌜ WritesNumbers years (now (values .entry)) (now (buffer .entry)) (now (buffer .exit)) (now (written .entry)) (now (written .exit)) r ⌝ }
 {
-    let answer = site_writer::write_site(site_from(values), buffer);
+    let answer = site_writer::write_site(years, site_from(values), buffer);
     match answer {
         WriteAnswer::Unwritten(number) => number as u64,
         WriteAnswer::Written(n) => {

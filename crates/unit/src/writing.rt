@@ -1,4 +1,4 @@
-// The project writer for programs in other languages. The sites are one run of numbers, each site's 21 behind the last's, as
+// The project writer for programs in other languages. The sites are one run of numbers, each site's 39 behind the last's, as
 // crash_site_write takes them.
 ghost use mathlib.Core.Path.{_≡_};
 ghost use lib.ListN.{length};
@@ -17,7 +17,7 @@ use project_writer::course::answer_of;
 use project_writer::course::begin_writing;
 use project_writer::course::step;
 
-// A site for each 21 numbers, and one for a rest of fewer.
+// A site for each 39 numbers, and one for a rest of fewer.
 fn count_sites(numbers: usize) -> usize
     ensures { λ r. ⌜ r ≡ siteCount numbers ⌝ }
 {
@@ -28,11 +28,11 @@ fn count_sites(numbers: usize) -> usize
     whole
 }
 
-// The one walk over the sites: each is taken out of the numbers, and the course goes on with it.
-fn walk_numbers(numbers: &[u64], buffer: &mut [u8], start: Course) -> Course
-    requires { ⌜ Walks (sitesGiven (now numbers)) start (length (now buffer)) ⌝ }
-    ensures { λ r. ⌜ r ≡ walkCourse (sitesGiven (now (numbers .entry))) start ⌝ }
-    ensures { λ r. ⌜ now (buffer .exit) ≡ walkBuffer (sitesGiven (now (numbers .entry))) start (now (buffer .entry)) ⌝ }
+// The one walk over the sites of a project of so many years: each is taken out of the numbers, and the course goes on with it.
+fn walk_numbers(years: u64, numbers: &[u64], buffer: &mut [u8], start: Course) -> Course
+    requires { ⌜ Walks years (sitesGiven (now numbers)) start (length (now buffer)) ⌝ }
+    ensures { λ r. ⌜ r ≡ walkCourse years (sitesGiven (now (numbers .entry))) start ⌝ }
+    ensures { λ r. ⌜ now (buffer .exit) ≡ walkBuffer years (sitesGiven (now (numbers .entry))) start (now (buffer .entry)) ⌝ }
 {
     let sites = count_sites(numbers.len());
     let mut course = start;
@@ -40,7 +40,7 @@ fn walk_numbers(numbers: &[u64], buffer: &mut [u8], start: Course) -> Course
     while i < sites {
         let at = SITE_NUMBERS * i;
         let site = site_from(&numbers[at..]);
-        course = step(site, buffer, course);
+        course = step(years, site, buffer, course);
         i += 1;
     }
     course
@@ -50,19 +50,20 @@ fn walk_numbers(numbers: &[u64], buffer: &mut [u8], start: Course) -> Course
 fn write_numbers(header: Header, numbers: &[u64], buffer: &mut [u8]) -> FileAnswer
     ensures { λ r. ⌜ WritesProject header (sitesGiven (now (numbers .entry))) (now (buffer .entry)) (now (buffer .exit)) r ⌝ }
 {
+    let years = header.years;
     let sites = count_sites(numbers.len());
     if !does_admit(header, sites) {
         return FileAnswer::OutsideLimits;
     }
-    let measured = walk_numbers(numbers, buffer, Course::Measured(0, HEADER_LENGTH));
+    let measured = walk_numbers(years, numbers, buffer, Course::Measured(0, HEADER_LENGTH));
     let begun = begin_writing(header, sites, buffer, measured);
-    answer_of(walk_numbers(numbers, buffer, begun))
+    answer_of(walk_numbers(years, numbers, buffer, begun))
 }
 
 // Writes the project file of a header's values and a run of sites from the start of the buffer: 0, with the count of its bytes
 // in value and the rest of the buffer as it was; or 4 where years, a calibration or the count of sites is outside its limits,
 // then 8 where a site is outside its range, with the index of the first such site in value, then 10 where the buffer is shorter
-// than the file, and the buffer as it was. With 4 and 10 value is 0. A site is 21 numbers of sites, as crash_site_write takes
+// than the file, and the buffer as it was. With 4 and 10 value is 0. A site is 39 numbers of sites, as crash_site_write takes
 // it, and a rest of fewer is a site outside its range.
 #[no_mangle]
 pub extern "C" fn crash_project_write(

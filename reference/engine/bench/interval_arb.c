@@ -9,7 +9,7 @@
 
 /* e to the constant and the hazard rating, made once for all sites, and balls to compute in. */
 struct balls {
-    arb_t hazard[HAZARD_RATINGS], predicted, expected, over, under, log, part;
+    arb_t hazard[HAZARD_RATINGS], predicted, expected, sum, over, under, log, part;
     arf_t end;
 };
 
@@ -22,7 +22,7 @@ static void balls_init(struct balls *b)
         arb_div_ui(hazard, hazard, 10000, PRECISION);
         arb_exp(hazard, hazard, PRECISION);
     }
-    arb_ptr each[] = {b->predicted, b->expected, b->over, b->under, b->log, b->part};
+    arb_ptr each[] = {b->predicted, b->expected, b->sum, b->over, b->under, b->log, b->part};
     for (size_t i = 0; i < sizeof each / sizeof *each; i++)
         arb_init(each[i]);
     arf_init(b->end);
@@ -32,7 +32,7 @@ static void balls_clear(struct balls *b)
 {
     for (int i = 0; i < HAZARD_RATINGS; i++)
         arb_clear(b->hazard[i]);
-    arb_ptr each[] = {b->predicted, b->expected, b->over, b->under, b->log, b->part};
+    arb_ptr each[] = {b->predicted, b->expected, b->sum, b->over, b->under, b->log, b->part};
     for (size_t i = 0; i < sizeof each / sizeof *each; i++)
         arb_clear(each[i]);
     arf_clear(b->end);
@@ -87,6 +87,32 @@ static void predict_crossing(struct balls *b, const struct header *header, const
     arb_div(b->predicted, b->over, b->under, PRECISION);
 }
 
+static void predict_term(struct balls *b, const struct header *header, const struct site *site)
+{
+    if (site->kind == SEGMENT)
+        predict_segment(b, header, site);
+    else
+        predict_crossing(b, header, site);
+}
+
+/* The sum of a term for each year where each has its traffic, and otherwise one term of all years. */
+static void predict(struct balls *b, const struct header *header, const struct site *site)
+{
+    struct header one = *header;
+    if (!is_yearly(site)) {
+        predict_term(b, header, site);
+        return;
+    }
+    one.years = 1;
+    arb_zero(b->sum);
+    for (uint64_t year = 1; year <= header->years; year++) {
+        struct site at = in_year(site, year);
+        predict_term(b, &one, &at);
+        arb_add(b->sum, b->sum, b->predicted, PRECISION);
+    }
+    arb_set(b->predicted, b->sum);
+}
+
 static void expect(struct balls *b, const struct site *site)
 {
     uint64_t k = K[site->kind];
@@ -116,10 +142,7 @@ void arb_lines(const struct header *header, const struct site *sites, size_t n, 
     struct balls balls;
     balls_init(&balls);
     for (size_t i = 0; i < n; i++) {
-        if (sites[i].kind == SEGMENT)
-            predict_segment(&balls, header, &sites[i]);
-        else
-            predict_crossing(&balls, header, &sites[i]);
+        predict(&balls, header, &sites[i]);
         expect(&balls, &sites[i]);
         if (ends) {
             ends_of(&balls, &ends[i][0], balls.predicted);

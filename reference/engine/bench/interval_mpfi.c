@@ -5,7 +5,7 @@
 
 /* e to the constant and the hazard rating, made once for all sites, and intervals to compute in. */
 struct intervals {
-    mpfi_t hazard[HAZARD_RATINGS], predicted, expected, over, under, log, part;
+    mpfi_t hazard[HAZARD_RATINGS], predicted, expected, sum, over, under, log, part;
     mpfr_t end;
 };
 
@@ -18,7 +18,7 @@ static void intervals_init(struct intervals *v)
         mpfi_div_ui(hazard, hazard, 10000);
         mpfi_exp(hazard, hazard);
     }
-    mpfi_ptr each[] = {v->predicted, v->expected, v->over, v->under, v->log, v->part};
+    mpfi_ptr each[] = {v->predicted, v->expected, v->sum, v->over, v->under, v->log, v->part};
     for (size_t i = 0; i < sizeof each / sizeof *each; i++)
         mpfi_init2(each[i], PRECISION);
     mpfr_init2(v->end, PRECISION);
@@ -28,7 +28,7 @@ static void intervals_clear(struct intervals *v)
 {
     for (int i = 0; i < HAZARD_RATINGS; i++)
         mpfi_clear(v->hazard[i]);
-    mpfi_ptr each[] = {v->predicted, v->expected, v->over, v->under, v->log, v->part};
+    mpfi_ptr each[] = {v->predicted, v->expected, v->sum, v->over, v->under, v->log, v->part};
     for (size_t i = 0; i < sizeof each / sizeof *each; i++)
         mpfi_clear(each[i]);
     mpfr_clear(v->end);
@@ -90,6 +90,32 @@ static void predict_crossing(struct intervals *v, const struct header *header, c
     mpfi_div(v->predicted, v->over, v->under);
 }
 
+static void predict_term(struct intervals *v, const struct header *header, const struct site *site)
+{
+    if (site->kind == SEGMENT)
+        predict_segment(v, header, site);
+    else
+        predict_crossing(v, header, site);
+}
+
+/* The sum of a term for each year where each has its traffic, and otherwise one term of all years. */
+static void predict(struct intervals *v, const struct header *header, const struct site *site)
+{
+    struct header one = *header;
+    if (!is_yearly(site)) {
+        predict_term(v, header, site);
+        return;
+    }
+    one.years = 1;
+    mpfi_set_ui(v->sum, 0);
+    for (uint64_t year = 1; year <= header->years; year++) {
+        struct site at = in_year(site, year);
+        predict_term(v, &one, &at);
+        mpfi_add(v->sum, v->sum, v->predicted);
+    }
+    mpfi_set(v->predicted, v->sum);
+}
+
 static void expect(struct intervals *v, const struct site *site)
 {
     uint64_t k = K[site->kind];
@@ -119,10 +145,7 @@ void mpfi_lines(const struct header *header, const struct site *sites, size_t n,
     struct intervals intervals;
     intervals_init(&intervals);
     for (size_t i = 0; i < n; i++) {
-        if (sites[i].kind == SEGMENT)
-            predict_segment(&intervals, header, &sites[i]);
-        else
-            predict_crossing(&intervals, header, &sites[i]);
+        predict(&intervals, header, &sites[i]);
         expect(&intervals, &sites[i]);
         if (ends) {
             ends_of(&intervals, &ends[i][0], intervals.predicted);

@@ -6,10 +6,13 @@
 #include <stddef.h>
 #include <stdint.h>
 
-/* The 21 numbers of include/crash_unit.h. */
+enum { LATER_YEARS = 9 };
+
+/* The numbers of include/crash_unit.h. */
 struct site {
     uint64_t kind, traffic, length, minor_traffic, observed, lane, shoulder, shoulder_type, curve_length, radius;
     uint64_t spiral_ends, deficiency, grade, driveways, two_way_lane, passing, hazard_rating, skew, left, right, sight;
+    uint64_t later_traffic[LATER_YEARS], later_minor_traffic[LATER_YEARS];
 };
 
 struct header {
@@ -20,6 +23,23 @@ enum { SEGMENT = 0, ABSENT = 65536, HAZARD_RATINGS = 7 };
 
 /* Bits of precision of both libraries. */
 enum { PRECISION = 64 };
+
+/* Whether each year has its traffic. */
+static inline int is_yearly(const struct site *site)
+{
+    return site->later_traffic[0] != ABSENT;
+}
+
+/* The site with the traffic of a year from 1 up. */
+static inline struct site in_year(const struct site *site, uint64_t year)
+{
+    struct site at = *site;
+    if (year > 1) {
+        at.traffic = site->later_traffic[year - 2];
+        at.minor_traffic = site->later_minor_traffic[year - 2];
+    }
+    return at;
+}
 
 /* A whole number as the product of parts of 64 bits. */
 struct product {

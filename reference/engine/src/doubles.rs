@@ -3,7 +3,7 @@
 
 use reference::project::Header;
 use reference::record::Site;
-use reference::rules::Field;
+use reference::rules::{Field, TRAFFIC_FIELDS};
 
 const SHOULDER_TYPE: [[f64; 5]; 4] = [
     [1.00, 1.00, 1.00, 1.00, 1.00],
@@ -121,8 +121,7 @@ fn shoulder_value(site: &Site, traffic: f64) -> f64 {
     widths * (types[below] + types[above]) / 4.0
 }
 
-fn segment_year(site: &Site) -> f64 {
-    let traffic = number(site, Field::Traffic);
+fn segment_year(site: &Site, traffic: f64) -> f64 {
     let driveways = number(site, Field::Driveways);
     let lane = width_value(
         LANE[place(site, Field::LaneWidth).clamp(9, 12) - 9],
@@ -149,27 +148,46 @@ fn segment_year(site: &Site) -> f64 {
         * ((0.2 + c * driveways) / (0.2 + 5.0 * c))
 }
 
-fn crossing_year(crossing: &Crossing, site: &Site) -> f64 {
+fn crossing_year(crossing: &Crossing, site: &Site, major: f64, minor: f64) -> f64 {
     crossing.base.exp()
-        * number(site, Field::Traffic).powf(crossing.major)
-        * number(site, Field::MinorTraffic).powf(crossing.minor)
+        * major.powf(crossing.major)
+        * minor.powf(crossing.minor)
         * (crossing.skew * number(site, Field::Skew)).exp()
         * crossing.left[place(site, Field::LeftTurnLanes)]
         * crossing.right[place(site, Field::RightTurnLanes)]
         * (1.0 + 0.05 * number(site, Field::LimitedQuadrants))
 }
 
+/// A year of a site before calibration.
+fn year(site: &Site, [major, minor]: [f64; 2]) -> f64 {
+    match site.kind {
+        0 => segment_year(site, major),
+        kind => crossing_year(&CROSSINGS[usize::from(kind) - 1], site, major, minor),
+    }
+}
+
+/// The years of a site before calibration.
+fn years(header: &Header, site: &Site) -> f64 {
+    let first = year(site, TRAFFIC_FIELDS.map(|field| number(site, field)));
+    if !site.is_yearly() {
+        return f64::from(header.years) * first;
+    }
+    let later = TRAFFIC_FIELDS.map(|field| site.later(field));
+    let at = |at: usize| later.map(|traffic| f64::from(traffic[at].unwrap_or(0)));
+    let later_years = (0..usize::from(header.years) - 1).map(|place| year(site, at(place)));
+    first + later_years.sum::<f64>()
+}
+
 /// Predicted and expected crashes of a site that the writer takes.
 pub fn line(header: &Header, site: &Site) -> [f64; 2] {
-    let (year, calibration, k) = match site.kind {
-        0 => (segment_year(site), header.segment_calibration, 0.31),
-        kind => {
-            let crossing = &CROSSINGS[usize::from(kind) - 1];
-            let year = crossing_year(crossing, site);
-            (year, header.crossing_calibration, crossing.k)
-        }
+    let (calibration, k) = match site.kind {
+        0 => (header.segment_calibration, 0.31),
+        kind => (
+            header.crossing_calibration,
+            CROSSINGS[usize::from(kind) - 1].k,
+        ),
     };
-    let predicted = f64::from(header.years) * f64::from(calibration) / 1_000.0 * year;
+    let predicted = f64::from(calibration) / 1_000.0 * years(header, site);
     let expected = match site.get(Field::Observed) {
         None => predicted,
         Some(observed) => predicted * (1.0 + k * f64::from(observed)) / (1.0 + k * predicted),

@@ -2,8 +2,9 @@
 //! reports that the first is run on.
 
 use reference::lines;
-use reference::project::encode_header;
+use reference::project::{encode_header, Header};
 use reference::record::{write_site, Site};
+use reference::rules::EDITION;
 use std::io::Write;
 use std::process::{Command, Stdio};
 
@@ -28,6 +29,14 @@ pub enum Job {
 
 pub const JOBS: usize = Job::Records as usize + 1;
 
+/// The header of its rounds.
+pub const ROUNDS_HEADER: Header = Header {
+    edition: EDITION,
+    years: 5,
+    segment_calibration: 1_100,
+    crossing_calibration: 900,
+};
+
 /// The input of `rounds`: the rounds of the jobs that are asked for, and the
 /// records.
 pub fn rounds_of(asked: &[(Job, u16)], sites: &[Site]) -> Vec<u8> {
@@ -36,8 +45,9 @@ pub fn rounds_of(asked: &[(Job, u16)], sites: &[Site]) -> Vec<u8> {
         counts[*job as usize] = *rounds;
     }
     let mut input: Vec<u8> = counts.into_iter().flat_map(u16::to_be_bytes).collect();
+    let years = ROUNDS_HEADER.years.into();
     for site in sites {
-        input.extend(write_site(site, usize::MAX).expect("a site that the writer takes"));
+        input.extend(write_site(years, site, usize::MAX).expect("a site that the writer takes"));
     }
     input
 }
@@ -64,10 +74,10 @@ const HEAD: &str = "edition 1
     crossing-calibration 9999
     ";
 
-/// A site with every field.
-const FULL: &str = "segment traffic 19999 length 20000 observed 500 lane 9 shoulder 1 \
-    shoulder-type 3 curve-length 1 radius 100 spiral-ends 1 deficiency 100 grade 11 \
-    driveways 49 two-way-lane 1 passing 1 hazard-rating 7";
+/// A site with the longest record: every field, and both traffics year by year.
+const FULL: &str = "4st traffic 19999,257,2001,4999,401,9999,14999,255,1999,17999 \
+    minor-traffic 19999,399,255,17999,257,2001,4999,14999,9999,401 observed 500 skew 59 \
+    left-turn-lanes 1 right-turn-lanes 1 limited-quadrants 3";
 
 /// A site with the most crashes, and without a history, so that all four of its
 /// numbers have as many digits as any.
@@ -78,7 +88,9 @@ const WORST: &str = "segment traffic 20000 length 20000 lane 8 shoulder 0 curve-
 /// have.
 fn repeated(site: &str, sites: usize) -> Vec<u8> {
     let project = lines::parse(&format!("{HEAD}{site}")).expect("a project's lines");
-    let record = write_site(&project.sites[0], usize::MAX).expect("a site that the writer takes");
+    let years = project.header.years.into();
+    let record = write_site(years, &project.sites[0], usize::MAX);
+    let record = record.expect("a site that the writer takes");
     let count = u16::try_from(sites).expect("a count of two bytes");
     [encode_header(&project.header, count), record.repeat(sites)].concat()
 }

@@ -1,16 +1,18 @@
 //! The site reader and the site writer.
 
 use reference::record::Site;
-use reference::rules::Field;
+use reference::rules::{Field, LATER_YEARS, TRAFFIC_FIELDS};
 
 extern "C" {
     fn crash_site_read(
+        years: u64,
         part: *const u8,
         part_len: usize,
         values: *mut u64,
         values_len: usize,
     ) -> u64;
     fn crash_site_write(
+        years: u64,
         values: *const u64,
         values_len: usize,
         buffer: *mut u8,
@@ -19,7 +21,8 @@ extern "C" {
     ) -> u64;
 }
 
-/// The order of a site's slots after its kind.
+/// The order of a site's slots after its kind; the later years of each traffic
+/// follow.
 const SLOTS: [Field; 20] = [
     Field::Traffic,
     Field::Length,
@@ -44,7 +47,10 @@ const SLOTS: [Field; 20] = [
 ];
 
 /// The numbers of a site.
-pub const SITE_NUMBERS: usize = SLOTS.len() + 1;
+pub const SITE_NUMBERS: usize = 1 + SLOTS.len() + TRAFFIC_FIELDS.len() * LATER_YEARS;
+
+/// Those that the reader leaves: the record's length follows the site.
+pub const READ_NUMBERS: usize = SITE_NUMBERS + 1;
 
 /// What an absent slot is coded as.
 const ABSENT: u64 = 65_536;
@@ -52,11 +58,13 @@ const ABSENT: u64 = 65_536;
 /// What a call must leave where it writes nothing.
 const UNTOUCHED: u8 = 0xA5;
 
-/// A site as the engine's run of numbers: the kind, then its slots.
+/// A site as the engine's run of numbers: the kind, its slots, its later years.
 pub fn numbers_of(site: &Site) -> [u64; SITE_NUMBERS] {
     let mut numbers = [u64::from(site.kind); SITE_NUMBERS];
-    for (number, field) in numbers[1..].iter_mut().zip(SLOTS) {
-        *number = site.get(field).map_or(ABSENT, u64::from);
+    let slots = SLOTS.into_iter().map(|field| site.get(field));
+    let later = TRAFFIC_FIELDS.iter().flat_map(|field| site.later(*field));
+    for (number, value) in numbers[1..].iter_mut().zip(slots.chain(later.copied())) {
+        *number = value.map_or(ABSENT, u64::from);
     }
     numbers
 }
@@ -68,38 +76,56 @@ pub fn run_of(sites: &[Site]) -> Vec<u64> {
 
 fn site_of(numbers: &[u64]) -> Site {
     let mut site = Site::empty(numbers[0] as u8);
-    for (number, field) in numbers[1..].iter().zip(SLOTS) {
-        site.set(field, u16::try_from(*number).ok());
+    let value = |number: &u64| u16::try_from(*number).ok();
+    let (slots, later) = numbers[1..].split_at(SLOTS.len());
+    for (number, field) in slots.iter().zip(SLOTS) {
+        site.set(field, value(number));
+    }
+    for (numbers, field) in later.chunks(LATER_YEARS).zip(TRAFFIC_FIELDS) {
+        for (year, number) in (2..).zip(numbers) {
+            site.set_later(field, year, value(number));
+        }
     }
     site
 }
 
 /// The number of the reader's call, which writes to the start of `values`.
-pub fn read_into(part: &[u8], values: &mut [u64]) -> u64 {
+pub fn read_into(years: u64, part: &[u8], values: &mut [u64]) -> u64 {
     // SAFETY: each pointer and length are those of one slice.
-    unsafe { crash_site_read(part.as_ptr(), part.len(), values.as_mut_ptr(), values.len()) }
+    unsafe {
+        crash_site_read(
+            years,
+            part.as_ptr(),
+            part.len(),
+            values.as_mut_ptr(),
+            values.len(),
+        )
+    }
 }
 
 /// The site and the record's length, or the number of the refusal.
-pub fn read_site(part: &[u8]) -> Result<(Site, usize), u8> {
-    let mut values = [u64::MAX; 23];
-    let number = read_into(part, &mut values);
-    assert_eq!(values[22], u64::MAX, "the rest stays as it was");
+pub fn read_site(years: u64, part: &[u8]) -> Result<(Site, usize), u8> {
+    const UNTOUCHED: [u64; READ_NUMBERS + 1] = [u64::MAX; READ_NUMBERS + 1];
+    let mut values = UNTOUCHED;
+    let number = read_into(years, part, &mut values);
+    assert_eq!(values[READ_NUMBERS], u64::MAX, "the rest stays as it was");
     if number == 0 {
-        return Ok((site_of(&values[..21]), values[21] as usize));
+        let (site, length) = values.split_at(SITE_NUMBERS);
+        return Ok((site_of(site), length[0] as usize));
     }
-    assert_eq!(values, [u64::MAX; 23], "a refusal writes nothing");
+    assert_eq!(values, UNTOUCHED, "a refusal writes nothing");
     Err(number as u8)
 }
 
 /// The record of a run of numbers in a buffer of `room` bytes.
-pub fn write_numbers(numbers: &[u64], room: usize) -> Result<Vec<u8>, u8> {
+pub fn write_numbers(years: u64, numbers: &[u64], room: usize) -> Result<Vec<u8>, u8> {
     let mut buffer = vec![UNTOUCHED; room];
     let mut written = u64::MAX;
     // SAFETY: each pointer and length are those of one slice, and `written`
     // is one number.
     let number = unsafe {
         crash_site_write(
+            years,
             numbers.as_ptr(),
             numbers.len(),
             buffer.as_mut_ptr(),
@@ -118,6 +144,6 @@ pub fn write_numbers(numbers: &[u64], room: usize) -> Result<Vec<u8>, u8> {
 }
 
 /// The record of a site in a buffer of `room` bytes.
-pub fn write_site(site: &Site, room: usize) -> Result<Vec<u8>, u8> {
-    write_numbers(&numbers_of(site), room)
+pub fn write_site(years: u64, site: &Site, room: usize) -> Result<Vec<u8>, u8> {
+    write_numbers(years, &numbers_of(site), room)
 }

@@ -9,7 +9,7 @@ use engine::sites::{read_into, write_numbers};
 use engine::{power_into, DONE, EXPONENTIAL_PARTS, LOGARITHM_PARTS, POWER_PARTS, TOO_SHORT};
 use reference::checker::{EXPECTED_EACH, PREDICTED_EACH, WIDTH_PARTS};
 use reference::record::{cause, Refusal};
-use reference::rules::MOST_SITES;
+use reference::rules::{MOST_SITES, MOST_YEARS};
 use std::collections::BTreeMap;
 use std::fs;
 use std::path::{Path, PathBuf};
@@ -173,28 +173,34 @@ fn sizes_of_a_project_are_the_engines() {
 fn sizes_of_a_site_are_the_engines() {
     let names = names_in_c("names_site");
     let size = |name: &str| names[name] as usize;
+    let years = names["CRASH_MOST_YEARS"];
+    assert_eq!(years, MOST_YEARS.into());
     let record = full_project(1).split_off(size("CRASH_HEADER_BYTES"));
     assert_eq!(record.len(), size("CRASH_LONGEST_RECORD"));
     let mut values = vec![0; size("CRASH_READ_NUMBERS")];
     let short = values.len() - 1;
-    assert_eq!(read_into(&record, &mut values[..short]), TOO_SHORT);
-    assert_eq!(read_into(&record, &mut values), DONE);
+    assert_eq!(read_into(years, &record, &mut values[..short]), TOO_SHORT);
+    assert_eq!(read_into(years, &record, &mut values), DONE);
     let site = &values[..size("CRASH_SITE_NUMBERS")];
     assert_eq!(values[site.len()..], [record.len() as u64]);
-    assert_eq!(write_numbers(site, record.len()), Ok(record.clone()));
-    let refused = write_numbers(site, record.len() - 1);
+    assert_eq!(write_numbers(years, site, record.len()), Ok(record.clone()));
+    let refused = write_numbers(years, site, record.len() - 1);
     assert_eq!(refused, Err(cause::TOO_SHORT));
     let mut line = vec![0; size("CRASH_LINE_NUMBERS")];
     let short = line.len() - 1;
-    let header = [1, 1_000, 1_000];
+    let header = [years, 1_000, 1_000];
     assert_eq!(line_into(header, site, &mut line[..short]), TOO_SHORT);
     assert_eq!(line_into(header, site, &mut line), DONE);
     let mut ends = vec![0; size("CRASH_BRACKET_NUMBERS")];
     let short = ends.len() - 1;
     assert_eq!(power_into(32, 60, 100, &mut ends[..short]), TOO_SHORT);
     assert_eq!(power_into(32, 60, 100, &mut ends), DONE);
-    // A segment has no minor traffic.
-    assert_eq!(site[3], names["CRASH_ABSENT"]);
+    // A crossing has no length, and each traffic has every later year.
+    assert_eq!(site[2], names["CRASH_ABSENT"]);
+    let later = size("CRASH_LATER_YEARS");
+    let years = site.len() - 2 * later..site.len();
+    assert_eq!(later + 1, size("CRASH_MOST_YEARS"));
+    assert!(site[years].iter().all(|number| *number <= 20_000));
 }
 
 /// The number of a definition: `NAME = 4` or `NAME = 10 ^ 8`.

@@ -2,8 +2,8 @@
 //! depths, on random and extreme sites, and its refusals.
 
 use engine::lines::{line, line_into};
-use engine::program::{Job, JOBS};
-use engine::sites::{numbers_of, read_into};
+use engine::program::{Job, JOBS, ROUNDS_HEADER};
+use engine::sites::{numbers_of, read_into, READ_NUMBERS, SITE_NUMBERS};
 use engine::{DONE, OUTSIDE_LIMITS, OUT_OF_RANGE, TOO_SHORT};
 use reference::checker::{site_line_faults, site_standing_faults, Wrong};
 use reference::checker::{PREDICTED_EACH, WIDTH_PARTS};
@@ -12,7 +12,9 @@ use reference::model::FIRST_EDITION;
 use reference::prediction::site_estimates;
 use reference::project::Header;
 use reference::record::{read_site, write_site, Site};
-use reference::rules::{rules, Field, Presence, Rule, EDITION, SEGMENT};
+use reference::rules::{
+    rules, Field, Presence, Rule, EDITION, MOST_YEARS, SEGMENT, TRAFFIC_FIELDS,
+};
 
 const DEPTHS: [u32; 5] = [1, 2, 3, 6, 9];
 const KINDS: std::ops::RangeInclusive<u8> = 0..=3;
@@ -21,7 +23,7 @@ const KINDS: std::ops::RangeInclusive<u8> = 0..=3;
 /// depth, order, widths, the expected pair, and its place between prediction
 /// and history.
 fn faults(header: &Header, site: &Site, numbers: &[u64; 4]) -> Vec<Wrong> {
-    let mut faults = site_line_faults(&FIRST_EDITION, site, numbers);
+    let mut faults = site_line_faults(&FIRST_EDITION, header.years, site, numbers);
     for depth in DEPTHS {
         let estimates = site_estimates(&FIRST_EDITION, header, site, depth);
         faults.extend(site_standing_faults(numbers, &estimates, depth));
@@ -120,7 +122,68 @@ fn random_sites() {
     let mut random = Random::new(31);
     for _ in 0..24_000 {
         let header = generate::header(&mut random);
-        assert_right(&header, &generate::site(&mut random));
+        assert_right(&header, &generate::site(&mut random, header.years));
+    }
+}
+
+/// Traffic of so many years at which the cases meet, with one year on.
+fn years_from(first: usize, years: u8) -> Vec<u16> {
+    const TRAFFIC: [u16; 7] = [1, 399, 400, 1_000, 2_000, 2_001, 20_000];
+    let places = first..first + usize::from(years);
+    places.map(|at| TRAFFIC[at % TRAFFIC.len()]).collect()
+}
+
+/// Every kind with every count of years of traffic, in which each year comes to
+/// each of the places where the cases meet, the minor road's years others.
+#[test]
+fn traffic_year_by_year() {
+    let mut sites: u32 = 0;
+    for kind in KINDS {
+        for base in base_sites(kind) {
+            for years in 2..=MOST_YEARS {
+                for first in 0..7 {
+                    let site = yearly(&base, [first, first + 3], years);
+                    let history = HISTORIES[first % HISTORIES.len()];
+                    for calibration in [1, 9_999] {
+                        let mut site = site;
+                        site.set(Field::Observed, history);
+                        assert_right(&header(years, calibration, calibration), &site);
+                        sites += 1;
+                    }
+                }
+            }
+        }
+    }
+    assert_eq!(sites, 15 * 9 * 7 * 2);
+}
+
+/// A site with the years of its traffics from these places on.
+fn yearly(base: &Site, firsts: [usize; 2], years: u8) -> Site {
+    let table = rules(base.kind).unwrap_or(&[]);
+    let has = |field: &Field| table.iter().any(|rule| rule.field == *field);
+    let traffic = TRAFFIC_FIELDS.iter().zip(firsts);
+    traffic
+        .filter(|(field, _)| has(field))
+        .fold(*base, |site, (field, first)| {
+            site.with_years(*field, &years_from(first, years))
+        })
+}
+
+/// The predicted pair is the sum of the pairs of one year each.
+#[test]
+fn a_yearly_pair_is_the_sum_of_its_years() {
+    let mut random = Random::new(35);
+    for _ in 0..5_000 {
+        let header = generate::header(&mut random);
+        let one = Header { years: 1, ..header };
+        let plain = generate::plain_site(&mut random);
+        let site = generate::yearly(&mut random, plain, header.years);
+        if !site.is_yearly() {
+            continue;
+        }
+        let years = (1..=header.years.into()).map(|year| made(&one, &site.in_year(year)));
+        let sums = years.fold([0, 0], |[low, high], line| [low + line[0], high + line[1]]);
+        assert_eq!(made(&header, &site)[..2], sums, "{header:?} {site:?}");
     }
 }
 
@@ -233,10 +296,11 @@ fn a_moved_line_is_noticed() {
     let mut random = Random::new(32);
     for _ in 0..500 {
         let header = generate::header(&mut random);
-        let mut site = generate::site(&mut random);
+        let mut site = generate::site(&mut random, header.years);
         site.set(Field::Observed, None);
         let [low, high, ..] = made(&header, &site);
-        let step = PREDICTED_EACH + high / WIDTH_PARTS + 1;
+        let terms = site.terms(header.years).len() as u64;
+        let step = PREDICTED_EACH * terms + high / WIDTH_PARTS + 1;
         let above = [low + step, high + step, low + step, high + step];
         let noticed = faults(&header, &site, &above);
         let is_above = |wrong: &Wrong| matches!(wrong, Wrong::LowAboveOver(..));
@@ -279,7 +343,7 @@ fn headers_outside_limits() {
         let outside = numbers_of(&Site::plain(kind, 20_001, 500));
         for header in &wrong_headers {
             for room in 0..=BEFORE.len() {
-                for values in [&values[..], &outside[..], &values[..20], &[]] {
+                for values in [&values[..], &outside, &values[..SITE_NUMBERS - 1], &[]] {
                     assert_eq!(refusal(*header, values, room), OUTSIDE_LIMITS);
                 }
             }
@@ -296,9 +360,9 @@ fn sites_that_the_writer_refuses() {
     let mut random = Random::new(33);
     let (mut made, mut refused) = (0, 0);
     for _ in 0..100_000 {
-        let site = generate::disturbed_site(&mut random);
         let header = generate::header(&mut random);
-        if write_site(&site, usize::MAX).is_ok() {
+        let site = generate::disturbed_site(&mut random, header.years);
+        if write_site(header.years.into(), &site, usize::MAX).is_ok() {
             assert!(line(&header, &site).is_ok(), "{site:?}");
             made += 1;
         } else {
@@ -332,18 +396,19 @@ fn numbers_that_are_no_site() {
 }
 
 /// The run that the reader left, its record's length and what follows it
-/// included, has the line of its first 21 numbers.
+/// included, has the line of its site.
 #[test]
 fn a_read_site_is_handed_on_as_it_was_left() {
     let mut random = Random::new(34);
     for _ in 0..2_000 {
         let header = generate::header(&mut random);
-        let site = generate::site(&mut random);
-        let record = write_site(&site, usize::MAX).expect("a generated site");
-        let mut values = [u64::MAX; 25];
-        assert_eq!(read_into(&record, &mut values), DONE);
+        let site = generate::site(&mut random, header.years);
+        let years = header.years.into();
+        let record = write_site(years, &site, usize::MAX).expect("a generated site");
+        let mut values = [u64::MAX; READ_NUMBERS + 3];
+        assert_eq!(read_into(years, &record, &mut values), DONE);
         let expected = made(&header, &site);
-        for count in 21..=25 {
+        for count in SITE_NUMBERS..=values.len() {
             let mut line = [0; 4];
             let number = line_into(header.numbers(), &values[..count], &mut line);
             assert_eq!((number, line), (DONE, expected), "{count} {site:?}");
@@ -380,8 +445,9 @@ fn the_stored_sum_of_rounds_is_that_of_the_call() {
     let mut sum: u64 = 0;
     let mut sites = 0;
     while !rest.is_empty() {
-        let (site, length) = read_site(rest).expect("a stored record");
-        let numbers = made(&header(5, 1_100, 900), &site);
+        let read = read_site(ROUNDS_HEADER.years.into(), rest);
+        let (site, length) = read.expect("a stored record");
+        let numbers = made(&ROUNDS_HEADER, &site);
         sum += making * numbers.iter().sum::<u64>() + reading * u64::from(site.kind);
         rest = &rest[length..];
         sites += 1;

@@ -5,14 +5,14 @@
 use engine::lines;
 use engine::program::full_project;
 use engine::projects::{project_into, write_file};
-use engine::sites::{numbers_of, read_into, run_of, SITE_NUMBERS};
+use engine::sites::{numbers_of, read_into, run_of, READ_NUMBERS, SITE_NUMBERS};
 use reference::generate::{
     damaged_file, damaged_site, disturbed_site, edges, header, largest_project, project, site,
-    sites, Random, DAMAGES,
+    sites, yearly, Random, DAMAGES,
 };
 use reference::project::{self, parse_project, write_project, Header, HEADER, LONGEST_FILE};
-use reference::record::{Refusal, Site};
-use reference::rules::{KIND_NAMES, MOST_SITES};
+use reference::record::{Refusal, Site, LONGEST_RECORD};
+use reference::rules::{years_within, KIND_NAMES, MOST_SITES, MOST_YEARS};
 use std::fs;
 use std::path::Path;
 
@@ -23,7 +23,8 @@ const LISTS: usize = 5_000;
 const CALLS: usize = 50_000;
 
 /// Years and calibrations within their limits.
-const WITHIN: [u64; 3] = [5, 1_100, 900];
+const WITHIN: [u64; 3] = [YEARS as u64, 1_100, 900];
+const YEARS: u8 = 5;
 
 /// More room than any file needs.
 const AMPLE: usize = LONGEST_FILE + 100;
@@ -32,12 +33,12 @@ const OUTSIDE_LIMITS: Refusal = Refusal::of(4, 0);
 const TOO_SHORT: Refusal = Refusal::of(10, 0);
 
 /// Some dozens of sites at most, and now and then up to the most.
-fn list(random: &mut Random) -> Vec<Site> {
+fn list(random: &mut Random, years: u8) -> Vec<Site> {
     let count = match random.below(250) {
         0 => random.below(MOST_SITES + 1),
         _ => random.below(50),
     };
-    sites(random, count)
+    sites(random, years, count)
 }
 
 /// The reference's file of a list, which it takes.
@@ -49,16 +50,17 @@ fn file_of(header: [u64; 3], sites: &[Site]) -> Vec<u8> {
 /// engine.
 fn read_back(file: &[u8]) -> ([u64; 3], Vec<u64>) {
     let number = |at: usize| u64::from(u16::from_be_bytes([file[at], file[at + 1]]));
+    let years = file[1].into();
     let mut run = Vec::new();
     let mut at = HEADER;
     while at < file.len() {
-        let mut values = [0; SITE_NUMBERS + 1];
-        assert_eq!(read_into(&file[at..], &mut values), 0);
+        let mut values = [0; READ_NUMBERS];
+        assert_eq!(read_into(years, &file[at..], &mut values), 0);
         run.extend(&values[..SITE_NUMBERS]);
         at += values[SITE_NUMBERS] as usize;
     }
     assert_eq!(number(6) as usize, run.len() / SITE_NUMBERS);
-    ([file[1].into(), number(2), number(4)], run)
+    ([years, number(2), number(4)], run)
 }
 
 /// The engine's report of a file of so many sites.
@@ -85,18 +87,21 @@ fn assert_written_and_read(header: &Header, sites: &[Site]) {
 fn random_lists_are_written_and_read_back() {
     let mut random = Random::new(61);
     let mut kinds = [0; KIND_NAMES.len()];
-    let (mut empty, mut longest) = (0, 0);
+    let (mut empty, mut longest, mut yearly) = (0, 0, 0);
     for _ in 0..LISTS {
-        let (header, sites) = (header(&mut random), list(&mut random));
+        let header = header(&mut random);
+        let sites = list(&mut random, header.years);
         assert_written_and_read(&header, &sites);
         for site in &sites {
             kinds[usize::from(site.kind)] += 1;
+            yearly += u32::from(site.is_yearly());
         }
         empty += u32::from(sites.is_empty());
         longest = longest.max(sites.len());
     }
     assert!(kinds.iter().all(|count| *count > 20_000), "{kinds:?}");
     assert!(empty > 20 && longest > MOST_SITES / 2, "{empty} {longest}");
+    assert!(yearly > 40_000, "{yearly}");
 }
 
 /// A header's numbers, often with one at an edge of its limits or beyond.
@@ -110,26 +115,26 @@ fn any_header(random: &mut Random) -> [u64; 3] {
 }
 
 /// A site, now and then disturbed or damaged.
-fn any_site(random: &mut Random) -> Site {
+fn any_site(random: &mut Random, years: u8) -> Site {
     let damage = random.pick(&DAMAGES);
     match random.below(8) {
-        0 => disturbed_site(random),
-        1 => damaged_site(random, damage),
-        _ => site(random),
+        0 => disturbed_site(random, years),
+        1 => damaged_site(random, years, damage),
+        _ => site(random, years),
     }
 }
 
 /// A dozen sites at most, and now and then about as many as are allowed or far
 /// more. Half of the lists have no damage.
-fn any_list(random: &mut Random) -> Vec<Site> {
+fn any_list(random: &mut Random, years: u8) -> Vec<Site> {
     let count = match random.below(250) {
         0 => random.pick(&[MOST_SITES - 1, MOST_SITES, MOST_SITES + 1, 2 * MOST_SITES]),
         _ => random.below(13),
     };
     if random.once_in(2) {
-        return sites(random, count);
+        return sites(random, years, count);
     }
-    (0..count).map(|_| any_site(random)).collect()
+    (0..count).map(|_| any_site(random, years)).collect()
 }
 
 /// Room of up to a little more than a length, often about that length.
@@ -147,10 +152,12 @@ fn answers_are_those_of_the_reference() {
     let mut numbers = [0; 11];
     let (mut just_enough, mut one_too_little, mut too_many) = (0, 0, 0);
     for _ in 0..CALLS {
-        let (header, sites) = (any_header(&mut random), any_list(&mut random));
+        let header = any_header(&mut random);
+        let years = years_within(header[0]).unwrap_or(YEARS);
+        let sites = any_list(&mut random, years);
         // What is refused has about the room of so many longest records.
         let length = project::write_file(header, &sites, AMPLE)
-            .map_or(HEADER + 33 * sites.len(), |file| file.len());
+            .map_or(HEADER + LONGEST_RECORD * sites.len(), |file| file.len());
         let room = any_room(&mut random, length);
         let answer = write_file(header, &run_of(&sites), room);
         let wanted = project::write_file(header, &sites, room);
@@ -223,9 +230,9 @@ fn too_large(random: &mut Random, number: u64) -> u64 {
 /// The numbers of a site that is outside its range in one of the ways.
 fn damaged_numbers(random: &mut Random, way: usize) -> [u64; SITE_NUMBERS] {
     if let Some(damage) = DAMAGES.get(way) {
-        return numbers_of(&damaged_site(random, *damage));
+        return numbers_of(&damaged_site(random, YEARS, *damage));
     }
-    let mut numbers = numbers_of(&site(random));
+    let mut numbers = numbers_of(&site(random, YEARS));
     if way == DAMAGES.len() {
         let slot = 1 + random.below(SITE_NUMBERS - 1);
         numbers[slot] = too_large(random, numbers[slot]);
@@ -255,7 +262,7 @@ fn one_damaged_site_has_its_index() {
             let count = 1 + random.below(40);
             let anywhere = random.below(count);
             let index = random.pick(&[0, count - 1, anywhere]);
-            let mut run = run_of(&sites(&mut random, count));
+            let mut run = run_of(&sites(&mut random, YEARS, count));
             put(&mut run, index, &damaged_numbers(&mut random, way));
             assert_refused(WITHIN, &run, Refusal::of(8, index));
         }
@@ -271,7 +278,7 @@ fn the_first_of_two_damaged_sites_has_its_index() {
                 let count = 2 + random.below(40);
                 let first = random.below(count - 1);
                 let later = first + 1 + random.below(count - 1 - first);
-                let mut run = run_of(&sites(&mut random, count));
+                let mut run = run_of(&sites(&mut random, YEARS, count));
                 put(&mut run, first, &damaged_numbers(&mut random, way));
                 put(&mut run, later, &damaged_numbers(&mut random, later_way));
                 assert_refused(WITHIN, &run, Refusal::of(8, first));
@@ -280,16 +287,39 @@ fn the_first_of_two_damaged_sites_has_its_index() {
     }
 }
 
-/// Every number of a site, of every kind, set to what no field allows.
+/// Every number of a site, of every kind, with one traffic and with traffic year
+/// by year, set to what no field allows.
 #[test]
 fn every_number_of_a_site_is_tried() {
+    let mut random = Random::new(73);
     for kind in 0..KIND_NAMES.len() as u8 {
         let plain = Site::plain(kind, 1_000, 500);
-        for place in 0..SITE_NUMBERS {
-            for wrong in [65_535, 65_537, u64::MAX] {
-                let mut run = run_of(&[plain; 3]);
-                run[SITE_NUMBERS + place] = wrong;
-                assert_refused(WITHIN, &run, Refusal::of(8, 1));
+        for site in [plain, yearly(&mut random, plain, YEARS)] {
+            for place in 0..SITE_NUMBERS {
+                for wrong in [65_535, 65_537, u64::MAX] {
+                    let mut run = run_of(&[site; 3]);
+                    run[SITE_NUMBERS + place] = wrong;
+                    assert_refused(WITHIN, &run, Refusal::of(8, 1));
+                }
+            }
+        }
+    }
+}
+
+/// Sites of so many years are written under a header of as many, and of no
+/// others.
+#[test]
+fn later_years_are_those_of_the_header() {
+    let mut random = Random::new(74);
+    for given in 2..=MOST_YEARS {
+        let plain = Site::plain(2, 1_000, 500);
+        let sites = [plain, yearly(&mut random, plain, given)];
+        for years in 1..=MOST_YEARS {
+            let header = [years.into(), 1_100, 900];
+            if years == given {
+                assert_space(header, &sites);
+            } else {
+                assert_refused(header, &run_of(&sites), Refusal::of(8, 1));
             }
         }
     }
@@ -317,8 +347,9 @@ fn space_of_a_file() {
     let mut random = Random::new(65);
     for count in (0..60).chain([500, MOST_SITES]) {
         for _ in 0..5 {
-            let header = header(&mut random).numbers();
-            assert_space(header, &sites(&mut random, count));
+            let header = header(&mut random);
+            let sites = sites(&mut random, header.years, count);
+            assert_space(header.numbers(), &sites);
         }
     }
 }
@@ -337,8 +368,11 @@ fn a_project_of_no_site() {
 #[test]
 fn the_most_sites_and_one_more() {
     let mut random = Random::new(66);
-    let header = header(&mut random);
-    let many = sites(&mut random, MOST_SITES + 1);
+    let header = Header {
+        years: YEARS,
+        ..header(&mut random)
+    };
+    let many = sites(&mut random, YEARS, MOST_SITES + 1);
     assert_written_and_read(&header, &many[..MOST_SITES]);
     let mut run = run_of(&many);
     assert_refused(WITHIN, &run, OUTSIDE_LIMITS);
@@ -360,7 +394,7 @@ fn the_most_sites_and_one_more_at_their_longest() {
 fn a_damaged_site_among_the_most() {
     let mut random = Random::new(67);
     for index in [0, 1, MOST_SITES / 2, MOST_SITES - 2, MOST_SITES - 1] {
-        let mut run = run_of(&sites(&mut random, MOST_SITES));
+        let mut run = run_of(&sites(&mut random, YEARS, MOST_SITES));
         put(&mut run, index, &damaged_numbers(&mut random, index % WAYS));
         assert_refused(WITHIN, &run, Refusal::of(8, index));
     }
@@ -369,7 +403,7 @@ fn a_damaged_site_among_the_most() {
 #[test]
 fn limits_of_the_header() {
     let mut random = Random::new(68);
-    let sites = sites(&mut random, 3);
+    let sites = [0, 1, 3].map(|kind| Site::plain(kind, random.between(1, 20_000), 500));
     let run = run_of(&sites);
     for (at, most) in Header::MOST.into_iter().enumerate() {
         for number in edges(most) {
@@ -389,7 +423,7 @@ fn limits_of_the_header() {
 #[test]
 fn limits_then_sites_then_space() {
     let mut random = Random::new(69);
-    let sites = sites(&mut random, 20);
+    let sites = sites(&mut random, YEARS, 20);
     let (run, length) = (run_of(&sites), file_of(WITHIN, &sites).len());
     for way in 0..WAYS {
         let mut damaged = run.clone();
@@ -417,7 +451,7 @@ fn limits_then_sites_then_space() {
 fn numbers_left_at_the_end() {
     let mut random = Random::new(70);
     for whole in [0, 1, 2, 30, MOST_SITES - 1] {
-        let sites = sites(&mut random, whole + 1);
+        let sites = sites(&mut random, YEARS, whole + 1);
         let run = run_of(&sites);
         for rest in 1..SITE_NUMBERS {
             let mut left = run[..SITE_NUMBERS * whole + rest].to_vec();
@@ -437,7 +471,7 @@ fn numbers_left_at_the_end() {
 #[test]
 fn numbers_left_after_the_most_sites() {
     let mut random = Random::new(71);
-    let run = run_of(&sites(&mut random, MOST_SITES + 1));
+    let run = run_of(&sites(&mut random, YEARS, MOST_SITES + 1));
     for rest in 1..=SITE_NUMBERS {
         let left = &run[..SITE_NUMBERS * MOST_SITES + rest];
         assert_refused(WITHIN, left, OUTSIDE_LIMITS);

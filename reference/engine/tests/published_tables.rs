@@ -27,7 +27,7 @@
 //! | 20 | skew at four-leg stops | compared; 2 cells listed |
 //! | 21 | sight at four-leg stops | compared |
 //! | 22 | turn lanes at signals | compared; 2 cells listed |
-//! | 24, 25, 27 | two segments and a crossing over nine years | each year and the sum, and the expected crashes, compared; not the years' fatal and injury and property-damage rows nor the corrected column, which split by severity |
+//! | 24, 25, 27 | two segments and a crossing over nine years | each year and the sum, the three years of each calibration with their traffic year by year, and the expected crashes of nine such years, compared; not the years' fatal and injury and property-damage rows nor the corrected column, which split by severity, nor one project of the nine years, whose calibrations differ |
 //!
 //! A segment's crashes are of one mile and its rates are those crashes over
 //! the traffic. The lengths of tables 9, 10 and 15 are in feet, a record's in
@@ -106,22 +106,33 @@ fn tables_9_10_and_15_with_their_hundred_feet() {
     assert_eq!(check(published::tables_with_their_hundred_feet()), 400);
 }
 
+/// The predicted crashes of so many years with one calibration.
+fn period(years: u8, calibration: u16, site: &Site) -> Estimates {
+    let [low, high, ..] = made(years, calibration, site);
+    pair(low, high, MILLION)
+}
+
 #[test]
 fn tables_24_25_and_27_predicted_by_year_and_in_sum() {
     for example in published::examples() {
-        example.check(|calibration, site| {
-            let [low, high, ..] = made(1, calibration, site);
-            pair(low, high, MILLION)
-        });
+        example.check(|calibration, site| period(1, calibration, site));
     }
 }
 
-/// A calibration and a site like the example's whose nine years are predicted
-/// nearest to so many millionths. The table's years differ in traffic, so no
-/// one site is the table's; what is expected rests on the sum alone.
+#[test]
+fn tables_24_25_and_27_predicted_with_traffic_year_by_year() {
+    for example in published::examples() {
+        example.check_periods(period);
+    }
+}
+
+/// A calibration and a site like the example's, with its traffic year by year
+/// but in the first, whose nine years are predicted nearest to so many
+/// millionths. The table's years differ in calibration, so no project is the
+/// table's; what is expected rests on the sum alone.
 fn nearest(example: &Example, millionths: u64) -> (u16, Site) {
     let candidates = (1_000..1_400).filter_map(|traffic| {
-        let site = example.sites[0].with(Field::Traffic, traffic);
+        let site = example.site.with(Field::Traffic, traffic);
         let [low, ..] = made(9, 1_000, &site);
         let calibration = (1_000 * millionths + low / 2) / low;
         let allowed = (1..=u64::from(MOST_CALIBRATION)).contains(&calibration);

@@ -1,16 +1,40 @@
 //! The engine's site reader and writer against the reference's, on every value
 //! of every field, every map, damaged records and sites that no record has.
 
-use engine::sites::{read_site, write_numbers, write_site};
-use reference::generate::{self, Random};
-use reference::record::{self, cause, encode_record, Site, RECORD_HEAD};
-use reference::rules::{rules, Presence, Rule, FIELD_NAMES};
+use engine::sites::{
+    numbers_of, read_into, read_site, write_numbers, write_site, READ_NUMBERS, SITE_NUMBERS,
+};
+use reference::generate::{self, edges, Random};
+use reference::record::{self, cause, encode_record, Site, LONGEST_RECORD, RECORD_HEAD};
+use reference::rules::{
+    rules, Presence, Rule, FIELD_NAMES, LATER_YEARS, MOST_YEARS, TRAFFIC_FIELDS, YEARLY_BIT,
+};
 
 /// The kinds with a table, and one without.
 const KINDS: std::ops::RangeInclusive<u8> = 0..=4;
 
+/// Years of a project where nothing rests on them.
+const YEARS: u64 = 5;
+
+fn assert_same_reading_over(years: u64, part: &[u8]) {
+    let wanted = record::read_site(years, part);
+    assert_eq!(read_site(years, part), wanted, "{years}: {part:02x?}");
+}
+
 fn assert_same_reading(part: &[u8]) {
-    assert_eq!(read_site(part), record::read_site(part), "{part:02x?}");
+    assert_same_reading_over(YEARS, part);
+}
+
+fn assert_same_writing(years: u64, site: &Site, room: usize) -> bool {
+    let wanted = record::write_site(years, site, room);
+    let written = write_site(years, site, room);
+    assert_eq!(written, wanted, "{years}: {site:?} in {room}");
+    written.is_ok()
+}
+
+/// Years within the limits.
+fn any_years(random: &mut Random) -> u8 {
+    random.between(1, MOST_YEARS.into()) as u8
 }
 
 /// Fields of a curve go together; all others may stand alone.
@@ -55,18 +79,93 @@ fn every_value_of_every_field() {
     assert_eq!(records, 34 * 65_536);
 }
 
+/// Every map of every kind with one year, with two and with the most: with all
+/// the values that it asks for, with one less, and with values to spare.
 #[test]
 fn every_map_of_every_kind() {
+    let spare = [1; LONGEST_RECORD];
+    for years in [1, 2, u64::from(MOST_YEARS)] {
+        for kind in KINDS {
+            for map in 0..=u16::MAX {
+                let part = encode_record(kind, map, &spare);
+                assert_same_reading_over(years, &part);
+                let fields = RECORD_HEAD + 2 * map.count_ones() as usize;
+                let length = record::read_site(years, &part).map_or(fields, |(_, length)| length);
+                for end in [length, length - 1] {
+                    assert_same_reading_over(years, &part[..end]);
+                }
+            }
+        }
+    }
+}
+
+/// A record with a traffic for each year, all 1 but this one.
+fn record_of_years(kind: u8, years: u8, rule: &Rule, year: usize, value: u16) -> Vec<u8> {
+    let needed = rules(kind).unwrap_or(&[]).iter().take(2);
+    let mut values = Vec::new();
+    for other in needed {
+        let count = if other.is_traffic() { years } else { 1 };
+        let start = values.len();
+        values.resize(start + usize::from(count), 1);
+        if other.bit == rule.bit {
+            values[start + year - 1] = value;
+        }
+    }
+    encode_record(kind, 1 << YEARLY_BIT | 0b11, &values)
+}
+
+/// Runs over every year of every traffic of every kind.
+fn for_each_year(years: u8, mut each: impl FnMut(u8, &Rule, usize)) {
     for kind in KINDS {
-        for map in 0..=u16::MAX {
-            let fields = [1; 16];
-            let count = map.count_ones() as usize;
-            assert_same_reading(&encode_record(kind, map, &fields[..count]));
-            assert_same_reading(&encode_record(
-                kind,
-                map,
-                &fields[..count.saturating_sub(1)],
-            ));
+        let table = rules(kind).unwrap_or(&[]).iter();
+        for rule in table.filter(|rule| rule.is_traffic()) {
+            for year in 1..=years.into() {
+                each(kind, rule, year);
+            }
+        }
+    }
+}
+
+#[test]
+fn every_value_of_every_year() {
+    let mut records = 0;
+    for_each_year(3, |kind, rule, year| {
+        for value in 0..=u16::MAX {
+            assert_same_reading_over(3, &record_of_years(kind, 3, rule, year, value));
+            records += 1;
+        }
+    });
+    assert_eq!(records, 7 * 3 * 65_536);
+    for years in 1..=MOST_YEARS {
+        for_each_year(years, |kind, rule, year| {
+            for value in [0, rule.low, rule.high, rule.high + 1, u16::MAX] {
+                let record = record_of_years(kind, years, rule, year, value);
+                for other in 1..=u64::from(MOST_YEARS) {
+                    assert_same_reading_over(other, &record);
+                }
+            }
+        });
+    }
+}
+
+/// Years at their limits and beyond, with records that are right, damaged and
+/// cut, and sites that can and cannot be written.
+#[test]
+fn years_of_the_project() {
+    let mut random = Random::new(15);
+    for years in edges(MOST_YEARS.into()) {
+        for _ in 0..300 {
+            let of_site = any_years(&mut random);
+            let site = generate::disturbed_site(&mut random, of_site);
+            for room in [0, LONGEST_RECORD] {
+                assert_same_writing(years, &site, room);
+            }
+            let right = generate::site(&mut random, of_site);
+            let record = record::write_site(of_site.into(), &right, usize::MAX);
+            let record = record.expect("a generated site");
+            for end in [0, 1, record.len() - 1, record.len()] {
+                assert_same_reading_over(years, &record[..end]);
+            }
         }
     }
 }
@@ -75,14 +174,16 @@ fn every_map_of_every_kind() {
 fn records_that_are_cut_or_followed_by_bytes() {
     let mut random = Random::new(11);
     for _ in 0..20_000 {
-        let site = generate::site(&mut random);
-        let mut bytes = record::write_site(&site, usize::MAX).expect("a generated site");
+        let years = any_years(&mut random);
+        let site = generate::site(&mut random, years);
+        let years = years.into();
+        let mut bytes = record::write_site(years, &site, usize::MAX).expect("a generated site");
         let length = bytes.len();
         for end in 0..length {
-            assert_same_reading(&bytes[..end]);
+            assert_same_reading_over(years, &bytes[..end]);
         }
         bytes.extend((0..5).map(|_| random.next() as u8));
-        assert_eq!(read_site(&bytes), Ok((site, length)));
+        assert_eq!(read_site(years, &bytes), Ok((site, length)));
     }
 }
 
@@ -90,12 +191,12 @@ fn records_that_are_cut_or_followed_by_bytes() {
 fn random_bytes() {
     let mut random = Random::new(12);
     for _ in 0..300_000 {
-        let length = random.below(RECORD_HEAD + 34);
+        let length = random.below(LONGEST_RECORD + 4);
         let mut part: Vec<u8> = (0..length).map(|_| random.next() as u8).collect();
         if let Some(kind) = part.first_mut() {
             *kind %= 6;
         }
-        assert_same_reading(&part);
+        assert_same_reading_over(any_years(&mut random).into(), &part);
     }
 }
 
@@ -104,13 +205,16 @@ fn sites_that_can_and_cannot_be_written() {
     let mut random = Random::new(13);
     let (mut written, mut refused) = (0, 0);
     for _ in 0..200_000 {
-        let site = generate::disturbed_site(&mut random);
-        let needed = record::write_site(&site, usize::MAX).map_or(0, |bytes| bytes.len());
+        let years = any_years(&mut random);
+        let site = generate::disturbed_site(&mut random, years);
+        let years = years.into();
+        let needed = record::write_site(years, &site, usize::MAX).map_or(0, |bytes| bytes.len());
         for room in [needed.saturating_sub(1), needed, needed + 3] {
-            let expected = record::write_site(&site, room);
-            assert_eq!(write_site(&site, room), expected, "{site:?} in {room}");
-            written += u32::from(expected.is_ok());
-            refused += u32::from(expected.is_err());
+            if assert_same_writing(years, &site, room) {
+                written += 1;
+            } else {
+                refused += 1;
+            }
         }
     }
     assert!(written > 100_000 && refused > 100_000);
@@ -133,12 +237,7 @@ fn every_value_of_every_slot_written() {
                 plain
             };
             for value in 0..=u16::MAX {
-                let site = base.with(field, value);
-                assert_eq!(
-                    write_site(&site, 40),
-                    record::write_site(&site, 40),
-                    "{site:?}"
-                );
+                assert_same_writing(YEARS, &base.with(field, value), LONGEST_RECORD);
                 sites += 1;
             }
         }
@@ -146,20 +245,53 @@ fn every_value_of_every_slot_written() {
     assert_eq!(sites, 5 * 20 * 65_536);
 }
 
+/// Every later year of every traffic, foreign ones too, emptied and at the edges
+/// of its range, from a plain site and from one of every count of years.
+#[test]
+fn every_later_year_written() {
+    let mut random = Random::new(16);
+    let mut sites: u32 = 0;
+    for kind in KINDS {
+        for given in 1..=MOST_YEARS {
+            let plain = Site::plain(kind, 1_000, 500);
+            let base = generate::yearly(&mut random, plain, given);
+            for field in TRAFFIC_FIELDS {
+                for year in 2..LATER_YEARS + 2 {
+                    let edges = [0, 1, 20_000, 20_001, u16::MAX].map(Some);
+                    for value in edges.into_iter().chain([None]) {
+                        let mut site = base;
+                        site.set_later(field, year, value);
+                        for years in 1..=u64::from(MOST_YEARS) {
+                            assert_same_writing(years, &site, LONGEST_RECORD);
+                        }
+                        sites += 1;
+                    }
+                }
+            }
+        }
+    }
+    assert_eq!(sites, 5 * 10 * 18 * 6);
+}
+
 #[test]
 fn numbers_that_are_no_site() {
     let site = Site::plain(0, 1_000, 500);
-    let numbers = engine::sites::numbers_of(&site);
-    assert_eq!(write_numbers(&numbers, 40).map(|bytes| bytes.len()), Ok(7));
+    let numbers = numbers_of(&site);
+    let written = |numbers: &[u64], room| write_numbers(YEARS, numbers, room);
+    assert_eq!(written(&numbers, 40).map(|bytes| bytes.len()), Ok(7));
     for few in 0..numbers.len() {
         for room in [0, 40] {
-            assert_eq!(write_numbers(&numbers[..few], room), Err(cause::RANGE));
+            assert_eq!(written(&numbers[..few], room), Err(cause::RANGE));
         }
+        let answer = write_numbers(0, &numbers[..few], 40);
+        assert_eq!(answer, Err(cause::HEADER_LIMITS));
     }
     for place in 0..numbers.len() {
-        let mut wrong = numbers;
-        wrong[place] = u64::MAX;
-        assert_eq!(write_numbers(&wrong, 40), Err(cause::RANGE), "{place}");
+        for number in [65_537, u64::MAX] {
+            let mut wrong = numbers;
+            wrong[place] = number;
+            assert_eq!(written(&wrong, 40), Err(cause::RANGE), "{place}");
+        }
     }
 }
 
@@ -167,31 +299,41 @@ fn numbers_that_are_no_site() {
 /// included, is written as the record that was read.
 #[test]
 fn a_read_site_is_handed_on_as_it_was_left() {
+    const ROOM: usize = READ_NUMBERS + 3;
     let mut random = Random::new(14);
     for _ in 0..20_000 {
-        let site = generate::site(&mut random);
-        let record = record::write_site(&site, usize::MAX).expect("a generated site");
-        let mut values = [u64::MAX; 25];
-        assert_eq!(engine::sites::read_into(&record, &mut values), 0);
-        assert_eq!(values[..21], engine::sites::numbers_of(&site));
+        let years = any_years(&mut random);
+        let site = generate::site(&mut random, years);
+        let years = years.into();
+        let record = record::write_site(years, &site, usize::MAX).expect("a generated site");
+        let mut values = [u64::MAX; ROOM];
+        assert_eq!(read_into(years, &record, &mut values), 0);
+        assert_eq!(values[..SITE_NUMBERS], numbers_of(&site));
         assert_eq!(
-            values[21..],
+            values[SITE_NUMBERS..],
             [record.len() as u64, u64::MAX, u64::MAX, u64::MAX]
         );
-        for count in 21..=25 {
-            let written = write_numbers(&values[..count], record.len() + 3);
+        for count in SITE_NUMBERS..=ROOM {
+            let written = write_numbers(years, &values[..count], record.len() + 3);
             assert_eq!(written.as_ref(), Ok(&record), "{count} {site:?}");
         }
     }
 }
 
+/// Too few numbers for a site are tried last.
 #[test]
 fn a_short_run_of_values_is_left_as_it_was() {
     let part = encode_record(0, 3, &[1_000, 500]);
-    let mut values = [7; 21];
-    let number = engine::sites::read_into(&part, &mut values);
-    assert_eq!((number, values), (u64::from(cause::TOO_SHORT), [7; 21]));
-    let mut values = [9; 24];
-    assert_eq!(engine::sites::read_into(&part, &mut values), 0);
-    assert_eq!((values[21], values[22], values[23]), (7, 9, 9));
+    let mut values = [7; SITE_NUMBERS];
+    let mut refused = |years, part: &[u8]| {
+        let number = read_into(years, part, &mut values);
+        assert_eq!(values, [7; SITE_NUMBERS]);
+        number as u8
+    };
+    assert_eq!(refused(YEARS, &part), cause::TOO_SHORT);
+    assert_eq!(refused(YEARS, &part[..6]), cause::RUNS_PAST_END);
+    assert_eq!(refused(11, &part), cause::HEADER_LIMITS);
+    let mut values = [9; READ_NUMBERS + 2];
+    assert_eq!(read_into(YEARS, &part, &mut values), 0);
+    assert_eq!(values[SITE_NUMBERS..], [7, 9, 9]);
 }

@@ -66,3 +66,23 @@ fn notice_a_field_without_effect() {
         assert!(!faults(name, without).is_empty(), "{name}");
     }
 }
+
+/// An engine that takes the first year's traffic in every year fails the figures
+/// of traffic year by year.
+#[test]
+fn notice_later_years_without_effect() {
+    for name in [
+        "yearly segment of 2 years",
+        "yearly segment, doubled in the third year",
+        "yearly segment, lane",
+        "yearly segment, shoulder",
+        "yearly segment, driveways",
+        "yearly 3st, major road late",
+        "yearly 4st, minor road late",
+        "yearly 4sg, major road late, minor early",
+        "the back road along the river",
+    ] {
+        let first = |header: &Header, site: &Site| pairs(header, &site.in_year(1));
+        assert!(!faults(name, first).is_empty(), "{name}");
+    }
+}

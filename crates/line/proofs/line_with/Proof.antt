@@ -11,7 +11,7 @@ use Rattle.line.proofs.line_with.Statement.{statement}
 use Rattle.line.proofs.line_with.Tie as tie
 
 overdispersion-requires : tie.Need-overdispersion-requires
-overdispersion-requires c κs = valid-kind (c .before .args .site) (c .before .pre .4)
+overdispersion-requires c κs = valid-kind _ (c .before .args .site) (c .before .pre .4)
 
 weigh-requires : tie.Need-weigh-requires
 weigh-requires c κs =

@@ -1,59 +1,35 @@
-use native.Mathlib.Nat.{pos-of-ne-zero}
-use Rattle.site.specs.Numbers.{segment-sizes, crossing-sizes, site-traffic, crossing-minor}
-use Rattle.prediction.specs.Carrying.{segment-pair, crossing-pair}
+use mathlib.Core.Path.{sym, _∙_}
+use Rattle.prediction.specs.Terms.{first-sized}
+use Rattle.prediction.specs.Carrying.{one-term}
 use borrow.Author.Needs.{needs}
 use Rattle.prediction.proofs.predicted_with.Statement.{statement}
 use Rattle.prediction.proofs.predicted_with.Tie as tie
 
-carry-segment-requires : tie.Need-carry-segment-requires
-carry-segment-requires c κs =
-    let number = c .before in
-    let p = number .before .before .before .pre in
-    let valid = p .4 in
-    let sizes = segment-sizes _ valid (number .before .if1 .taken) _ (site-traffic _ valid) in
-    (p .1, p .3 .years-most, p .3 .segments-most, rw (c .segment-of .ensures, number .number .ensures) sizes)
+yearly-pair-requires : tie.Need-yearly-pair-requires
+yearly-pair-requires c κs =
+    let p = c .before .before .pre in
+    (p .0, p .1, p .2, p .3, p .4, sym (c .before .is-yearly .ensures) ∙ c .if1 .taken)
 
-returns : tie.Need-returns
-returns c =
-    let road = c .before .before in
-    let kind = road .before .before in
-    let a = kind .before .before .args in
-    let is = rw (road .before .number .ensures) at (road .segment-of .ensures) in
-    rw (← segment-pair (a .header) (a .site) is (kind .if1 .taken), ← c .before .carry-segment .ensures) (c .round-outward .ensures)
-
-carry-crossing-requires : tie.Need-carry-crossing-requires
-carry-crossing-requires c κs =
-    let minor = c .before in
-    let kind = minor .before .before in
-    let p = kind .before .before .pre in
-    let valid = p .4 in
-    let from = pos-of-ne-zero (kind .if1 .left) in (
-      p .0,
-      p .2,
-      p .3 .years-most,
-      p .3 .crossings-most,
-      rw (c .crossing-of .ensures, minor .number3 .ensures, minor .before .number2 .ensures)
-          (crossing-sizes _ valid from _ _ (site-traffic _ valid) (crossing-minor _ valid from)),
-    )
+term-pair-requires : tie.Need-term-pair-requires
+term-pair-requires c κs =
+    let p = c .before .before .before .before .pre in
+    let sized = first-sized _ (p .3) _ (p .4) _ (p .3 .years-least) (p .3 .years-most) in
+    (p .0, p .1, p .2, p .3, p .4, rw (c .before .number .ensures, c .number2 .ensures) sized)
 
 returns-2 : tie.Need-returns-2
 returns-2 c =
-    let crossing = c .before .before in
-    let minor = crossing .before in
-    let kind = minor .before .before in
-    let a = kind .before .before .args in
-    let is = rw (minor .number3 .ensures, minor .before .number2 .ensures) at (crossing .crossing-of .ensures) in
-    rw (← crossing-pair (a .header) (a .site) is (kind .if1 .left), ← c .before .carry-crossing .ensures) (c .round-outward2 .ensures)
+    let numbers = c .before in
+    let kept = numbers .before .before in
+    let a = kept .before .before .args in
+    let one = sym (kept .before .is-yearly .ensures) ∙ kept .if1 .left in
+    rw (← one-term (a .header) (a .site) one, ← numbers .before .number .ensures, ← numbers .number2 .ensures) (c .term-pair .ensures)
 
 pub predicted-with-spec : {M : Type 1} → statement M
 predicted-with-spec =
     tie.close
     (tie.spec
-    (λ c κs. search needs) (λ c κs. search needs)
-    carry-segment-requires
     (λ c κs. search needs)
-    returns
-    (λ c κs. search needs) (λ c κs. search needs) (λ c κs. search needs)
-    carry-crossing-requires
-    (λ c κs. search needs)
+    yearly-pair-requires
+    (λ c. search needs) (λ c κs. search needs) (λ c κs. search needs)
+    term-pair-requires
     returns-2)

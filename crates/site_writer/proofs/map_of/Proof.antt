@@ -5,7 +5,7 @@ use Prim.Native.Nat.{_+_, _≤_, _-_}
 use lib.ListN.{drop}
 use Rattle.site.specs.Rules.{slotCount}
 use Rattle.site.specs.Writing.{mapOf}
-use Rattle.site.specs.Bytes.{map-small}
+use Rattle.site.specs.WriteRead.{map-small}
 use Rattle.site_writer.proofs.WriteSteps.{walk-end, map-more}
 use Rattle.site_writer.proofs.map_of.Statement.{statement}
 use Rattle.site_writer.proofs.map_of.Tie as tie

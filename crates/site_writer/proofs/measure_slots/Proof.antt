@@ -15,12 +15,12 @@ use Rattle.site_writer.proofs.measure_slots.Statement.{statement}
 use Rattle.site_writer.proofs.measure_slots.Tie as tie
 
 abbrev Inv-loop : tie.InvT-loop
-Inv-loop rules slots n₀ i₀ n i =
-    (i ≤ slotCount) × (n ≤ 3 + 2 * i) × (allFit (drop i rules) (drop i slots) ≡ allFit rules slots)
-    × (n + length (bytesOf (drop i rules) (drop i slots)) ≡ 3 + length (bytesOf rules slots))
+Inv-loop more rules slots n₀ i₀ n i =
+    (i ≤ slotCount) × (n ≤ 3 + more + 2 * i) × (allFit (drop i rules) (drop i slots) ≡ allFit rules slots)
+    × (n + length (bytesOf (drop i rules) (drop i slots)) ≡ 3 + more + length (bytesOf rules slots))
 
 abbrev μ-loop : tie.MeasureT-loop
-μ-loop rules slots n₀ i₀ n i = slotCount - i
+μ-loop more rules slots n₀ i₀ n i = slotCount - i
 
 returns : tie.Need-returns Inv-loop μ-loop
 unfolding allFit
@@ -63,6 +63,7 @@ measure-slots-spec =
     (tie.spec
     Inv-loop
     μ-loop
+    (λ c. omega arith)
     (λ c. search needs) (λ c. omega arith) (λ c. omega arith) (λ c. omega arith) (λ c. omega arith) (λ c κs. search needs)
     returns
     (λ c. omega arith) (λ c. omega arith) (λ c. omega arith) (λ c. omega arith) (λ c κs. search needs)

@@ -26,10 +26,10 @@ static uint64_t written;
 static uint64_t sites[(CRASH_MOST_SITES + 1) * CRASH_SITE_NUMBERS];
 static uint8_t file[CRASH_LONGEST_FILE];
 
-static uint64_t record_of(size_t numbers, size_t room)
+static uint64_t record_of(uint64_t years, size_t numbers, size_t room)
 {
     written = 7;
-    return crash_site_write(values, numbers, buffer, room, &written);
+    return crash_site_write(years, values, numbers, buffer, room, &written);
 }
 
 static uint64_t line_of(uint64_t years, uint64_t segments, uint64_t crossings, size_t numbers, size_t room)
@@ -45,15 +45,15 @@ static uint64_t file_of(uint64_t years, size_t numbers, size_t room)
     return crash_project_write(years, 1000, 1000, sites, numbers, file, room, &written);
 }
 
-/* The 22 numbers that were read, and more, are handed on; fewer than 21 are no site. */
+/* The numbers that were read, and more, are handed on; fewer than a site's are no site. */
 static void handed_on(void)
 {
-    HOLDS(crash_site_read(part, sizeof part, values, CRASH_READ_NUMBERS) == CRASH_OK);
+    HOLDS(crash_site_read(1, part, sizeof part, values, CRASH_READ_NUMBERS) == CRASH_OK);
     HOLDS(values[CRASH_SITE_NUMBERS] == sizeof part);
     values[CRASH_READ_NUMBERS] = UINT64_MAX;
     for (size_t numbers = 0; numbers <= CRASH_READ_NUMBERS + 2; numbers++) {
         uint64_t answer = numbers < CRASH_SITE_NUMBERS ? CRASH_OUTSIDE_RANGE : CRASH_OK;
-        HOLDS(record_of(numbers, sizeof buffer) == answer);
+        HOLDS(record_of(1, numbers, sizeof buffer) == answer);
         HOLDS(written == (answer == CRASH_OK ? sizeof part : 7));
         HOLDS(answer != CRASH_OK || memcmp(buffer, part, sizeof part) == 0);
         HOLDS(line_of(1, 1000, 1000, numbers, CRASH_LINE_NUMBERS) == answer);
@@ -106,13 +106,50 @@ static void in_order(void)
     HOLDS(line_of(11, 1, 1, 0, 0) == CRASH_OUTSIDE_LIMITS);
     HOLDS(line_of(1, 1, 1, 0, 0) == CRASH_OUTSIDE_RANGE);
     HOLDS(line_of(1, 1, 1, CRASH_READ_NUMBERS, CRASH_LINE_NUMBERS - 1) == CRASH_TOO_SHORT);
-    HOLDS(record_of(0, 0) == CRASH_OUTSIDE_RANGE);
-    HOLDS(record_of(CRASH_READ_NUMBERS, sizeof part - 1) == CRASH_TOO_SHORT);
+    HOLDS(record_of(11, 0, 0) == CRASH_OUTSIDE_LIMITS);
+    HOLDS(record_of(1, 0, 0) == CRASH_OUTSIDE_RANGE);
+    HOLDS(record_of(1, CRASH_READ_NUMBERS, sizeof part - 1) == CRASH_TOO_SHORT);
     values[1] = 20001;
     HOLDS(line_of(11, 1, 1, CRASH_READ_NUMBERS, 0) == CRASH_OUTSIDE_LIMITS);
     HOLDS(line_of(1, 1, 1, CRASH_READ_NUMBERS, 0) == CRASH_OUTSIDE_RANGE);
-    HOLDS(record_of(CRASH_READ_NUMBERS, 0) == CRASH_OUTSIDE_RANGE);
+    HOLDS(record_of(0, CRASH_READ_NUMBERS, 0) == CRASH_OUTSIDE_LIMITS);
+    HOLDS(record_of(1, CRASH_READ_NUMBERS, 0) == CRASH_OUTSIDE_RANGE);
     HOLDS(written == 7);
+}
+
+/* A four-leg signal with traffic 1,000 and 2,000, and minor traffic 300 and 400. */
+static const uint8_t yearly[] = {3, 0x80, 3, 0x03, 0xE8, 0x07, 0xD0, 0x01, 0x2C, 0x01, 0x90};
+
+static uint64_t read_over(uint64_t years, size_t length)
+{
+    memset(values, 0, sizeof values);
+    return crash_site_read(years, yearly, length, values, CRASH_READ_NUMBERS);
+}
+
+/* Later years: where they stand, and years that are not theirs. */
+static void year_by_year(void)
+{
+    const uint64_t *later = values + CRASH_SITE_NUMBERS - 2 * CRASH_LATER_YEARS;
+    const uint64_t *minor = later + CRASH_LATER_YEARS;
+
+    HOLDS(read_over(0, sizeof yearly) == CRASH_OUTSIDE_LIMITS);
+    HOLDS(read_over(CRASH_MOST_YEARS + 1, 0) == CRASH_OUTSIDE_LIMITS);
+    HOLDS(read_over(1, sizeof yearly) == CRASH_BIT_MISSING);
+    HOLDS(read_over(3, sizeof yearly) == CRASH_RUNS_PAST);
+    HOLDS(read_over(2, sizeof yearly - 1) == CRASH_RUNS_PAST && values[1] == 0);
+    HOLDS(read_over(2, sizeof yearly) == CRASH_OK && values[CRASH_SITE_NUMBERS] == sizeof yearly);
+    HOLDS(values[1] == 1000 && later[0] == 2000 && values[3] == 300 && minor[0] == 400);
+    for (size_t year = 1; year < CRASH_LATER_YEARS; year++)
+        HOLDS(later[year] == CRASH_ABSENT && minor[year] == CRASH_ABSENT);
+    HOLDS(record_of(2, CRASH_READ_NUMBERS, sizeof yearly) == CRASH_OK);
+    HOLDS(written == sizeof yearly && memcmp(buffer, yearly, sizeof yearly) == 0);
+    for (uint64_t years = 1; years <= CRASH_MOST_YEARS; years++) {
+        uint64_t answer = years == 2 ? CRASH_OK : CRASH_OUTSIDE_RANGE;
+        HOLDS(record_of(years, CRASH_READ_NUMBERS, sizeof buffer) == answer);
+        HOLDS(line_of(years, 1000, 1000, CRASH_READ_NUMBERS, CRASH_LINE_NUMBERS) == answer);
+    }
+    values[CRASH_SITE_NUMBERS - CRASH_LATER_YEARS] = CRASH_ABSENT;
+    HOLDS(record_of(2, CRASH_READ_NUMBERS, sizeof buffer) == CRASH_OUTSIDE_RANGE);
 }
 
 int main(void)
@@ -121,5 +158,6 @@ int main(void)
     listed();
     listed_in_order();
     in_order();
+    year_by_year();
     return wrong;
 }

@@ -174,7 +174,7 @@ abbrev b11 : Syntax.Body
 b11 = Syntax.assign (Syntax.place 14 []) (Syntax.aggregate (Syntax.int Syntax.w8 0 ∷ Syntax.int Syntax.w64 0 ∷ Syntax.int Syntax.w64 8 ∷ []))
 
 abbrev b12 : Syntax.Body
-b12 = Syntax.call "project_writer::walk" (Syntax.copy (Syntax.place 4 []) ∷ Syntax.copy (Syntax.place 13 []) ∷ Syntax.copy (Syntax.place 14 []) ∷ []) (Syntax.place 7 [])
+b12 = Syntax.call "project_writer::walk" (Syntax.copy (Syntax.place 1 []) ∷ Syntax.copy (Syntax.place 4 []) ∷ Syntax.copy (Syntax.place 13 []) ∷ Syntax.copy (Syntax.place 14 []) ∷ []) (Syntax.place 7 [])
 
 abbrev b13 : Syntax.Body
 b13 = Syntax.assign (Syntax.place 10 []) (Syntax.rvOpd (Syntax.copy (Syntax.place 4 (Syntax.field 1 ∷ []))))
@@ -195,7 +195,7 @@ abbrev b18 : Syntax.Body
 b18 = Syntax.assign (Syntax.place 18 []) (Syntax.aggregate (Syntax.copy (Syntax.place 17 []) ∷ Syntax.copy (Syntax.place 5 (Syntax.field 1 ∷ [])) ∷ []))
 
 abbrev b19 : Syntax.Body
-b19 = Syntax.call "project_writer::walk" (Syntax.copy (Syntax.place 4 []) ∷ Syntax.copy (Syntax.place 18 []) ∷ Syntax.copy (Syntax.place 8 []) ∷ []) (Syntax.place 14 [])
+b19 = Syntax.call "project_writer::walk" (Syntax.copy (Syntax.place 1 []) ∷ Syntax.copy (Syntax.place 4 []) ∷ Syntax.copy (Syntax.place 18 []) ∷ Syntax.copy (Syntax.place 8 []) ∷ []) (Syntax.place 14 [])
 
 abbrev b20 : Syntax.Body
 b20 = Syntax.call "project_writer::course::answer_of" (Syntax.copy (Syntax.place 14 []) ∷ []) (Syntax.place 0 [])
@@ -541,7 +541,7 @@ module _ (claims· : Claims) where
   s18 = Make.n-enum-make Course.the-type T20 14 λ m. Course.enum .make (Logic.inl (0, (8, tt)))
 
   abbrev s19 : Typed.Both T21 T22
-  s19 = Call.callB ps·1 r·1 (claims· .2) (claims· .3) T21 (record { pos = 4; ty = Syntax.tyRef (Syntax.named 0) Syntax.imm (Memory.pointee (Site.the-row .written)); ref = λ x. x }, (record { pos = 13; ty = Syntax.tyRef Syntax.erased Syntax.mut type·0; ref = λ x. x }, (record { pos = 14; st = []; d = 0; at = λ x. x }, tt))) 7 (0 ∷ 2 ∷ []) CourseLaws.mir
+  s19 = Call.callB ps·1 r·1 (claims· .2) (claims· .3) T21 (Num.vAt 1 λ x. x, (record { pos = 4; ty = Syntax.tyRef (Syntax.named 0) Syntax.imm (Memory.pointee (Site.the-row .written)); ref = λ x. x }, (record { pos = 13; ty = Syntax.tyRef Syntax.erased Syntax.mut type·0; ref = λ x. x }, (record { pos = 14; st = []; d = 0; at = λ x. x }, tt)))) 7 (0 ∷ 2 ∷ []) CourseLaws.mir
 
   abbrev s20 : Typed.Mo T22 → Typed.Mo T23
   s20 = Scalar.n-room T22 14 CourseLaws.mir
@@ -586,7 +586,7 @@ module _ (claims· : Claims) where
   s39 = Relend.k-sl-aggregate (Referent.rtF (Referent.fInt Syntax.w8)) (Relend.asMut (Referent.rtF (Referent.fInt Syntax.w8))) T41 17 18 4 type·3 type·3 (λ x. x) (Scalar.oFld 5 (Syntax.field 1 ∷ []) type·1 8 λ v. Shared.lenV (v .0))
 
   abbrev s40 : Typed.Both T42 T43
-  s40 = Call.callB ps·1 r·1 (claims· .2) (claims· .3) T42 (record { pos = 4; ty = Syntax.tyRef (Syntax.named 0) Syntax.imm (Memory.pointee (Site.the-row .written)); ref = λ x. x }, (record { pos = 18; ty = Syntax.tyRef Syntax.erased Syntax.mut type·0; ref = λ x. x }, (record { pos = 8; st = []; d = 0; at = λ x. x }, tt))) 14 (0 ∷ 4 ∷ []) CourseLaws.mir
+  s40 = Call.callB ps·1 r·1 (claims· .2) (claims· .3) T42 (Num.vAt 1 λ x. x, (record { pos = 4; ty = Syntax.tyRef (Syntax.named 0) Syntax.imm (Memory.pointee (Site.the-row .written)); ref = λ x. x }, (record { pos = 18; ty = Syntax.tyRef Syntax.erased Syntax.mut type·0; ref = λ x. x }, (record { pos = 8; st = []; d = 0; at = λ x. x }, tt)))) 14 (0 ∷ 4 ∷ []) CourseLaws.mir
 
   abbrev s41 : Typed.Mo T43 → Typed.Mo T44
   s41 = Scalar.n-room T43 8 CourseLaws.mir
@@ -1042,7 +1042,7 @@ module _ (claims· : Claims) where
           d21 = Typed.g-pre 𝓤 H A W 𝓣 E G43 G44 b22 Δ0 (Typed.pass T43 T44 s41) at20 (Scalar.g-room 𝓤 H A W E G43 8 CourseLaws.mir (Local.room-whole 𝓤 H A W (Declared.row Course.the-type) CourseLaws.mir Path.refl)) d20
 
           d22 : Typed.Typed 𝓤 H A 𝓣 E G42 b23 Δ0 at22
-          d22 = Typed.s-seq 𝓤 H A W 𝓣 E G42 G43 b19 b22 Δ0 (Typed.both s40) at21 (Plain.t-call-plain 𝓤 H A W 𝓣 2 ps·1 r·1 (claims· .2) (claims· .3) "project_writer::walk" (known .1) E (λ pos β. β) G42 (record { pos = 4; ty = Syntax.tyRef (Syntax.named 0) Syntax.imm (Memory.pointee (Site.the-row .written)); ref = λ x. x }, (record { pos = 18; ty = Syntax.tyRef Syntax.erased Syntax.mut type·0; ref = λ x. x }, (record { pos = 8; st = []; d = 0; at = λ x. x }, tt))) 14 (0 ∷ 4 ∷ []) (Call.sub-id 𝓤 H A W (G42 .slots)) (ShrSlice.spares-sslice 𝓤 H A W Site.the-row type·7 0, Shared.reads-sslice 𝓤 H A W Site.the-row type·7 0, Path.refl, (Reads.as-is 𝓤 H A (Mut.mslice (Referent.rtF (Referent.fInt Syntax.w8)) type·3 4), Mut.reads-mslice 𝓤 H A W (Referent.rtF (Referent.fInt Syntax.w8)) type·3 4, Path.refl, ((Yields.yields-copy 𝓤 H A W (λ ρ. Unit) (Declared.row Course.the-type) Path.refl (Copies.cEnum Course.the-type CourseLaws.the-laws CourseLaws.the-copy .copy 𝓤 H A W) row·6 (λ x. x) (λ x. x) (λ ρ told. Local.mem-whole 𝓤 H A W (Declared.row Course.the-type) ρ) λ ρ told. Local.whole-mem 𝓤 H A W (Declared.row Course.the-type) ρ, Path.refl), tt))) (Reads.room-gone 𝓤 H A CourseLaws.mir) (tt, (tt, tt)) Path.refl) d21
+          d22 = Typed.s-seq 𝓤 H A W 𝓣 E G42 G43 b19 b22 Δ0 (Typed.both s40) at21 (Plain.t-call-plain 𝓤 H A W 𝓣 2 ps·1 r·1 (claims· .2) (claims· .3) "project_writer::walk" (known .1) E (λ pos β. β) G42 (Num.vAt 1 λ x. x, (record { pos = 4; ty = Syntax.tyRef (Syntax.named 0) Syntax.imm (Memory.pointee (Site.the-row .written)); ref = λ x. x }, (record { pos = 18; ty = Syntax.tyRef Syntax.erased Syntax.mut type·0; ref = λ x. x }, (record { pos = 8; st = []; d = 0; at = λ x. x }, tt)))) 14 (0 ∷ 4 ∷ []) (Call.sub-id 𝓤 H A W (G42 .slots)) ((Scalar.reads-sc 𝓤 H A W (Row.sInt Syntax.w64), Path.refl), (ShrSlice.spares-sslice 𝓤 H A W Site.the-row type·7 0, Shared.reads-sslice 𝓤 H A W Site.the-row type·7 0, Path.refl, (Reads.as-is 𝓤 H A (Mut.mslice (Referent.rtF (Referent.fInt Syntax.w8)) type·3 4), Mut.reads-mslice 𝓤 H A W (Referent.rtF (Referent.fInt Syntax.w8)) type·3 4, Path.refl, ((Yields.yields-copy 𝓤 H A W (λ ρ. Unit) (Declared.row Course.the-type) Path.refl (Copies.cEnum Course.the-type CourseLaws.the-laws CourseLaws.the-copy .copy 𝓤 H A W) row·6 (λ x. x) (λ x. x) (λ ρ told. Local.mem-whole 𝓤 H A W (Declared.row Course.the-type) ρ) λ ρ told. Local.whole-mem 𝓤 H A W (Declared.row Course.the-type) ρ, Path.refl), tt)))) (Reads.room-gone 𝓤 H A CourseLaws.mir) (tt, (tt, tt)) Path.refl) d21
 
           d23 : Typed.Typed 𝓤 H A 𝓣 E G41 b24 Δ0 at23
           d23 = Typed.s-seq 𝓤 H A W 𝓣 E G41 G42 b18 b23 Δ0 (Typed.ask s39) at22 (Relend.t-sl-aggregate 𝓤 H A W E (Referent.rtF (Referent.fInt Syntax.w8)) 𝓣 (Relend.asMut (Referent.rtF (Referent.fInt Syntax.w8))) G41 17 18 4 type·3 type·3 (λ x. x) (Scalar.oFld 5 (Syntax.field 1 ∷ []) type·1 8 λ v. Shared.lenV (v .0)) (Reads.as-is 𝓤 H A (Relend.msptr (Referent.rtF (Referent.fInt Syntax.w8)) type·3 4)) (Reads.room-gone 𝓤 H A type·10) (Relend.reads-owed-len 𝓤 H A W (Referent.rtF (Referent.fInt Syntax.w8)) type·4 1 4 (Row.lease (κs .1 .0) (qs .1 .0)) 8 Path.refl, Path.refl) Path.refl Path.refl λ b o k. tt) d22
@@ -1105,7 +1105,7 @@ module _ (claims· : Claims) where
           d42 = Typed.g-pre 𝓤 H A W 𝓣 E G22 G23 b29 Δ0 (Typed.pass T22 T23 s20) at41 (Scalar.g-room 𝓤 H A W E G22 14 CourseLaws.mir (Local.room-whole 𝓤 H A W (Declared.row Course.the-type) CourseLaws.mir Path.refl)) d41
 
           d43 : Typed.Typed 𝓤 H A 𝓣 E G21 b30 Δ0 at43
-          d43 = Typed.s-seq 𝓤 H A W 𝓣 E G21 G22 b12 b29 Δ0 (Typed.both s19) at42 (Plain.t-call-plain 𝓤 H A W 𝓣 2 ps·1 r·1 (claims· .2) (claims· .3) "project_writer::walk" (known .1) E (λ pos β. β) G21 (record { pos = 4; ty = Syntax.tyRef (Syntax.named 0) Syntax.imm (Memory.pointee (Site.the-row .written)); ref = λ x. x }, (record { pos = 13; ty = Syntax.tyRef Syntax.erased Syntax.mut type·0; ref = λ x. x }, (record { pos = 14; st = []; d = 0; at = λ x. x }, tt))) 7 (0 ∷ 2 ∷ []) (Call.sub-id 𝓤 H A W (G21 .slots)) (ShrSlice.spares-sslice 𝓤 H A W Site.the-row type·7 0, Shared.reads-sslice 𝓤 H A W Site.the-row type·7 0, Path.refl, (Reads.as-is 𝓤 H A (Mut.mslice (Referent.rtF (Referent.fInt Syntax.w8)) type·3 2), Mut.reads-mslice 𝓤 H A W (Referent.rtF (Referent.fInt Syntax.w8)) type·3 2, Path.refl, ((Yields.yields-copy 𝓤 H A W (λ ρ. Unit) (Declared.row Course.the-type) Path.refl (Copies.cEnum Course.the-type CourseLaws.the-laws CourseLaws.the-copy .copy 𝓤 H A W) row·6 (λ x. x) (λ x. x) (λ ρ told. Local.mem-whole 𝓤 H A W (Declared.row Course.the-type) ρ) λ ρ told. Local.whole-mem 𝓤 H A W (Declared.row Course.the-type) ρ, Path.refl), tt))) (Reads.room-gone 𝓤 H A CourseLaws.mir) (tt, (tt, tt)) Path.refl) d42
+          d43 = Typed.s-seq 𝓤 H A W 𝓣 E G21 G22 b12 b29 Δ0 (Typed.both s19) at42 (Plain.t-call-plain 𝓤 H A W 𝓣 2 ps·1 r·1 (claims· .2) (claims· .3) "project_writer::walk" (known .1) E (λ pos β. β) G21 (Num.vAt 1 λ x. x, (record { pos = 4; ty = Syntax.tyRef (Syntax.named 0) Syntax.imm (Memory.pointee (Site.the-row .written)); ref = λ x. x }, (record { pos = 13; ty = Syntax.tyRef Syntax.erased Syntax.mut type·0; ref = λ x. x }, (record { pos = 14; st = []; d = 0; at = λ x. x }, tt)))) 7 (0 ∷ 2 ∷ []) (Call.sub-id 𝓤 H A W (G21 .slots)) ((Scalar.reads-sc 𝓤 H A W (Row.sInt Syntax.w64), Path.refl), (ShrSlice.spares-sslice 𝓤 H A W Site.the-row type·7 0, Shared.reads-sslice 𝓤 H A W Site.the-row type·7 0, Path.refl, (Reads.as-is 𝓤 H A (Mut.mslice (Referent.rtF (Referent.fInt Syntax.w8)) type·3 2), Mut.reads-mslice 𝓤 H A W (Referent.rtF (Referent.fInt Syntax.w8)) type·3 2, Path.refl, ((Yields.yields-copy 𝓤 H A W (λ ρ. Unit) (Declared.row Course.the-type) Path.refl (Copies.cEnum Course.the-type CourseLaws.the-laws CourseLaws.the-copy .copy 𝓤 H A W) row·6 (λ x. x) (λ x. x) (λ ρ told. Local.mem-whole 𝓤 H A W (Declared.row Course.the-type) ρ) λ ρ told. Local.whole-mem 𝓤 H A W (Declared.row Course.the-type) ρ, Path.refl), tt)))) (Reads.room-gone 𝓤 H A CourseLaws.mir) (tt, (tt, tt)) Path.refl) d42
 
           d44 : Typed.Typed 𝓤 H A 𝓣 E G20 b31 Δ0 at44
           d44 = Typed.s-seq 𝓤 H A W 𝓣 E G20 G21 b11 b30 Δ0 (Typed.pass T20 T21 s18) at43 (Make.t-enum-make-wt 𝓤 H A W E 𝓣 Course.the-type CourseLaws.the-laws CourseLaws.the-plain tt G20 14 (Scalar.oInt Syntax.w8 0 ∷ Scalar.oInt Syntax.w64 0 ∷ Scalar.oInt Syntax.w64 8 ∷ []) (λ m. Course.enum .make (Logic.inl (0, (8, tt)))) (Reads.room-gone 𝓤 H A CourseLaws.mir) (tt, (tt, (tt, tt))) Path.refl (λ m wa. Make.made-val Course.the-type CourseLaws.the-laws (CourseLaws.the-laws .0 .0 .val 0 ∷ CourseLaws.the-laws .0 .1 .0 .val 8 ∷ []) (Course.enum .make (Logic.inl (0, (8, tt)))) (Signed.made-wt Field.u64-field (CourseLaws.the-laws .0 .0) StructMake.u64-wt 0, (Signed.made-wt Field.u64-field (CourseLaws.the-laws .0 .1 .0) StructMake.u64-wt 8, tt)) (wa .1)) λ m wa. Make.made-is Course.the-type CourseLaws.the-laws (CourseLaws.the-laws .0 .0 .val 0 ∷ CourseLaws.the-laws .0 .1 .0 .val 8 ∷ []) (Course.enum .make (Logic.inl (0, (8, tt)))) (Signed.made-wt Field.u64-field (CourseLaws.the-laws .0 .0) StructMake.u64-wt 0, (Signed.made-wt Field.u64-field (CourseLaws.the-laws .0 .1 .0) StructMake.u64-wt 8, tt)) (wa .1)) d43
@@ -1290,14 +1290,14 @@ module _ (claims· : Claims) where
 
       module _ (before· : After-walk-arg) where
         abbrev pub After-walk·own : Type 0
-        After-walk·own = Called.Called ps·1 r·1 (claims· .3) T21 (record { pos = 4; ty = Syntax.tyRef (Syntax.named 0) Syntax.imm (Memory.pointee (Site.the-row .written)); ref = λ x. x }, (record { pos = 13; ty = Syntax.tyRef Syntax.erased Syntax.mut type·0; ref = λ x. x }, (record { pos = 14; st = []; d = 0; at = λ x. x }, tt))) (m18 (before· .before) (before· .walk-arg .given))
+        After-walk·own = Called.Called ps·1 r·1 (claims· .3) T21 (Num.vAt 1 λ x. x, (record { pos = 4; ty = Syntax.tyRef (Syntax.named 0) Syntax.imm (Memory.pointee (Site.the-row .written)); ref = λ x. x }, (record { pos = 13; ty = Syntax.tyRef Syntax.erased Syntax.mut type·0; ref = λ x. x }, (record { pos = 14; st = []; d = 0; at = λ x. x }, tt)))) (m18 (before· .before) (before· .walk-arg .given))
 
       pub record After-walk : Type 0 where
         pub before : After-walk-arg
         pub walk : After-walk·own before
 
       abbrev pub After-walk·gave : (c : After-walk) → s19 .gives (m18 (c .before .before) (c .before .walk-arg .given))
-      After-walk·gave = λ c. Called.given ps·1 r·1 (claims· .3) T21 (record { pos = 4; ty = Syntax.tyRef (Syntax.named 0) Syntax.imm (Memory.pointee (Site.the-row .written)); ref = λ x. x }, (record { pos = 13; ty = Syntax.tyRef Syntax.erased Syntax.mut type·0; ref = λ x. x }, (record { pos = 14; st = []; d = 0; at = λ x. x }, tt))) (m18 (c .before .before) (c .before .walk-arg .given)) (c .walk)
+      After-walk·gave = λ c. Called.given ps·1 r·1 (claims· .3) T21 (Num.vAt 1 λ x. x, (record { pos = 4; ty = Syntax.tyRef (Syntax.named 0) Syntax.imm (Memory.pointee (Site.the-row .written)); ref = λ x. x }, (record { pos = 13; ty = Syntax.tyRef Syntax.erased Syntax.mut type·0; ref = λ x. x }, (record { pos = 14; st = []; d = 0; at = λ x. x }, tt)))) (m18 (c .before .before) (c .before .walk-arg .given)) (c .walk)
 
       abbrev pub m20 : (before : After-walk-arg) → (given : s19 .gives (m18 (before .before) (before .walk-arg .given))) → Typed.Mo T23
       m20 = λ before given. s20 (m19 before given)
@@ -1411,14 +1411,14 @@ module _ (claims· : Claims) where
 
       module _ (before· : After-walk-arg2) where
         abbrev pub After-walk2·own : Type 0
-        After-walk2·own = Called.Called ps·1 r·1 (claims· .3) T42 (record { pos = 4; ty = Syntax.tyRef (Syntax.named 0) Syntax.imm (Memory.pointee (Site.the-row .written)); ref = λ x. x }, (record { pos = 18; ty = Syntax.tyRef Syntax.erased Syntax.mut type·0; ref = λ x. x }, (record { pos = 8; st = []; d = 0; at = λ x. x }, tt))) (m33 (before· .before) (before· .walk-arg2 .given))
+        After-walk2·own = Called.Called ps·1 r·1 (claims· .3) T42 (Num.vAt 1 λ x. x, (record { pos = 4; ty = Syntax.tyRef (Syntax.named 0) Syntax.imm (Memory.pointee (Site.the-row .written)); ref = λ x. x }, (record { pos = 18; ty = Syntax.tyRef Syntax.erased Syntax.mut type·0; ref = λ x. x }, (record { pos = 8; st = []; d = 0; at = λ x. x }, tt)))) (m33 (before· .before) (before· .walk-arg2 .given))
 
       pub record After-walk2 : Type 0 where
         pub before : After-walk-arg2
         pub walk2 : After-walk2·own before
 
       abbrev pub After-walk2·gave : (c : After-walk2) → s40 .gives (m33 (c .before .before) (c .before .walk-arg2 .given))
-      After-walk2·gave = λ c. Called.given ps·1 r·1 (claims· .3) T42 (record { pos = 4; ty = Syntax.tyRef (Syntax.named 0) Syntax.imm (Memory.pointee (Site.the-row .written)); ref = λ x. x }, (record { pos = 18; ty = Syntax.tyRef Syntax.erased Syntax.mut type·0; ref = λ x. x }, (record { pos = 8; st = []; d = 0; at = λ x. x }, tt))) (m33 (c .before .before) (c .before .walk-arg2 .given)) (c .walk2)
+      After-walk2·gave = λ c. Called.given ps·1 r·1 (claims· .3) T42 (Num.vAt 1 λ x. x, (record { pos = 4; ty = Syntax.tyRef (Syntax.named 0) Syntax.imm (Memory.pointee (Site.the-row .written)); ref = λ x. x }, (record { pos = 18; ty = Syntax.tyRef Syntax.erased Syntax.mut type·0; ref = λ x. x }, (record { pos = 8; st = []; d = 0; at = λ x. x }, tt)))) (m33 (c .before .before) (c .before .walk-arg2 .given)) (c .walk2)
 
       abbrev pub m35 : (before : After-walk-arg2) → (given : s40 .gives (m33 (before .before) (before .walk-arg2 .given))) → Typed.Mo T44
       m35 = λ before given. s41 (m34 before given)
@@ -1488,13 +1488,13 @@ module _ (claims· : Claims) where
         lay5 = λ c. (Path.refl, λ g. λ g'. (answer-of-requires record { before = record { before = record { before = c .before; walk2 = c .walk2 }; buffer3 = record { given = g } }; slice-known4 = record { given = g' } }, λ g''. lay6 record { before = record { before = record { before = record { before = c .before; walk2 = c .walk2 }; buffer3 = record { given = g } }; slice-known4 = record { given = g' } }; answer-of = Called.called ps·3 r·3 (claims· .7) T46 (record { pos = 14; st = []; d = 0; at = λ x. x }, tt) (m37 record { before = record { before = c .before; walk2 = c .walk2 }; buffer3 = record { given = g } } g') g'' }))
 
         lay4 : (c : After-begin-writing) → at32 (W0 (c .before .before .before .before .before .before .before .before .before .κs) (c .before .before .before .before .before .before .before .before .before .args)) (m26 (c .before) (After-begin-writing·gave c))
-        lay4 = λ c. (Path.refl, λ g. λ g'. λ g''. (Path.refl, (walk-requires-2 record { before = record { before = record { before = record { before = c .before; begin-writing = c .begin-writing }; buffer2 = record { given = g } }; slice-known3 = record { given = g' } }; walk-arg2 = record { given = g'' } }, λ g'3. lay5 record { before = record { before = record { before = record { before = record { before = c .before; begin-writing = c .begin-writing }; buffer2 = record { given = g } }; slice-known3 = record { given = g' } }; walk-arg2 = record { given = g'' } }; walk2 = Called.called ps·1 r·1 (claims· .3) T42 (record { pos = 4; ty = Syntax.tyRef (Syntax.named 0) Syntax.imm (Memory.pointee (Site.the-row .written)); ref = λ x. x }, (record { pos = 18; ty = Syntax.tyRef Syntax.erased Syntax.mut type·0; ref = λ x. x }, (record { pos = 8; st = []; d = 0; at = λ x. x }, tt))) (m33 record { before = record { before = record { before = c .before; begin-writing = c .begin-writing }; buffer2 = record { given = g } }; slice-known3 = record { given = g' } } g'') g'3 })))
+        lay4 = λ c. (Path.refl, λ g. λ g'. λ g''. (Path.refl, (walk-requires-2 record { before = record { before = record { before = record { before = c .before; begin-writing = c .begin-writing }; buffer2 = record { given = g } }; slice-known3 = record { given = g' } }; walk-arg2 = record { given = g'' } }, λ g'3. lay5 record { before = record { before = record { before = record { before = record { before = c .before; begin-writing = c .begin-writing }; buffer2 = record { given = g } }; slice-known3 = record { given = g' } }; walk-arg2 = record { given = g'' } }; walk2 = Called.called ps·1 r·1 (claims· .3) T42 (Num.vAt 1 λ x. x, (record { pos = 4; ty = Syntax.tyRef (Syntax.named 0) Syntax.imm (Memory.pointee (Site.the-row .written)); ref = λ x. x }, (record { pos = 18; ty = Syntax.tyRef Syntax.erased Syntax.mut type·0; ref = λ x. x }, (record { pos = 8; st = []; d = 0; at = λ x. x }, tt)))) (m33 record { before = record { before = record { before = c .before; begin-writing = c .begin-writing }; buffer2 = record { given = g } }; slice-known3 = record { given = g' } } g'') g'3 })))
 
         lay3 : (c : After-walk) → at42 (W0 (c .before .before .before .before .before .κs) (c .before .before .before .before .before .args)) (m19 (c .before) (After-walk·gave c))
         lay3 = λ c. (Path.refl, λ g. λ g'. λ g''. (Path.refl, (begin-writing-requires record { before = record { before = record { before = record { before = c .before; walk = c .walk }; buffer = record { given = g } }; slice-known2 = record { given = g' } }; begin-writing-arg = record { given = g'' } }, λ g'3. lay4 record { before = record { before = record { before = record { before = record { before = c .before; walk = c .walk }; buffer = record { given = g } }; slice-known2 = record { given = g' } }; begin-writing-arg = record { given = g'' } }; begin-writing = Called.called ps·2 r·2 (claims· .5) T31 (record { pos = 6; st = []; d = 0; at = λ x. x }, (Num.vAt 10 λ x. x, (record { pos = 16; ty = Syntax.tyRef Syntax.erased Syntax.mut type·0; ref = λ x. x }, (record { pos = 7; st = []; d = 0; at = λ x. x }, tt)))) (m25 record { before = record { before = record { before = c .before; walk = c .walk }; buffer = record { given = g } }; slice-known2 = record { given = g' } } g'') g'3 })))
 
         lay2 : (c : Else1) → at47 (W0 (c .before .before .before .κs) (c .before .before .before .args)) (m15 (c .before))
-        lay2 = λ c. λ g. (Path.refl, (walk-requires record { before = record { before = c .before; if1 = c .if1 }; walk-arg = record { given = g } }, λ g'. lay3 record { before = record { before = record { before = c .before; if1 = c .if1 }; walk-arg = record { given = g } }; walk = Called.called ps·1 r·1 (claims· .3) T21 (record { pos = 4; ty = Syntax.tyRef (Syntax.named 0) Syntax.imm (Memory.pointee (Site.the-row .written)); ref = λ x. x }, (record { pos = 13; ty = Syntax.tyRef Syntax.erased Syntax.mut type·0; ref = λ x. x }, (record { pos = 14; st = []; d = 0; at = λ x. x }, tt))) (m18 record { before = c .before; if1 = c .if1 } g) g' }))
+        lay2 = λ c. λ g. (Path.refl, (walk-requires record { before = record { before = c .before; if1 = c .if1 }; walk-arg = record { given = g } }, λ g'. lay3 record { before = record { before = record { before = c .before; if1 = c .if1 }; walk-arg = record { given = g } }; walk = Called.called ps·1 r·1 (claims· .3) T21 (Num.vAt 1 λ x. x, (record { pos = 4; ty = Syntax.tyRef (Syntax.named 0) Syntax.imm (Memory.pointee (Site.the-row .written)); ref = λ x. x }, (record { pos = 13; ty = Syntax.tyRef Syntax.erased Syntax.mut type·0; ref = λ x. x }, (record { pos = 14; st = []; d = 0; at = λ x. x }, tt)))) (m18 record { before = c .before; if1 = c .if1 } g) g' }))
 
         lay1 : (c : After-does-admit) → at50 (W0 (c .before .before .κs) (c .before .before .args)) (m5 (c .before) (After-does-admit·gave c))
         lay1 = λ c. (tt, (λ taken. ((tt, (tt, (tt, (Path.refl, (Path.refl, tt))))), returns record { before = record { before = c .before; does-admit = c .does-admit }; if1 = record { taken = taken } }), λ left. lay2 record { before = record { before = c .before; does-admit = c .does-admit }; if1 = record { left = left } }))

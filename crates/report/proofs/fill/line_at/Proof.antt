@@ -16,13 +16,13 @@ returns : tie.Need-returns
 returns c =
     let read = c .before .before in
     let start = read .before .before .before in
-    no-line (now (start .args .file)) (start .args .at) _ (read .read-site .ensures) editionOne (start .args .header) _ (c .enum-told .given .1)
+    no-line (now (start .args .file)) (start .args .at) _ editionOne (start .args .header) (read .read-site .ensures) _ (c .enum-told .given .1)
 
 returns-2 : tie.Need-returns-2
 returns-2 c =
     let read = c .before .before .before .before in
     let start = read .before .before .before in
-    a-line (now (start .args .file)) (start .args .at) _ (read .read-site .ensures) editionOne (start .args .header) _ _ _
+    a-line (now (start .args .file)) (start .args .at) _ editionOne (start .args .header) (read .read-site .ensures) _ _ _
     (c .before .before .answer .given .1) (c .line-with .ensures)
 
 pub line-at-spec : {M : Type 1} → statement M

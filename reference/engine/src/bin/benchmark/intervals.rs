@@ -1,11 +1,11 @@
 //! Sites as intervals of Arb and of MPFI, where `build.rs` found them.
 
-use engine::sites::numbers_of;
+use engine::sites::{numbers_of, SITE_NUMBERS};
 use reference::project::Header;
 use reference::record::Site;
 
 /// A site's numbers, as the C files have them.
-pub type Numbers = [u64; 21];
+pub type Numbers = [u64; SITE_NUMBERS];
 
 /// Two ends of the predicted and two of the expected crashes, in millionths.
 pub type Ends = [f64; 4];

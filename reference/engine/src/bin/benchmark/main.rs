@@ -1,19 +1,20 @@
 //! Times of the engine's brackets, of its line of a site and of whole projects,
 //! read and written, with the stored numbers lent, beside plain doubles and,
-//! where they are installed, two interval libraries, in one run. For brackets
-//! and lines the engine's program `rounds` is run with few and with many
-//! rounds, and the difference is divided by what was made.
+//! where they are installed, two interval libraries, in one run; and of sites
+//! with traffic year by year beside the same sites with one traffic. For
+//! brackets and lines the engine's program `rounds` is run with few and with
+//! many rounds, and the difference is divided by what was made.
 
 mod intervals;
 
-use engine::program::{rounds, rounds_of, Job};
-use engine::sites::run_of;
+use engine::program::{rounds, rounds_of, Job, ROUNDS_HEADER as HEADER};
+use engine::sites::{read_into, run_of, READ_NUMBERS};
 use engine::{doubles, lines, projects};
 use intervals::{numbers_of_sites, Library, LIBRARIES};
 use reference::generate::{self, Random};
 use reference::project::{write_project, Header, Project, LONGEST_FILE};
-use reference::record::Site;
-use reference::rules::{EDITION, KIND_NAMES, MOST_SITES};
+use reference::record::{write_site, Site};
+use reference::rules::{KIND_NAMES, MOST_SITES, MOST_YEARS, SEGMENT};
 use std::hint::black_box;
 use std::iter;
 use std::time::{Duration, Instant};
@@ -156,14 +157,6 @@ fn double_time(kind: &Kind) -> f64 {
     })
 }
 
-/// The header of the program's rounds.
-const HEADER: Header = Header {
-    edition: EDITION,
-    years: 5,
-    segment_calibration: 1_100,
-    crossing_calibration: 900,
-};
-
 /// The rounds over the sites by which two runs differ.
 const ROUNDS: u16 = 300;
 
@@ -175,10 +168,10 @@ fn sum_of_lines(sites: &[Site]) -> u64 {
 }
 
 /// The doubles are those of the engine's lines.
-fn assert_same_figures(sites: &[Site]) {
+fn assert_same_figures(header: &Header, sites: &[Site]) {
     for site in sites {
-        let line = lines::line(&HEADER, site).expect("a line");
-        let doubles = doubles::line(&HEADER, site).map(|crashes| crashes * 1e6);
+        let line = lines::line(header, site).expect("a line");
+        let doubles = doubles::line(header, site).map(|crashes| crashes * 1e6);
         for (pair, double) in line.chunks(2).zip(doubles) {
             let slack = 1.0 + double * 1e-9;
             let (low, high) = (pair[0] as f64, pair[1] as f64);
@@ -209,11 +202,11 @@ fn in_doubles(header: &Header, sites: &[Site]) {
 }
 
 /// A library's intervals are narrow and meet the brackets of the engine's lines.
-fn assert_meets(library: &Library, sites: &[Site]) {
+fn assert_meets(library: &Library, header: &Header, sites: &[Site]) {
     let mut ends = vec![[0.0; 4]; sites.len()];
-    library.ends_into(&HEADER, &numbers_of_sites(sites), &mut ends);
+    library.ends_into(header, &numbers_of_sites(sites), &mut ends);
     for (site, ends) in sites.iter().zip(ends) {
-        let line = lines::line(&HEADER, site).expect("a line");
+        let line = lines::line(header, site).expect("a line");
         for (pair, interval) in line.chunks(2).zip(ends.chunks(2)) {
             let (low, high) = (pair[0] as f64, pair[1] as f64);
             let narrow = interval[0] <= interval[1] && interval[1] - interval[0] <= high * 1e-9;
@@ -229,17 +222,17 @@ fn assert_meets(library: &Library, sites: &[Site]) {
 
 /// Nanoseconds for a site by a library, where it is installed: its intervals,
 /// and these with their ends read out.
-fn library_times(library: &Library, sites: &[Site]) -> Option<[f64; 2]> {
+fn library_times(library: &Library, header: &Header, sites: &[Site]) -> Option<[f64; 2]> {
     if !library.is_installed() {
         return None;
     }
-    assert_meets(library, sites);
+    assert_meets(library, header, sites);
     let count = sites.len() as f64;
     let numbers = numbers_of_sites(sites);
     let mut ends = vec![[0.0; 4]; sites.len()];
-    let made = time_here(count, || library.make(&HEADER, black_box(&numbers)));
+    let made = time_here(count, || library.make(header, black_box(&numbers)));
     let read = time_here(count, || {
-        library.ends_into(&HEADER, black_box(&numbers), black_box(&mut ends));
+        library.ends_into(header, black_box(&numbers), black_box(&mut ends));
     });
     Some([made, read])
 }
@@ -253,7 +246,7 @@ struct Times {
 }
 
 fn times_of(sites: &[Site]) -> Times {
-    assert_same_figures(sites);
+    assert_same_figures(&HEADER, sites);
     let printed = rounds(&rounds_of(&[(Job::Lines, 1)], sites));
     assert_eq!(printed, format!("0\n{}\n", sum_of_lines(sites)));
     let (reading, making) = line_times(sites);
@@ -263,7 +256,7 @@ fn times_of(sites: &[Site]) -> Times {
         doubles: time_here(sites.len() as f64, || in_doubles(&HEADER, sites)),
         libraries: LIBRARIES
             .each_ref()
-            .map(|library| library_times(library, sites)),
+            .map(|library| library_times(library, &HEADER, sites)),
     }
 }
 
@@ -318,9 +311,9 @@ struct Survey {
     run: Vec<u64>,
 }
 
-fn survey_of(sites: &[Site]) -> Survey {
+fn survey_of(header: Header, sites: &[Site]) -> Survey {
     let project = Project {
-        header: HEADER,
+        header,
         sites: sites.to_vec(),
     };
     let file = write_project(&project).expect("a project that the writer takes");
@@ -328,55 +321,125 @@ fn survey_of(sites: &[Site]) -> Survey {
     Survey { project, file, run }
 }
 
-fn file_into(run: &[u64], file: &mut [u8]) -> usize {
-    let written = projects::file_into(HEADER.numbers(), run, file);
+fn file_into(survey: &Survey, file: &mut [u8]) -> usize {
+    let header = survey.project.header.numbers();
+    let written = projects::file_into(header, black_box(&survey.run), file);
     written.expect("sites that the writer takes")
 }
 
 /// The report of a project's file is the lines of its sites and their sums, and
 /// the file is written from the sites.
 fn assert_survey(survey: &Survey, report: &mut [u64], buffer: &mut [u8]) {
-    let Survey { project, file, run } = survey;
+    let Survey { project, file, .. } = survey;
     assert_eq!(report_into(file, report), report.len());
-    assert_eq!(report, lines::report(&HEADER, &project.sites));
-    let written = file_into(run, buffer);
+    assert_eq!(report, lines::report(&project.header, &project.sites));
+    let written = file_into(survey, buffer);
     assert_eq!(&buffer[..written], file);
 }
 
-fn print_projects(sites: &[Site], size: usize) {
-    let surveys: Vec<Survey> = sites.chunks_exact(size).map(survey_of).collect();
-    assert_eq!(surveys.len() * size, sites.len());
+/// Nanoseconds for a site of projects of one size.
+struct ProjectTimes {
+    read: f64,
+    written: f64,
+    doubles: f64,
+}
+
+fn project_times(surveys: &[Survey], size: usize) -> ProjectTimes {
     let mut report = vec![0; 4 * (size + 1)];
     let mut buffer = vec![0; LONGEST_FILE];
-    for survey in &surveys {
+    for survey in surveys {
         assert_survey(survey, &mut report, &mut buffer);
     }
-    let count = sites.len() as f64;
-    let read = time_here(count, || {
-        for survey in &surveys {
+    let count = (surveys.len() * size) as f64;
+    let time =
+        |work: &mut dyn FnMut(&Survey)| time_here(count, || surveys.iter().for_each(&mut *work));
+    ProjectTimes {
+        read: time(&mut |survey| {
             black_box(report_into(black_box(&survey.file), &mut report));
-        }
-    });
-    let doubles = time_here(count, || {
-        for survey in &surveys {
-            in_doubles(&survey.project.header, &survey.project.sites);
-        }
-    });
-    let written = time_here(count, || {
-        for survey in &surveys {
-            black_box(file_into(black_box(&survey.run), &mut buffer));
-        }
-    });
-    let microseconds = |site: f64| site * size as f64 / 1e3;
+        }),
+        written: time(&mut |survey| {
+            black_box(file_into(survey, &mut buffer));
+        }),
+        doubles: time(&mut |survey| in_doubles(&survey.project.header, &survey.project.sites)),
+    }
+}
+
+/// The time of a project of so many sites, in microseconds.
+fn microseconds(site: f64, size: usize) -> f64 {
+    site * size as f64 / 1e3
+}
+
+fn print_projects(sites: &[Site], size: usize) {
+    let surveys = sites.chunks_exact(size);
+    let surveys: Vec<Survey> = surveys.map(|sites| survey_of(HEADER, sites)).collect();
+    assert_eq!(surveys.len() * size, sites.len());
+    let ProjectTimes {
+        read,
+        written,
+        doubles,
+    } = project_times(&surveys, size);
     println!(
         "| {size} | {:.1} | {read:.0} | {doubles:.0} | {:.1} | {written:.0} |",
-        microseconds(read),
-        microseconds(written)
+        microseconds(read, size),
+        microseconds(written, size)
     );
 }
 
+/// The most years, of which a site may have each with its traffic.
+const MOST: Header = Header {
+    years: MOST_YEARS,
+    ..HEADER
+};
+
+/// Nanoseconds for reading a record by the exported call.
+fn record_time(sites: &[Site]) -> f64 {
+    let years = MOST.years.into();
+    let record = |site| write_site(years, site, usize::MAX).expect("a site that the writer takes");
+    let records: Vec<Vec<u8>> = sites.iter().map(record).collect();
+    let mut values = [0; READ_NUMBERS];
+    time_here(sites.len() as f64, || {
+        for record in &records {
+            black_box(read_into(years, black_box(record), &mut values));
+        }
+    })
+}
+
+fn print_years_of(name: &str, sites: &[Site]) {
+    assert_same_figures(&MOST, sites);
+    let size = sites.len();
+    let times = project_times(&[survey_of(MOST, sites)], size);
+    let mut cells = vec![format!("{:.1}", microseconds(times.read, size))];
+    let each = [times.read, record_time(sites), times.written, times.doubles];
+    cells.extend(each.map(|time| format!("{time:.0}")));
+    for library in &LIBRARIES {
+        let made = library_times(library, &MOST, sites);
+        cells.push(made.map_or(String::new(), |[made, _]| format!("{made:.0}")));
+    }
+    print_row(name, cells.into_iter());
+}
+
+/// The same sites with one traffic for all years and with one for each.
+fn print_years(random: &mut Random) {
+    let libraries = LIBRARIES.each_ref().map(|library| library.name);
+    println!(
+        "| {MOST_SITES} sites over {MOST_YEARS} years | Engine, a project, µs | Engine, a site, ns \
+        | its record read, ns | written, ns | Doubles, a site, ns | {} |",
+        libraries.join(" | ")
+    );
+    println!("|---|---|---|---|---|---|---|---|");
+    for (kind, is_segment) in [("segments", true), ("crossings", false)] {
+        let all = iter::repeat_with(|| generate::plain_site(random));
+        let of_kind = all.filter(|site| (site.kind == SEGMENT) == is_segment);
+        let plain: Vec<Site> = of_kind.take(MOST_SITES).collect();
+        let years = |site: &Site| generate::yearly(random, *site, MOST.years);
+        let yearly: Vec<Site> = plain.iter().map(years).collect();
+        print_years_of(&format!("{kind}, one traffic"), &plain);
+        print_years_of(&format!("{kind}, traffic year by year"), &yearly);
+    }
+}
+
 fn random_sites(random: &mut Random, count: usize) -> Vec<Site> {
-    (0..count).map(|_| generate::site(random)).collect()
+    (0..count).map(|_| generate::plain_site(random)).collect()
 }
 
 fn print_brackets() {
@@ -411,8 +474,10 @@ fn main() {
     );
     println!("|---|---|---|---|---|---|");
     let sites = random_sites(&mut random, SITES_OF_PROJECTS);
-    assert_same_figures(&sites);
+    assert_same_figures(&HEADER, &sites);
     for size in SIZES {
         print_projects(&sites, size);
     }
+    println!();
+    print_years(&mut random);
 }
