@@ -81,7 +81,7 @@ fn defined(line: &str, is_spec: bool) -> Option<&str> {
     } else {
         rest.find(|c: char| !c.is_alphanumeric() && c != '_')?
     };
-    let has_type = is_spec && rest[end..].starts_with(" : ");
+    let has_type = is_spec && (rest[end..].starts_with(" : ") || &rest[end..] == " :");
     (is_definer || has_type).then_some(&rest[..end])
 }
 

@@ -6,6 +6,7 @@ ghost use lib.ListN.{length};
 ghost use lib.Seq.{sets};
 ghost use Rattle.site.specs.Rules.{inside};
 ghost use Rattle.header.specs.Header.{headerLength, headerIn, countIn, inLimits, admits, headerBytes, headerNumber};
+use site::rules::are_years_known;
 use site::words::put_word;
 use site::words::word_at;
 
@@ -19,8 +20,6 @@ pub struct Header {
 pub const HEADER_LENGTH: usize = 8;
 
 const EDITION: u8 = 1;
-
-const MOST_YEARS: u64 = 10;
 
 const MOST_CALIBRATION: u64 = 9999;
 
@@ -67,7 +66,7 @@ fn is_up_to(most: u64, value: u64) -> bool
 pub fn is_in_limits(header: Header) -> bool
     ensures { λ r. ⌜ r ≡ inLimits header ⌝ }
 {
-    if !is_up_to(MOST_YEARS, header.years) {
+    if !are_years_known(header.years) {
         return false;
     }
     if !is_up_to(MOST_CALIBRATION, header.segments) {

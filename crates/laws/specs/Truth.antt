@@ -44,3 +44,11 @@ passed false x y e = (refl, e)
 pub never-so : (a : Bool) → (a ≡ true → ⊥) → a ≡ false
 never-so true never = absurd (never refl)
 never-so false never = refl
+
+-- and one that never fails
+pub never-false : (a : Bool) → (a ≡ false → ⊥) → a ≡ true
+never-false true never = refl
+never-false false never = absurd (never refl)
+
+pub both-true : (a b : Bool) → a ≡ true → b ≡ true → (a && b) ≡ true
+both-true a b p q = rw (p, q)

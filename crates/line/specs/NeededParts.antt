@@ -2,6 +2,7 @@
 -- written out as numbers here, so that a wider claim is refused.
 use Prim.Native.Nat.{ℕ, _+_, _*_, _≤_, _<_}
 use mathlib.Core.Path.{_≡_}
+use mathlib.Core.Bool.{true, false}
 use native.Mathlib.Omega.{arith}
 use Rattle.estimate.specs.Fraction.{millionths, _<ᶠ_}
 use Rattle.estimate.specs.FractionLaws.{not-≤ᶠ-and-<ᶠ}
@@ -10,6 +11,7 @@ use Rattle.site.specs.declared.values.Slot.the-variants.{Number}
 use Rattle.header.specs.declared.Header.{Header}
 use Rattle.model.specs.Coefficients.{Coefficients}
 use Rattle.site.specs.Numbers.{number}
+use Rattle.site.specs.Yearly.{yearly}
 use Rattle.model.specs.StatedWidths.{sitesCounted}
 use Rattle.model.specs.Predicted.{predictedUnder, predictedOver}
 use Rattle.model.specs.Expected.{expectedUnder, expectedOver}
@@ -47,15 +49,35 @@ module _ (c : Coefficients) (header : Header) (site : Site) (line : Line) where
   pub expected-exchanged : line .«expected_high» < line .«expected_low» → Fails
   expected-exchanged l s = omega (arith, s .expected-in-order)
 
-  -- a site that counts as n: more than 4 n, or 8 (n + n O), and a millionth of the high apart
-  abbrev n : ℕ
-  n = sitesCounted (header .years) site
+  -- a site with one traffic: more than 4, or 8 (1 + O), and a millionth of the high apart
+  module _ (plain : yearly site ≡ false) where
+    one-site : sitesCounted (header .years) site ≡ 1
+    unfolding sitesCounted
+    one-site = rw plain
 
-  pub predicted-too-wide : 1000000 * (line .«predicted_low» + 4 * n) + line .«predicted_high» < 1000000 * line .«predicted_high» → Fails
-  predicted-too-wide l s = omega (arith, s .predicted-narrow .width)
+    crashes-once : sitesCounted (header .years) site * number (site .observed) ≡ number (site .observed)
+    crashes-once = rw one-site (omega arith)
 
-  pub expected-too-wide : 1000000 * (line .«expected_low» + 8 * (n + n * number (site .observed))) + line .«expected_high» < 1000000 * line .«expected_high» → Fails
-  expected-too-wide l s = omega (arith, s .expected-narrow .width)
+    pub predicted-too-wide : 1000000 * (line .«predicted_low» + 4) + line .«predicted_high» < 1000000 * line .«predicted_high» → Fails
+    predicted-too-wide l s = omega (arith, one-site, s .predicted-narrow .width)
+
+    pub expected-too-wide : 1000000 * (line .«expected_low» + 8 * (1 + number (site .observed))) + line .«expected_high» < 1000000 * line .«expected_high» → Fails
+    expected-too-wide l s = omega (arith, one-site, crashes-once, s .expected-narrow .width)
+
+  -- a site with a traffic for each of Y years: more than 4 Y, or 8 (Y + Y O), and a millionth of the high apart
+  module _ (each : yearly site ≡ true) where
+    years-sites : sitesCounted (header .years) site ≡ header .years
+    unfolding sitesCounted
+    years-sites = rw each
+
+    crashes-years : sitesCounted (header .years) site * number (site .observed) ≡ header .years * number (site .observed)
+    crashes-years = rw years-sites
+
+    pub yearly-predicted-too-wide : 1000000 * (line .«predicted_low» + 4 * header .years) + line .«predicted_high» < 1000000 * line .«predicted_high» → Fails
+    yearly-predicted-too-wide l s = omega (arith, years-sites, s .predicted-narrow .width)
+
+    pub yearly-expected-too-wide : 1000000 * (line .«expected_low» + 8 * (header .years + header .years * number (site .observed))) + line .«expected_high» < 1000000 * line .«expected_high» → Fails
+    yearly-expected-too-wide l s = omega (arith, years-sites, crashes-years, s .expected-narrow .width)
 
   -- an expected number that is not between the prediction and the history
   module _ (observed : ℕ) (history : site .observed ≡ Number observed) where

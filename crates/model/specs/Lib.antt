@@ -12,6 +12,7 @@ pub mod Expected
 pub mod StatedWidths
 pub mod Grade
 pub mod TermLaws
+pub mod SameTraffic
 pub mod ExpectedLaws
 pub mod Truncation
 pub mod Neighbours

@@ -23,6 +23,6 @@ expectedEach = 8
 unfoldable pub sitesCounted : (years : ℕ) → Site → ℕ
 sitesCounted years site = cond (yearly site) years 1
 
--- "and each of its observed crashes as Y"; in edition 1 each crash of another counts once
+-- "and each of its observed crashes as Y"; each crash of a site with one traffic counts once
 abbrev pub observedWeight : Coefficients → (years : ℕ) → Site → ℕ
 observedWeight c years site = sitesCounted years site * number (site .observed)

@@ -1,12 +1,12 @@
 -- What the code takes from the factors: the place of each exponent, a start's products, the list of factors that it went through,
 -- and the sum over a site's terms.
-use Prim.Native.Nat.{ℕ, suc, _+_, _-_, _*_, _≤_, _<_}
+use Prim.Native.Nat.{ℕ, _+_, _*_, _≤_, _<_}
 use mathlib.Core.Path.{_≡_, refl, ap, _∙_}
 use mathlib.Core.Bool.{true, false}
 use mathlib.Core.List.{List}
-use native.Mathlib.Nat.{mul-le-mul, add-zero, add-assoc}
-use native.Mathlib.Numerals.{add-one}
+use native.Mathlib.Nat.{mul-le-mul, add-zero, zero-add, add-assoc}
 use native.Mathlib.Omega.{arith}
+use lib.ListN.{length, getD, drop}
 use lib.Dec.{lit<}
 use borrow.Author.Tests.{eq-eqb, ne-eqb}
 use Rattle.bracket.specs.declared.Bracket.{Bracket}
@@ -20,7 +20,6 @@ use Rattle.site.specs.declared.values.Site.{Site}
 use Rattle.site.specs.declared.numbers.Segment.{Segment}
 use Rattle.site.specs.declared.numbers.Crossing.{Crossing}
 use Rattle.site.specs.Rules.{mostYears}
-use Rattle.site.specs.Yearly.{yearly}
 use Rattle.site.specs.Writing.{Valid}
 use Rattle.site.specs.Numbers.{segmentOf, crossingOf, by-crossing}
 use Rattle.model.specs.Coefficients.{editionOne, byKind}
@@ -29,12 +28,14 @@ use Rattle.model.specs.Parts.{Factor, Term, straightFactors, curveFactors, segm
 use Rattle.header.specs.declared.Header.{Header}
 use Rattle.header.specs.Header.{mostCalibration}
 use Rattle.header.specs.HeaderLaws.{HeaderWithin}
-use Rattle.model.specs.Predicted.{termOf, yearTerm, laterTerms, termsOf}
+use Rattle.model.specs.Predicted.{termsOf}
 use Rattle.prediction.specs.declared.Pair.{Pair}
 use Rattle.prediction.specs.Factors.{bracketsOf}
 use Rattle.prediction.specs.Pair.{segmentUnits, crossingUnits, pairOf, segmentPair, crossingPair, termPair, plus, sumPair, predictedPair, mostPredicted}
 use Rattle.prediction.specs.EditionOne.{edition-one-rated}
 use Rattle.prediction.specs.PredictedLaws.{predicted-stands, predicted-small}
+use Rattle.prediction.specs.Terms.{noTerm}
+use Rattle.laws.specs.Walk.{next, at-end}
 
 -- by kind, the places of the exponents of major and minor traffic among the powers' five; a segment has none
 abbrev pub majorPlace : ℕ → ℕ
@@ -114,32 +115,26 @@ plus-none x = rw (add-zero (x .low), add-zero (x .high))
 plus-assoc : (x y z : Pair) → plus (plus x y) z ≡ plus x (plus y z)
 plus-assoc x y z = rw (add-assoc (x .low) (y .low) (z .low), add-assoc (x .high) (y .high) (z .high))
 
+none-plus : (x : Pair) → plus (record { low = 0; high = 0 }) x ≡ x
+none-plus x = rw (zero-add (x .low), zero-add (x .high))
+
 module _ (header : Header) (site : Site) where
-  -- one traffic for all the years
-  pub one-term : yearly site ≡ false → termPair editionOne header site (termOf (header .years) site) ≡ predictedPair editionOne header site
-  unfolding predictedPair termsOf sumPair
-  one-term e = rw e (plus-none _)
-
-  -- WHAT THE LOOP KEEPS: the sum so far, and the later years from a place on
+  -- WHAT THE LOOP KEEPS: the sum so far, and the terms from a place on
   pub record Summed (i : ℕ) (sum : Pair) : Type 0 where
-    pub few : i < header .years
-    pub whole : plus sum (sumPair editionOne header site (laterTerms site i (header .years - (i + 1)))) ≡ predictedPair editionOne header site
+    pub whole : plus sum (sumPair editionOne header site (drop i (termsOf header site))) ≡ predictedPair editionOne header site
 
-  pub first-summed : yearly site ≡ true → 1 ≤ header .years → Summed 0 (termPair editionOne header site (termOf 1 site))
-  unfolding predictedPair termsOf sumPair
-  first-summed e some = record { few = some; whole = rw e }
+  pub none-summed : Summed 0 (record { low = 0; high = 0 })
+  unfolding predictedPair
+  none-summed = record { whole = none-plus _ }
 
-  pub next-summed : (i : ℕ) (sum : Pair) → suc i < header .years → Summed i sum → Summed (i + 1) (plus sum (termPair editionOne header site (yearTerm site i)))
-  unfolding sumPair laterTerms
-  next-summed i sum h s =
-      let one-fewer : header .years - (i + 1) ≡ suc (header .years - (suc i + 1)) = omega arith in
-      record { few = omega arith; whole = rw (plus-assoc sum _ _, add-one i) (rw one-fewer at (s .whole)) }
+  pub next-summed : (i : ℕ) (sum : Pair) → i < length (termsOf header site) → Summed i sum
+      → Summed (i + 1) (plus sum (termPair editionOne header site (getD (termsOf header site) i noTerm)))
+  unfolding sumPair
+  next-summed i sum h s = record { whole = rw (plus-assoc sum _ _) (rw (next (termsOf header site) i noTerm h) at (s .whole)) }
 
-  pub all-summed : (i : ℕ) (sum : Pair) → header .years ≤ i + 1 → Summed i sum → sum ≡ predictedPair editionOne header site
-  unfolding sumPair laterTerms
-  all-summed i sum h s =
-      let none : header .years - (i + 1) ≡ 0 = omega arith in
-      plus-none sum ∙ rw none at (s .whole)
+  pub all-summed : (i : ℕ) (sum : Pair) → length (termsOf header site) ≤ i → Summed i sum → sum ≡ predictedPair editionOne header site
+  unfolding sumPair
+  all-summed i sum h s = plus-none sum ∙ rw (at-end (termsOf header site) i h) at (s .whole)
 
   -- no sum on the way is above the whole
   pub summed-small : HeaderWithin header → Valid (header .years) site → {i : ℕ} {sum : Pair} → Summed i sum → (sum .low ≤ mostPredicted) × (sum .high ≤ mostPredicted)

@@ -16,9 +16,11 @@ ghost use Rattle.header.specs.HeaderLaws.{HeaderWithin};
 ghost use Rattle.model.specs.Coefficients.{editionOne};
 ghost use Rattle.prediction.specs.Pair.{predictedPair};
 use crate::term::term_pair;
-use crate::yearly::yearly_pair;
+use crate::yearly::add_pair;
+use crate::yearly::count_of;
+use crate::yearly::traffic_in;
+use crate::yearly::years_of;
 use header::Header;
-use site::numbers::number;
 use site::values::Site;
 use site::values::is_yearly;
 
@@ -28,7 +30,7 @@ pub struct Pair {
     pub high: u64,
 }
 
-// The pair of a valid site over a header's years and calibrations: one term of all the years, or one for each year.
+// The pair of a valid site over a header's years and calibrations: the sum over its terms, one of all the years or one for each.
 pub fn predicted_with(
     powers: &[u64; 2560],
     logarithms: &[u64; 256],
@@ -40,19 +42,28 @@ pub fn predicted_with(
         × Valid (header .years) site ⌝ }
     ensures { λ r. ⌜ r ≡ predictedPair editionOne header site ⌝ }
 {
-    if is_yearly(site) {
-        return yearly_pair(powers, logarithms, exponentials, header, site);
-    }
     let traffic = site.traffic;
     let minor = site.minor_traffic;
-    term_pair(
-        powers,
-        logarithms,
-        exponentials,
-        header,
-        site,
-        header.years,
-        number(traffic),
-        number(minor),
-    )
+    let later = site.later_traffic;
+    let later_minor = site.later_minor;
+    let yearly = is_yearly(site);
+    let years = years_of(header.years, yearly);
+    let count = count_of(header.years, yearly);
+    let mut sum = Pair { low: 0, high: 0 };
+    let mut year = 0;
+    while year < count {
+        let next = term_pair(
+            powers,
+            logarithms,
+            exponentials,
+            header,
+            site,
+            years,
+            traffic_in(traffic, later, year),
+            traffic_in(minor, later_minor, year),
+        );
+        sum = add_pair(sum, next);
+        year += 1;
+    }
+    sum
 }

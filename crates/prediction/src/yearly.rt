@@ -1,55 +1,48 @@
-// The pair of a site with a traffic for each year: the sum of its one-year pairs.
+// The terms of a site, year by year or one of all the years.
 ghost use mathlib.Core.Path.{_≡_};
-ghost use mathlib.Core.Bool.{true};
+ghost use mathlib.Core.Bool.{cond};
+ghost use mathlib.Core.List.{_∷_};
 ghost use Prim.Native.Nat.{_≤_};
-ghost use Rattle.exponential.specs.Stored.{StoredExponentials};
-ghost use Rattle.logarithm.specs.Stored.{StoredLogarithms};
-ghost use Rattle.power.specs.Stored.{StoredPowers};
-ghost use Rattle.site.specs.Yearly.{yearly};
-ghost use Rattle.site.specs.Writing.{Valid};
+ghost use lib.ListN.{getD};
+ghost use Rattle.site.specs.declared.values.Slot.the-variants.{Absent};
+ghost use Rattle.site.specs.Rules.{laterYears};
+ghost use Rattle.site.specs.Yearly.{laterSlots};
 ghost use Rattle.site.specs.Numbers as numbers;
-ghost use Rattle.header.specs.HeaderLaws.{HeaderWithin};
-ghost use Rattle.model.specs.Coefficients.{editionOne};
-ghost use Rattle.model.specs.Parts.{termAt};
-ghost use Rattle.prediction.specs.Pair.{termPair, plus, predictedPair, mostPredicted};
-ghost use Rattle.prediction.specs.Terms.{TermSizes};
-ghost use Rattle.prediction.specs.Carrying.{Summed};
+ghost use Rattle.prediction.specs.Pair.{mostPredicted, plus};
 use crate::Pair;
-use crate::term::term_pair;
-use header::Header;
 use site::numbers::number;
-use site::values::Site;
+use site::values::Later;
 use site::values::Slot;
 use site::values::later_slots;
 
-// The pair of one year at its traffic.
-fn year_pair(
-    powers: &[u64; 2560],
-    logarithms: &[u64; 256],
-    exponentials: &[u64; 15],
-    header: Header,
-    site: Site,
-    traffic: Slot,
-    minor: Slot,
-) -> Pair
-    requires { ⌜ StoredPowers (now powers) × StoredLogarithms (now logarithms) × StoredExponentials (now exponentials) × HeaderWithin header
-        × Valid (header .years) site × TermSizes site (termAt 1 (numbers.number traffic) (numbers.number minor)) ⌝ }
-    ensures { λ r. ⌜ r ≡ termPair editionOne header site (termAt 1 (numbers.number traffic) (numbers.number minor)) ⌝ }
+// The years of a term: one where there is a term for each year.
+pub fn years_of(years: u64, yearly: bool) -> u64
+    ensures { λ r. ⌜ r ≡ cond yearly 1 years ⌝ }
 {
-    term_pair(
-        powers,
-        logarithms,
-        exponentials,
-        header,
-        site,
-        1,
-        number(traffic),
-        number(minor),
-    )
+    if yearly { 1 } else { years }
+}
+
+// How many terms there are.
+pub fn count_of(years: u64, yearly: bool) -> u64
+    ensures { λ r. ⌜ r ≡ cond yearly years 1 ⌝ }
+{
+    if yearly { years } else { 1 }
+}
+
+// A traffic in a year, the first at place 0.
+pub fn traffic_in(first: Slot, later: Later, year: u64) -> u64
+    requires { ⌜ year ≤ laterYears ⌝ }
+    ensures { λ r. ⌜ r ≡ numbers.number (getD (first ∷ laterSlots later) year Absent) ⌝ }
+{
+    if year == 0 {
+        return number(first);
+    }
+    let slots = later_slots(later);
+    number(slots[year as usize - 1])
 }
 
 // The sum of two pairs.
-fn add_pair(sum: Pair, next: Pair) -> Pair
+pub fn add_pair(sum: Pair, next: Pair) -> Pair
     requires { ⌜ (plus sum next .low ≤ mostPredicted) × (plus sum next .high ≤ mostPredicted) ⌝ }
     ensures { λ r. ⌜ r ≡ plus sum next ⌝ }
 {
@@ -57,68 +50,4 @@ fn add_pair(sum: Pair, next: Pair) -> Pair
         low: sum.low + next.low,
         high: sum.high + next.high,
     }
-}
-
-// The pair of the first year, with each later year's added.
-fn add_later(
-    powers: &[u64; 2560],
-    logarithms: &[u64; 256],
-    exponentials: &[u64; 15],
-    header: Header,
-    site: Site,
-    first: Pair,
-) -> Pair
-    requires { ⌜ StoredPowers (now powers) × StoredLogarithms (now logarithms) × StoredExponentials (now exponentials) × HeaderWithin header
-        × Valid (header .years) site × (yearly site ≡ true) × Summed header site 0 first ⌝ }
-    ensures { λ r. ⌜ r ≡ predictedPair editionOne header site ⌝ }
-{
-    let later_traffic = site.later_traffic;
-    let later_minor = site.later_minor;
-    let traffics = later_slots(later_traffic);
-    let minors = later_slots(later_minor);
-    let years = header.years as usize;
-    let mut sum = first;
-    let mut i = 0;
-    while i + 1 < years {
-        let traffic = traffics[i];
-        let minor = minors[i];
-        let next = year_pair(
-            powers,
-            logarithms,
-            exponentials,
-            header,
-            site,
-            traffic,
-            minor,
-        );
-        sum = add_pair(sum, next);
-        i += 1;
-    }
-    sum
-}
-
-// The sum over the years.
-pub fn yearly_pair(
-    powers: &[u64; 2560],
-    logarithms: &[u64; 256],
-    exponentials: &[u64; 15],
-    header: Header,
-    site: Site,
-) -> Pair
-    requires { ⌜ StoredPowers (now powers) × StoredLogarithms (now logarithms) × StoredExponentials (now exponentials) × HeaderWithin header
-        × Valid (header .years) site × (yearly site ≡ true) ⌝ }
-    ensures { λ r. ⌜ r ≡ predictedPair editionOne header site ⌝ }
-{
-    let traffic = site.traffic;
-    let minor = site.minor_traffic;
-    let first = year_pair(
-        powers,
-        logarithms,
-        exponentials,
-        header,
-        site,
-        traffic,
-        minor,
-    );
-    add_later(powers, logarithms, exponentials, header, site, first)
 }

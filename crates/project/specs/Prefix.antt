@@ -1,27 +1,24 @@
 -- A file longer than the longest that can be accepted is answered as its prefix would be.
 use mathlib.Core.Path.{_≡_, refl, ap, sym, _∙_}
-use mathlib.Core.Bool.{Bool, true, false, cond}
+use mathlib.Core.Bool.{Bool, true, false}
 use mathlib.Core.List.{List, _++_}
 use Prim.Native.Nat.{ℕ, zero, suc, _+_, _*_, _<_, _≤_}
 use native.Mathlib.Omega.{arith}
 use lib.ListN.{length, getD, take, drop, length-append, length-drop, take-append-drop, List·getD-append}
 use lib.Seq.{take-all, length-take-le, drop-append-le}
-use lib.Dec.{ltb, leb, eqb}
-use borrow.Author.Tests.{ltb-false, lt-ltb, le-ltb, leb-true, leb-false, eqb-true, eqb-false}
+use lib.Dec.{leb, eqb}
+use borrow.Author.Tests.{lt-ltb, le-ltb, leb-true, leb-false, eqb-true, eqb-false}
 use Rattle.site.specs.declared.values.Site.{Site}
 use Rattle.site.specs.declared.values.SiteAnswer.{SiteAnswer}
 use Rattle.site.specs.declared.values.SiteAnswer.the-variants as site
-use Rattle.site.specs.Rules.{entriesOf, lastKind, yearsKnown}
-use Rattle.site.specs.Record.{word, curved, kindIn, mapIn, rulesIn, lengthIn, readSite}
-use Rattle.site.specs.Tested.{tested-rules}
-use Rattle.laws.specs.Truth.{or-left}
-use Rattle.site.specs.BytesRead.{headRefused, bears, past-nothing}
+use Rattle.site.specs.Record.{word, readSite}
+use Rattle.site.specs.BytesRead.{bears, past-nothing}
 use Rattle.site.specs.Theorems.{longest, bears-most, read-length}
 use Rattle.header.specs.Header.{headerLength, countIn, mostSites, headerNumber}
 use Rattle.header.specs.HeaderLaws.{header-accepted}
 use Rattle.project.specs.declared.ScanAnswer.the-variants.{Refused}
 use Rattle.project.specs.File.{yearsIn, afterRecord, scanRecords, scanFile}
-use Rattle.project.specs.Scan.{years-known, scan-past-header, scan-header}
+use Rattle.project.specs.Scan.{scan-past-header, scan-header}
 
 -- a header and the most records, each the longest
 abbrev pub longestFile : ℕ
@@ -29,13 +26,13 @@ longestFile = headerLength + mostSites * longest
 
 -- two files that share their first bytes, one of which goes on
 module _ (s t : List ℕ) (full : longestFile < length s) where
-  same-record : (years i at : ℕ) → yearsKnown years ≡ true → i < mostSites → at ≤ headerLength + i * longest
+  same-record : (years i at : ℕ) → i < mostSites → at ≤ headerLength + i * longest
       → readSite years (drop at (s ++ t)) ≡ readSite years (drop at s)
-  same-record years i at known h w =
+  same-record years i at h w =
       let a : at ≤ length s = omega arith in
       let l : longest ≤ length (drop at s) = omega (arith, length-drop at s) in
       let b : bears years (drop at s) ≤ length (drop at s) = omega (arith, bears-most years (drop at s)) in
-      ap (readSite years) (drop-append-le at s t a) ∙ past-nothing years known (drop at s) t b
+      ap (readSite years) (drop-append-le at s t a) ∙ past-nothing years (drop at s) t b
 
   same-step : (years sites left at : ℕ) (answer : SiteAnswer)
       → ((value : Site) (n : ℕ) → answer ≡ site.Read value n → scanRecords years sites left (at + n) (s ++ t) ≡ scanRecords years sites left (at + n) s)
@@ -43,18 +40,18 @@ module _ (s t : List ℕ) (full : longestFile < length s) where
   same-step years sites left at (site.Refused number) later = refl
   same-step years sites left at (site.Read value n) later = later value n refl
 
-  same-records : (years sites left i at : ℕ) → yearsKnown years ≡ true → i + left ≤ mostSites → at ≤ headerLength + i * longest
+  same-records : (years sites left i at : ℕ) → i + left ≤ mostSites → at ≤ headerLength + i * longest
       → scanRecords years sites left at (s ++ t) ≡ scanRecords years sites left at s
   unfolding scanRecords
-  same-records years sites zero i at known h w =
+  same-records years sites zero i at h w =
       let a : at < length s = omega arith in
       let b : at < length (s ++ t) = omega (arith, length-append s t) in
       rw (lt-ltb at (length s) a, lt-ltb at (length (s ++ t)) b)
-  same-records years sites (suc left) i at known h w =
-      let r = same-record years i at known (omega arith) w in
+  same-records years sites (suc left) i at h w =
+      let r = same-record years i at (omega arith) w in
       rw r
       (same-step years sites left at (readSite years (drop at s))
-      (λ value n e. same-records years sites left (suc i) (at + n) known (omega arith) (omega (arith, read-length years (drop at s) value n e .at-most))))
+      (λ value n e. same-records years sites left (suc i) (at + n) (omega arith) (omega (arith, read-length years (drop at s) value n e .at-most))))
 
   same-word : (k : ℕ) → k < headerLength → word (drop k (s ++ t)) ≡ word (drop k s)
   same-word k h =
@@ -93,7 +90,7 @@ module _ (s t : List ℕ) (full : longestFile < length s) where
       let header = header-accepted s z in
       let few = header .few in
       scan-past-header (s ++ t) (same-header ∙ z)
-      ∙ rw (same-years, same-count) (same-records (yearsIn s) (countIn s) (countIn s) 0 headerLength (years-known s header) (omega arith) (omega arith))
+      ∙ rw (same-years, same-count) (same-records (yearsIn s) (countIn s) (countIn s) 0 headerLength (omega arith) (omega arith))
       ∙ sym (scan-past-header s z)
   same-by false e =
       let ne = eqb-false (headerNumber s) 0 e in

@@ -1,29 +1,31 @@
 -- EVERY PART OF DEMAND 3 IS NEEDED: a report that fails one part, at one site or in its totals, does not meet the demand. The
 -- numbers of the report are named by their index, and the widths are written out.
 use Prim.Native.Nat.{ℕ, _+_, _*_, _≤_, _<_}
-use mathlib.Core.Path.{_≡_}
-use mathlib.Core.List.{List, _∷_}
+use mathlib.Core.Path.{_≡_, refl, ap}
+use mathlib.Core.Bool.{true, false, cond}
+use mathlib.Core.List.{List, [], _∷_}
 use lib.ListN.{length, getD}
-use lib.Dec.{leb, lit≤}
-use borrow.Author.Tests.{leb-true}
+use lib.Dec.{lit≤}
 use native.Mathlib.Omega.{arith}
-use Rattle.laws.specs.Truth.{and-right}
 use Rattle.estimate.specs.Fraction.{fraction, _//_, millionths, _<ᶠ_}
 use Rattle.estimate.specs.FractionLaws.{not-≤ᶠ-and-<ᶠ, <ᶠ-≤ᶠ-trans, ≤ᶠ-<ᶠ-trans}
 use Rattle.site.specs.declared.values.Site.{Site}
 use Rattle.site.specs.declared.values.Slot.the-variants.{Number}
 use Rattle.header.specs.Header.{headerIn}
 use Rattle.site.specs.Rules.{mostYears}
+use Rattle.site.specs.LaterLaws.{years-within}
+use Rattle.site.specs.Yearly.{yearly}
 use Rattle.site.specs.Numbers.{number}
 use Rattle.model.specs.Predicted.{predictedUnder, predictedOver}
 use Rattle.model.specs.Expected.{expectedUnder, expectedOver}
+use Rattle.model.specs.Coefficients.{Coefficients}
 use Rattle.model.specs.StatedWidths.{sitesCounted}
 use Rattle.model.specs.TermLaws.{by-count}
 use Rattle.line.specs.NeededParts as line
 use Rattle.project.specs.File.{yearsIn, sitesIn}
 use Rattle.project.specs.SitesRead.{sites-years}
 use Rattle.report.specs.Report.{coefficientsIn}
-use Rattle.report.specs.Demand.{Demand, siteAt, sumOfSites, countOver, sitesCountedIn}
+use Rattle.report.specs.Demand.{Demand, siteAt, sumOfSites, countOver, sitesCountedIn, observedIn}
 
 -- ONE SITE'S LINE, the numbers from 4 i on
 module _ (bytes report : List ℕ) (i : ℕ) (h : i < length (sitesIn bytes)) where
@@ -63,15 +65,21 @@ module _ (bytes report : List ℕ) (i : ℕ) (h : i < length (sitesIn bytes)) wh
   pub site-expected-exchanged : expectedHigh < expectedLow → Fails
   site-expected-exchanged l m = line.expected-exchanged _ _ _ _ l (m .each i h)
 
-  -- what the site counts
-  abbrev counts : ℕ
-  counts = sitesCounted (yearsIn bytes) site
+  -- a site with one traffic, and a site with a traffic for each of Y years
+  module _ (plain : yearly site ≡ false) where
+    pub site-predicted-too-wide : 1000000 * (predictedLow + 4) + predictedHigh < 1000000 * predictedHigh → Fails
+    site-predicted-too-wide l m = line.predicted-too-wide _ _ _ _ plain l (m .each i h)
 
-  pub site-predicted-too-wide : 1000000 * (predictedLow + 4 * counts) + predictedHigh < 1000000 * predictedHigh → Fails
-  site-predicted-too-wide l m = line.predicted-too-wide _ _ _ _ l (m .each i h)
+    pub site-expected-too-wide : 1000000 * (expectedLow + 8 * (1 + number (site .observed))) + expectedHigh < 1000000 * expectedHigh → Fails
+    site-expected-too-wide l m = line.expected-too-wide _ _ _ _ plain l (m .each i h)
 
-  pub site-expected-too-wide : 1000000 * (expectedLow + 8 * (counts + counts * number (site .observed))) + expectedHigh < 1000000 * expectedHigh → Fails
-  site-expected-too-wide l m = line.expected-too-wide _ _ _ _ l (m .each i h)
+  module _ (each : yearly site ≡ true) where
+    pub yearly-site-predicted-too-wide : 1000000 * (predictedLow + 4 * yearsIn bytes) + predictedHigh < 1000000 * predictedHigh → Fails
+    yearly-site-predicted-too-wide l m = line.yearly-predicted-too-wide _ _ _ _ each l (m .each i h)
+
+    pub yearly-site-expected-too-wide :
+        1000000 * (expectedLow + 8 * (yearsIn bytes + yearsIn bytes * number (site .observed))) + expectedHigh < 1000000 * expectedHigh → Fails
+    yearly-site-expected-too-wide l m = line.yearly-expected-too-wide _ _ _ _ each l (m .each i h)
 
   module _ (observed : ℕ) (history : site .observed ≡ Number observed) where
     pub site-expected-low-below-both : expectedLow < predictedLow → expectedLow < observed * 1000000 → Fails
@@ -86,9 +94,26 @@ module _ (bytes report : List ℕ) (i : ℕ) (h : i < length (sitesIn bytes)) wh
     pub site-expected-high-above-both : predictedHigh < expectedHigh → observed * 1000000 < expectedHigh → Fails
     site-expected-high-above-both l k m = line.expected-high-above-both _ _ _ _ observed history l k (m .each i h)
 
--- the observed crashes of sites, each as often as its site counts
-abbrev pub crashesIn : (years : ℕ) → List Site → ℕ
-crashesIn years sites = countOver (λ site. sitesCounted years site * number (site .observed)) sites
+-- the sites of a list, one with a traffic for each of Y years as Y, and their observed crashes, each of such a site as Y
+unfoldable pub sitesOver : (years : ℕ) → List Site → ℕ
+sitesOver years [] = 0
+sitesOver years (site ∷ sites) = cond (yearly site) years 1 + sitesOver years sites
+
+unfoldable pub crashesOver : (years : ℕ) → List Site → ℕ
+crashesOver years [] = 0
+crashesOver years (site ∷ sites) = cond (yearly site) years 1 * number (site .observed) + crashesOver years sites
+
+-- these are the counts of the demand
+sites-over : (years : ℕ) (sites : List Site) → sitesCountedIn years sites ≡ sitesOver years sites
+unfolding sitesOver countOver sitesCounted
+sites-over years [] = refl
+sites-over years (site ∷ sites) = ap (λ (rest : ℕ). cond (yearly site) years 1 + rest) (sites-over years sites)
+
+crashes-over : (c : Coefficients) (years : ℕ) (sites : List Site) → observedIn c years sites ≡ crashesOver years sites
+unfolding crashesOver countOver sitesCounted
+crashes-over c years [] = refl
+crashes-over c years (site ∷ sites) =
+    ap (λ (rest : ℕ). cond (yearly site) years 1 * number (site .observed) + rest) (crashes-over c years sites)
 
 -- THE TOTALS, the four numbers after the lines of n sites
 module _ (bytes report : List ℕ) where
@@ -132,29 +157,29 @@ module _ (bytes report : List ℕ) where
   pub total-expected-exchanged : highExpected < lowExpected → Wrong
   total-expected-exchanged l m = omega (arith, m .totals .expected-in-order)
 
-  -- what the sites count
-  abbrev counted : ℕ
-  counted = sitesCountedIn (yearsIn bytes) (sitesIn bytes)
-
-  pub total-predicted-too-wide : 1000000 * (low + 4 * counted) + high < 1000000 * high → Wrong
-  total-predicted-too-wide l m = omega (arith, m .totals .predicted-narrow .width)
+  pub total-predicted-too-wide : 1000000 * (low + 4 * sitesOver (yearsIn bytes) (sitesIn bytes)) + high < 1000000 * high → Wrong
+  total-predicted-too-wide l m = omega (arith, m .totals .predicted-narrow .width, sites-over (yearsIn bytes) (sitesIn bytes))
 
   pub total-expected-too-wide :
-      1000000 * (lowExpected + 8 * (counted + crashesIn (yearsIn bytes) (sitesIn bytes))) + highExpected < 1000000 * highExpected → Wrong
-  total-expected-too-wide l m = omega (arith, m .totals .expected-narrow .width)
+      1000000 * (lowExpected + 8 * (sitesOver (yearsIn bytes) (sitesIn bytes) + crashesOver (yearsIn bytes) (sitesIn bytes))) + highExpected
+      < 1000000 * highExpected → Wrong
+  total-expected-too-wide l m =
+      omega (
+        arith,
+        m .totals .expected-narrow .width,
+        sites-over (yearsIn bytes) (sitesIn bytes),
+        crashes-over (coefficientsIn bytes) (yearsIn bytes) (sitesIn bytes),
+      )
 
 -- a site of a project counts as ten sites at most
 counts-most : (bytes : List ℕ) (i : ℕ) → 0 < length (sitesIn bytes) → sitesCounted (yearsIn bytes) (siteAt (sitesIn bytes) i) ≤ mostYears
 counts-most bytes i h =
-    let known = sites-years bytes h in
-    let years = yearsIn bytes in
-    by-count (λ n. n ≤ mostYears) years (siteAt (sitesIn bytes) i) (leb-true years mostYears (and-right (leb 1 years) (leb years mostYears) known)) (lit≤ tt)
+    let known = years-within (yearsIn bytes) (sites-years bytes h) in
+    by-count (λ n. n ≤ mostYears) (yearsIn bytes) (siteAt (sitesIn bytes) i) (known .1) (lit≤ tt)
 
 -- A PAIR FROM ZERO TO THE TOP for the first site, whatever stands after it
 pub zero-to-the-top : (bytes rest : List ℕ) → 0 < length (sitesIn bytes) → Demand bytes (0 ∷ 18446744073709551615 ∷ rest) → ⊥
-zero-to-the-top bytes rest h =
-    let few = counts-most bytes 0 h in
-    site-predicted-too-wide bytes (0 ∷ 18446744073709551615 ∷ rest) 0 h (omega arith)
+zero-to-the-top bytes rest h m = omega (arith, counts-most bytes 0 h, m .each 0 h .predicted-narrow .width)
 
 -- ONE REPORT FOR TWO PROJECTS: none meets both demands where the first site's over-estimate in the one is below a millionths,
 -- its under-estimate in the other above b, and a and b further apart than the width
@@ -165,7 +190,8 @@ order a b h = omega (arith, h .cross)
 pub one-report-for-two : (bytes others report : List ℕ) → 0 < length (sitesIn bytes) → 0 < length (sitesIn others) → (d a b : ℕ) → 1 ≤ d
     → predictedOver (coefficientsIn bytes) (headerIn bytes) (siteAt (sitesIn bytes) 0) d <ᶠ millionths a
     → millionths b <ᶠ predictedUnder (coefficientsIn others) (headerIn others) (siteAt (sitesIn others) 0) d
-    → 1000000 * (a + 4 * sitesCounted (yearsIn bytes) (siteAt (sitesIn bytes) 0)) + b < 1000000 * b → Demand bytes report → Demand others report → ⊥
+    → 1000000 * (a + 4 * cond (yearly (siteAt (sitesIn bytes) 0)) (yearsIn bytes) 1) + b < 1000000 * b → Demand bytes report → Demand others report → ⊥
+unfolding sitesCounted
 one-report-for-two bytes others report h k d a b l over under apart m o =
     let first = m .each 0 h in
     let second = o .each 0 k in

@@ -14,7 +14,6 @@ use Rattle.header.specs.Header.{headerOf}
 use Rattle.model.specs.Coefficients.{editionOne}
 use Rattle.model.specs.Crossings.{leftTurn, rightTurn, sight}
 use Rattle.model.specs.Parts.{crossingParts, crossingFactors}
-use Rattle.model.specs.StatedWidths.{sitesCounted}
 use Rattle.model.specs.Predicted.{productUnder, productOver, termsOf, sumUnder, sumOver, predictedUnder, predictedOver}
 use Rattle.project.specs.File.{sitesFrom, sitesIn}
 use Rattle.report.specs.Demand.{Demand}
@@ -47,7 +46,7 @@ unfolding predictedUnder sumUnder termsOf productUnder crossingParts crossingFac
 many = rw (major, minor) (record { cross = lit< tt })
 
 pub one-report-for-all : (report : List ℕ) → Demand (signalProject 1 0 1) report → Demand (signalProject 10 39 15) report → ⊥
-unfolding sitesCounted signal
+unfolding signal
 one-report-for-all report =
     one-report-for-two (signalProject 1 0 1) (signalProject 10 39 15) report
     (rw (one-site 1 0 1 refl) (lit< tt)) (rw (one-site 10 39 15 refl) (lit< tt)) 1 4000 200000000 (lit≤ tt)

@@ -1,4 +1,4 @@
--- How the tests of a record's bytes come out, in document 01's order, and a record that passes them all.
+-- How the tests of the years and of a record's bytes come out, in document 01's order, and a record that passes them all.
 use mathlib.Core.Path.{_≡_, refl, ap, sym, _∙_}
 use mathlib.Core.Bool.{Bool, true, false, cond, _||_, not, true≢false}
 use mathlib.Core.List.{List}
@@ -16,14 +16,14 @@ use Rattle.laws.specs.Truth.{or-left}
 use Rattle.site.specs.Tested.{by-kind}
 use Rattle.site.specs.LaterLaws.{years-within, bit-most, minor-most}
 use Rattle.site.specs.Answers.{readNumber}
-use Rattle.site.specs.Record.{anyField, lacks, misses, rulesRead, words, fieldsNumber, yearlyBit, kindIn, wholeMapIn, mapIn, rulesIn, laterIn, minorIn, fieldsIn, allLaterAllowed, lengthIn, siteIn, missesIn}
+use Rattle.site.specs.Record.{anyField, lacks, misses, rulesRead, words, fieldsNumber, yearlyBit, kindIn, mapIn, fieldMapIn, rulesIn, laterIn, laterMinorIn, fieldsIn, allLaterAllowed, lengthIn, siteIn, missesIn}
 use Rattle.site.specs.Record.{recordNumber, refusalOf, readSite}
 
 -- the parts of a record, by name
 pub record Parts (s : List ℕ) (kind map yearly : ℕ) (rules : List Rule) : Type 0 where
   pub kind-is : kindIn s ≡ kind
-  pub map-is : mapIn s ≡ map
-  pub bit-is : yearlyBit (wholeMapIn s) ≡ yearly
+  pub map-is : fieldMapIn s ≡ map
+  pub bit-is : yearlyBit (mapIn s) ≡ yearly
   pub rules-are : rulesIn s ≡ rules
 
 -- years within their limits, and "kind and map present (1), 5": a kind that document 01 has
@@ -35,28 +35,29 @@ pub record HeadPresent (years : ℕ) (s : List ℕ) : Type 0 where
 -- "6, 7": no bit of the map is lacked, and none is missing
 pub record MapPasses (years : ℕ) (s : List ℕ) : Type 0 where
   pub head : HeadPresent years s
-  pub lack : lacks (rulesIn s) (mapIn s) ≡ false
+  pub lack : lacks (rulesIn s) (fieldMapIn s) ≡ false
   pub miss : missesIn years s ≡ false
 
--- "kind and map present (1), 5, 6, 7, all fields present (1), then field by field 8, 9": how the tests come out, by their number.
+-- years "outside its limits is .. 4 .., tried first"; "kind and map present (1), 5, 6, 7, all fields present (1), then field by field
+-- 8, 9": how the tests come out, by their number.
 -- Of the laws about refusals only this opens `refusalOf`: the others go by these cases
 pub data Tried (years : ℕ) (s : List ℕ) : ℕ → Type 0 where
   years-unknown : yearsKnown years ≡ false → Tried years s 4
   head-short : yearsKnown years ≡ true → length s < 3 → Tried years s 1
   kind-unknown : yearsKnown years ≡ true → 3 ≤ length s → lastKind < kindIn s → Tried years s 5
-  map-lacks : HeadPresent years s → lacks (rulesIn s) (mapIn s) ≡ true → Tried years s 6
-  map-misses : HeadPresent years s → lacks (rulesIn s) (mapIn s) ≡ false → missesIn years s ≡ true → Tried years s 7
+  map-lacks : HeadPresent years s → lacks (rulesIn s) (fieldMapIn s) ≡ true → Tried years s 6
+  map-misses : HeadPresent years s → lacks (rulesIn s) (fieldMapIn s) ≡ false → missesIn years s ≡ true → Tried years s 7
   fields-short : MapPasses years s → length s < lengthIn years s → Tried years s 1
   later-refused : MapPasses years s → lengthIn years s ≤ length s → allLaterAllowed years s ≡ false → Tried years s 8
   fields-tell : MapPasses years s → lengthIn years s ≤ length s → allLaterAllowed years s ≡ true
-      → Tried years s (fieldsNumber (rulesIn s) (mapIn s) (fieldsIn years s))
+      → Tried years s (fieldsNumber (rulesIn s) (fieldMapIn s) (fieldsIn years s))
 
 module _ (years : ℕ) (s : List ℕ) where
   present : yearsKnown years ≡ true → ltb (length s) 3 ≡ false → ltb lastKind (kindIn s) ≡ false → HeadPresent years s
   present y a b = record { years-in = y; long = ltb-false _ _ a; known = ltb-false _ _ b }
 
   tried-by : (inside short above lack miss cut allow : Bool) → yearsKnown years ≡ inside → ltb (length s) 3 ≡ short → ltb lastKind (kindIn s) ≡ above
-      → lacks (rulesIn s) (mapIn s) ≡ lack → missesIn years s ≡ miss → ltb (length s) (lengthIn years s) ≡ cut → allLaterAllowed years s ≡ allow
+      → lacks (rulesIn s) (fieldMapIn s) ≡ lack → missesIn years s ≡ miss → ltb (length s) (lengthIn years s) ≡ cut → allLaterAllowed years s ≡ allow
       → Tried years s (refusalOf years s)
   unfolding refusalOf recordNumber
   tried-by false short above lack miss cut allow y a b c d e f = rw y (years-unknown y)
@@ -93,7 +94,7 @@ pub record Accepted (years : ℕ) (s : List ℕ) : Type 0 where
   pub passes : MapPasses years s
   pub full : lengthIn years s ≤ length s
   pub later-in : allLaterAllowed years s ≡ true
-  pub no-field-refused : fieldsNumber (rulesIn s) (mapIn s) (fieldsIn years s) ≡ 0
+  pub no-field-refused : fieldsNumber (rulesIn s) (fieldMapIn s) (fieldsIn years s) ≡ 0
 
 pub accept : (years : ℕ) (s : List ℕ) → Accepted years s → readSite years s ≡ Read (siteIn years s) (lengthIn years s)
 unfolding readSite
@@ -133,16 +134,16 @@ words-least kind map =
 
 -- so the later values of an accepted record stand between its fields
 pub fields-long : (years : ℕ) (s : List ℕ) → MapPasses years s → lengthIn years s ≤ length s
-    → 4 + 2 * laterIn years s + 2 * minorIn years s ≤ length (drop 3 s)
+    → 4 + 2 * laterIn years s + 2 * laterMinorIn years s ≤ length (drop 3 s)
 fields-long years s p f =
-    omega (arith, length-drop 3 s, words-least (kindIn s) (mapIn s) (p .head .known) (or-left (misses (rulesIn s) (mapIn s)) _ (p .miss)))
+    omega (arith, length-drop 3 s, words-least (kindIn s) (fieldMapIn s) (p .head .known) (or-left (misses (rulesIn s) (fieldMapIn s)) _ (p .miss)))
 
 -- and are at most nine
-pub later-most : (years : ℕ) (s : List ℕ) → yearsKnown years ≡ true → (laterIn years s ≤ laterYears) × (minorIn years s ≤ laterYears)
+pub later-most : (years : ℕ) (s : List ℕ) → yearsKnown years ≡ true → (laterIn years s ≤ laterYears) × (laterMinorIn years s ≤ laterYears)
 later-most years s e =
     let w = years-within years e in
     let few : years - 1 ≤ laterYears = omega (arith, w .1) in
-    let most : laterIn years s ≤ laterYears = le-trans (mul-le-mul (bit-most (wholeMapIn s)) few) (omega arith) in
+    let most : laterIn years s ≤ laterYears = le-trans (mul-le-mul (bit-most (mapIn s)) few) (omega arith) in
     (most, le-trans (minor-most (kindIn s) (laterIn years s)) most)
 
 -- an answer by a number has that number

@@ -2,8 +2,8 @@
 use mathlib.Core.Path.{_≡_, refl, ap, sym, _∙_}
 use mathlib.Core.Bool.{Bool, true, false, cond, _&&_, _||_, not, or-true, and-false}
 use mathlib.Core.List.{List, [], _∷_}
-use Prim.Native.Nat.{ℕ, zero, suc, _+_, _*_, _/_, _%_, _^_, _<_, _≤_}
-use native.Mathlib.Nat.{div-one, mod-one, div-div-eq-div-mul, zero-add}
+use Prim.Native.Nat.{ℕ, zero, suc, _+_, _-_, _*_, _/_, _%_, _^_, _<_, _≤_}
+use native.Mathlib.Nat.{div-one, mod-one, div-div-eq-div-mul, zero-add, mul-assoc}
 use native.Mathlib.Omega.{arith}
 use lib.ListN.{getD, drop}
 use lib.Seq.{drop-drop}
@@ -18,9 +18,11 @@ use Rattle.site.specs.declared.rules.Entry.the-variants.{Always, OnCurve
 use Rattle.site.specs.declared.values.Slot.{Slot}
 use Rattle.site.specs.declared.values.Slot.the-variants.{Absent, Number}
 use Rattle.site.specs.Rules.{absentOf, needed, lacking, bits, settle}
+use Rattle.site.specs.Yearly.{laterMinor}
 use Rattle.site.specs.Record.{word, restOf, stands, anyField, neededBitAbsent, lacks, misses, curved}
 use Rattle.site.specs.Record.{words, valueNumber, fieldNumber, after, fieldsNumber, fieldsValues}
-use Rattle.site.specs.Fields.{bitAt, standing}
+use Rattle.site.specs.Record.{yearlyBit, fieldMap, kindIn, mapIn, fieldMapIn, laterIn, laterMinorIn}
+use Rattle.site.specs.Fields.{mapBits, bitAt, standing, laterTold}
 use Rattle.laws.specs.Truth.{and-left, and-right, or-left, or-right}
 use Rattle.site.specs.Tested.{right, entryRight, every}
 
@@ -31,6 +33,44 @@ bit-by-power (suc b) map =
     let e : suc b ≡ 1 + b = omega arith in
     let d : map / 2 / 2 ^ b ≡ map / 2 ^ suc b = div-div-eq-div-mul map 2 (2 ^ b) ∙ rw (e, pow-add 2 1 b) in
     bit-by-power b (map / 2) ∙ ap (λ (m : ℕ). eqb (m % 2) 1) d
+
+-- the bits below k do not see what is above them
+twice : (k n : ℕ) → 2 ^ suc k * n ≡ 2 * (2 ^ k * n)
+twice k n = let e : suc k ≡ 1 + k = omega arith in rw (e, pow-add 2 1 k) (mul-assoc 2 (2 ^ k) n)
+
+low-bits : (k b n m : ℕ) → b < k → bitAt b (m + 2 ^ k * n) ≡ bitAt b m
+low-bits zero b n m h = absurd (omega arith)
+low-bits (suc k) zero n m h = let d : (m + 2 ^ suc k * n) % 2 ≡ m % 2 = omega (arith, twice k n) in rw d
+low-bits (suc k) (suc b) n m h =
+    let d : (m + 2 ^ suc k * n) / 2 ≡ m / 2 + 2 ^ k * n = omega (arith, twice k n) in
+    rw d (low-bits k b n (m / 2) (omega arith))
+
+-- THE MAP OF THE FIELDS has the bits of the record's own map, and not bit 15
+pub fields-keep-bits : (s : List ℕ) (b : ℕ) → b < mapBits → bitAt b (fieldMapIn s) ≡ bitAt b (mapIn s)
+fields-keep-bits s b h =
+    let m = mapIn s in
+    let whole : fieldMap m + 32768 * yearlyBit m ≡ m = omega arith in
+    sym (low-bits 15 b (yearlyBit m) (fieldMap m) h) ∙ ap (bitAt b) whole
+
+pub fields-lack-fifteen : (s : List ℕ) → bitAt 15 (fieldMapIn s) ≡ false
+fields-lack-fifteen s =
+    let m = mapIn s in
+    bit-by-power 15 (fieldMap m) ∙ ne-eqb (fieldMap m / 32768 % 2) 1 (λ e. omega arith)
+
+-- bit 15 by its number, and how many later values it tells of: the reader's count of them
+pub yearly-told : (s : List ℕ) → bitAt 15 (mapIn s) ≡ eqb (yearlyBit (mapIn s)) 1
+yearly-told s = bit-by-power 15 (mapIn s)
+
+pub later-told : (years : ℕ) (s : List ℕ) → laterTold years s ≡ laterIn years s
+later-told years s = rw (yearly-told s) (by (yearlyBit (mapIn s)) (omega arith))
+  where
+    by : (b : ℕ) → b ≤ 1 → cond (eqb b 1) (years - 1) 0 ≡ b * (years - 1)
+    by zero h = omega arith
+    by (suc zero) h = omega arith
+    by (suc (suc b)) h = absurd (omega arith)
+
+pub minor-told : (years : ℕ) (s : List ℕ) → laterMinor (kindIn s) (laterTold years s) ≡ laterMinorIn years s
+minor-told years s = ap (laterMinor (kindIn s)) (later-told years s)
 
 -- the rules that have a bit, and the slots of these
 unfoldable pub bitRules : List Rule → List Rule

@@ -17,6 +17,7 @@ use Rattle.site.specs.Writing.{slotsOf, curveHeld, rulesHeld, fits, allF
 use Rattle.site.specs.Writing.{laterBytes, spreadBytes, recordBy, recordOf, laterFits, Valid}
 use Rattle.laws.specs.Truth.{and-left, and-right}
 use Rattle.site.specs.Digits.{Bytes}
+pub use Rattle.site.specs.Digits.{bytes-append}
 use Rattle.site.specs.Tested.{top, allows-top, tested-rules, every, topLow}
 use Rattle.site.specs.Ranges.{tests, valid-kind}
 use Rattle.site.specs.WriteRead.{map-small, firstField, secondField, otherFields, spread-parts, bytes-parts}
@@ -24,11 +25,6 @@ use Rattle.site.specs.WriteRead.{map-small, firstField, secondField, oth
 pub bytes-cons : (x : ℕ) (s : List ℕ) → x < 256 → Bytes s → (i : ℕ) → getD (x ∷ s) i 0 < 256
 bytes-cons x s h bytes zero = h
 bytes-cons x s h bytes (suc i) = bytes i
-
-pub bytes-append : (s t : List ℕ) → Bytes s → Bytes t → (i : ℕ) → getD (s ++ t) i 0 < 256
-bytes-append [] t bytes later i = later i
-bytes-append (x ∷ s) t bytes later zero = bytes 0
-bytes-append (x ∷ s) t bytes later (suc i) = bytes-append s t (λ j. bytes (suc j)) later i
 
 pub bytes-nil : Bytes []
 bytes-nil i = omega arith

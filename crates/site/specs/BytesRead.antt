@@ -5,7 +5,7 @@ use mathlib.Core.List.{List, [], _∷_, _++_}
 use mathlib.Core.Logic.{_↔_}
 use Prim.Native.Nat.{ℕ, _+_, _*_, _<_, _≤_}
 use native.Mathlib.Omega.{arith}
-use lib.ListN.{length, take, drop, length-append, length-drop, take-append-drop, List·getD-append}
+use lib.ListN.{length, take, drop, length-append, length-drop, take-append-drop}
 use lib.Seq.{drop-append-le, length-take-le}
 use lib.Dec.{ltb, eqb}
 use borrow.Author.Tests.{lt-ltb, le-ltb, ltb-false, eqb-true}
@@ -17,7 +17,7 @@ use Rattle.site.specs.Rules.{lastKind, yearsKnown, laterYears, allows, a
 use Rattle.site.specs.Yearly.{laterOf}
 use Rattle.site.specs.LaterLaws.{gathered-append, length-gathered, same-word, LaterAlike, later-alike}
 use Rattle.site.specs.Record.{word, bitOf, restOf, stands, words, fieldNumber, fieldValue, after, fieldsNumber, fieldsValues}
-use Rattle.site.specs.Record.{lacks, siteOf, kindIn, mapIn, rulesIn, laterIn, minorIn, fieldsIn, laterAt, minorAt, laterRead, allLaterAllowed}
+use Rattle.site.specs.Record.{lacks, siteOf, kindIn, fieldMapIn, rulesIn, laterIn, laterMinorIn, fieldsIn, laterAt, laterMinorAt, laterRead, allLaterAllowed}
 use Rattle.site.specs.Record.{lengthIn, siteIn, missesIn, refusalOf, readSite}
 use Rattle.site.specs.Answers.{readAnswer}
 use Rattle.site.specs.Accepted.{HeadPresent, MapPasses, Tried, years-unknown, head-short, kind-unknown, map-lacks, map-misses}
@@ -25,7 +25,7 @@ use Rattle.site.specs.Accepted.{fields-short, later-refused, fields-tell
 
 -- kind or map is refused: 5, 6 or 7
 abbrev pub headRefused : (years : ℕ) → List ℕ → Bool
-headRefused years s = ltb lastKind (kindIn s) || (lacks (rulesIn s) (mapIn s) || missesIn years s)
+headRefused years s = ltb lastKind (kindIn s) || (lacks (rulesIn s) (fieldMapIn s) || missesIn years s)
 
 -- kind and map, and unless these are refused the fields; nothing where the years are outside their limits
 unfoldable pub bears : (years : ℕ) → List ℕ → ℕ
@@ -83,25 +83,25 @@ module _ (years k a b : ℕ) (s t : List ℕ) where
   passes-longer p = record { head = head-longer (p .head); lack = p .lack; miss = p .miss }
 
   module _ (p : MapPasses years part) (full : lengthIn years part ≤ length part) where
-    between : 4 + 2 * laterIn years part + 2 * minorIn years part ≤ length s
+    between : 4 + 2 * laterIn years part + 2 * laterMinorIn years part ≤ length s
     between = fields-long years part p full
 
-    fields-alike : Alike (rulesIn part) (mapIn part) (fieldsIn years longer) (fieldsIn years part)
+    fields-alike : Alike (rulesIn part) (fieldMapIn part) (fieldsIn years longer) (fieldsIn years part)
     fields-alike =
-        rw (gathered-append (laterIn years part) (minorIn years part) s t between)
-        (alike (rulesIn part) (mapIn part) (fieldsIn years part) t
-        (omega (arith, full, between, length-gathered (laterIn years part) (minorIn years part) s between)))
+        rw (gathered-append (laterIn years part) (laterMinorIn years part) s t between)
+        (alike (rulesIn part) (fieldMapIn part) (fieldsIn years part) t
+        (omega (arith, full, between, length-gathered (laterIn years part) (laterMinorIn years part) s between)))
 
     traffic-alike : LaterAlike laterYears (laterIn years part) (laterAt part) t
     traffic-alike = later-alike laterYears (laterIn years part) (laterAt part) t (omega (arith, between, length-drop 2 s))
 
-    minor-alike : LaterAlike laterYears (minorIn years part) (minorAt years part) t
-    minor-alike = later-alike laterYears (minorIn years part) (minorAt years part) t (omega (arith, between, length-drop (7 + 2 * laterIn years part) part))
+    minor-alike : LaterAlike laterYears (laterMinorIn years part) (laterMinorAt years part) t
+    minor-alike = later-alike laterYears (laterMinorIn years part) (laterMinorAt years part) t (omega (arith, between, length-drop (7 + 2 * laterIn years part) part))
 
     at-traffic : laterAt longer ≡ laterAt part ++ t
     at-traffic = drop-append-le 2 s t (omega (arith, between))
 
-    at-minor : minorAt years longer ≡ minorAt years part ++ t
+    at-minor : laterMinorAt years longer ≡ laterMinorAt years part ++ t
     at-minor = drop-append-le (7 + 2 * laterIn years part) part t (omega (arith, between))
 
     allowed-alike : allLaterAllowed years longer ≡ allLaterAllowed years part
@@ -110,11 +110,11 @@ module _ (years k a b : ℕ) (s t : List ℕ) where
     site-alike : siteIn years longer ≡ siteIn years part
     site-alike =
         let n = laterIn years part in
-        let m = minorIn years part in
-        ap (λ (l : List Slot). siteOf k l (laterOf (laterRead laterYears n (laterAt longer))) (laterOf (laterRead laterYears m (minorAt years longer)))) (fields-alike .values)
-        ∙ ap (λ (l : List Slot). siteOf k (fieldsValues (rulesIn part) (mapIn part) (fieldsIn years part)) (laterOf l) (laterOf (laterRead laterYears m (minorAt years longer))))
+        let m = laterMinorIn years part in
+        ap (λ (l : List Slot). siteOf k l (laterOf (laterRead laterYears n (laterAt longer))) (laterOf (laterRead laterYears m (laterMinorAt years longer)))) (fields-alike .values)
+        ∙ ap (λ (l : List Slot). siteOf k (fieldsValues (rulesIn part) (fieldMapIn part) (fieldsIn years part)) (laterOf l) (laterOf (laterRead laterYears m (laterMinorAt years longer))))
         (ap (laterRead laterYears n) at-traffic ∙ traffic-alike .values)
-        ∙ ap (λ (l : List Slot). siteOf k (fieldsValues (rulesIn part) (mapIn part) (fieldsIn years part)) (laterOf (laterRead laterYears n (laterAt part))) (laterOf l))
+        ∙ ap (λ (l : List Slot). siteOf k (fieldsValues (rulesIn part) (fieldMapIn part) (fieldsIn years part)) (laterOf (laterRead laterYears n (laterAt part))) (laterOf l))
         (ap (laterRead laterYears m) at-minor ∙ minor-alike .values)
 
   -- the tests of a part come out as those of the bytes that bear on it
@@ -148,12 +148,12 @@ module _ (years : ℕ) (known : yearsKnown years ≡ true) where
       by true e h = h
       by false e h = ltb-false (length s) 3 e
 
-  pub past-nothing : (s t : List ℕ) → bears years s ≤ length s → readSite years (s ++ t) ≡ readSite years s
+  past-known : (s t : List ℕ) → bears years s ≤ length s → readSite years (s ++ t) ≡ readSite years s
   unfolding readSite
-  past-nothing [] t h = absurd (omega (arith, long-enough [] h))
-  past-nothing (k ∷ []) t h = absurd (omega (arith, long-enough (k ∷ []) h))
-  past-nothing (k ∷ a ∷ []) t h = absurd (omega (arith, long-enough (k ∷ a ∷ []) h))
-  past-nothing (k ∷ a ∷ b ∷ s) t h =
+  past-known [] t h = absurd (omega (arith, long-enough [] h))
+  past-known (k ∷ []) t h = absurd (omega (arith, long-enough (k ∷ []) h))
+  past-known (k ∷ a ∷ []) t h = absurd (omega (arith, long-enough (k ∷ a ∷ []) h))
+  past-known (k ∷ a ∷ b ∷ s) t h =
       let x = k ∷ a ∷ b ∷ s in
       rw (tried-number years (k ∷ a ∷ b ∷ (s ++ t)) (tried-alike years k a b s t h (tried years x)))
       (same-answer (refusalOf years x) (siteIn years (k ∷ a ∷ b ∷ (s ++ t))) (siteIn years x) (lengthIn years x)
@@ -177,15 +177,35 @@ module _ (years : ℕ) (known : yearsKnown years ≡ true) where
       by false true = omega arith
       by false false = omega arith
 
-  -- the answer is the same for any bytes after those that bear on it
-  pub same-for-any : (s t : List ℕ) → bears years s ≤ length s → readSite years (take (bears years s) s ++ t) ≡ readSite years s
-  same-for-any s t h =
+  same-known : (s t : List ℕ) → bears years s ≤ length s → readSite years (take (bears years s) s ++ t) ≡ readSite years s
+  same-known s t h =
       let x = take (bears years s) s in
       let l : length x ≡ bears years s = length-take-le (bears years s) s h in
       let e : x ++ drop (bears years s) s ≡ s = take-append-drop (bears years s) s in
       let b : bears years x ≡ bears years s = sym (bears-same x (drop (bears years s) s) (omega (arith, three-bear s))) ∙ ap (bears years) e in
       let enough : bears years x ≤ length x = omega arith in
-      past-nothing x t enough ∙ sym (past-nothing x (drop (bears years s) s) enough) ∙ ap (readSite years) e
+      past-known x t enough ∙ sym (past-known x (drop (bears years s) s) enough) ∙ ap (readSite years) e
+
+-- years outside their limits are refused with 4, whatever the bytes are: none bear on that answer
+module _ (years : ℕ) where
+  unknown-alike : yearsKnown years ≡ false → (s t : List ℕ) → readSite years s ≡ readSite years t
+  unfolding readSite refusalOf
+  unknown-alike y s t = rw y
+
+  pub past-nothing : (s t : List ℕ) → bears years s ≤ length s → readSite years (s ++ t) ≡ readSite years s
+  past-nothing s t h = by (yearsKnown years) refl
+    where
+      by : (b : Bool) → yearsKnown years ≡ b → readSite years (s ++ t) ≡ readSite years s
+      by true y = past-known years y s t h
+      by false y = unknown-alike y (s ++ t) s
+
+  -- the answer is the same for any bytes after those that bear on it
+  pub same-for-any : (s t : List ℕ) → bears years s ≤ length s → readSite years (take (bears years s) s ++ t) ≡ readSite years s
+  same-for-any s t h = by (yearsKnown years) refl
+    where
+      by : (b : Bool) → yearsKnown years ≡ b → readSite years (take (bears years s) s ++ t) ≡ readSite years s
+      by true y = same-known years y s t h
+      by false y = unknown-alike y (take (bears years s) s ++ t) s
 
 -- a record that is read is the bytes that bear on its answer
 pub read-bears : (years : ℕ) (s : List ℕ) (site : Site) (n : ℕ) → readSite years s ≡ Read site n → bears years s ≡ n

@@ -1,7 +1,7 @@
 -- Laws of digits: a bit map as digits of base 1 or 2, and two-byte numbers.
 use mathlib.Core.Path.{_≡_, ap, _∙_}
-use mathlib.Core.List.{List, [], _∷_}
-use Prim.Native.Nat.{ℕ, _+_, _*_, _/_, _%_, _<_, _≤_}
+use mathlib.Core.List.{List, [], _∷_, _++_}
+use Prim.Native.Nat.{ℕ, zero, suc, _+_, _*_, _/_, _%_, _<_, _≤_}
 use native.Mathlib.Nat.{add-mul-mod-self-left, mod-eq-of-lt, add-mul-div-left, div-eq-of-lt, zero-add, mod-lt, mod-add-div, div-add-mod'}
 use native.Mathlib.Omega.{arith}
 use lib.ListN.{length, getD, take}
@@ -29,6 +29,11 @@ digit-most b m =
 -- bytes are below 256
 abbrev pub Bytes : List ℕ → Type 0
 Bytes s = (i : ℕ) → getD s i 0 < 256
+
+pub bytes-append : (s t : List ℕ) → Bytes s → Bytes t → (i : ℕ) → getD (s ++ t) i 0 < 256
+bytes-append [] t bytes later i = later i
+bytes-append (x ∷ s) t bytes later zero = bytes 0
+bytes-append (x ∷ s) t bytes later (suc i) = bytes-append s t (λ j. bytes (suc j)) later i
 
 -- a two-byte number is its high and its low byte
 pub two-bytes : (n : ℕ) → n / 256 * 256 + n % 256 ≡ n

@@ -1,18 +1,20 @@
 -- Document 01's bits, by number: what each bit of each kind's map means, where a field's two bytes stand, and what a field
 -- that stands or does not stand is read as. With the reader's definitions it shares only what a range and a two-byte number are,
--- where kind and map stand, and how many later values a traffic has; `fields-read` of FieldsRead and `record-cause-exactly` of RecordCauses tie it to the reader's answer.
+-- where kind and map stand, and that a segment has no minor traffic. The bits of fields, 0 to 14, are read from the map without bit 15,
+-- `fieldMapIn`: by `fields-keep-bits` of BitLaws they are those of the record's own map, `mapIn`, and bit 15 does not stand in it.
+-- `fields-read` of FieldsRead and `record-cause-exactly` of RecordCauses tie it to the reader's answer.
 use mathlib.Core.Path.{_≡_}
 use mathlib.Core.Bool.{Bool, true, false, cond}
 use mathlib.Core.List.{List, [], _∷_}
-use Prim.Native.Nat.{ℕ, zero, suc, _+_, _*_, _/_, _%_, _≤_, _<_}
+use Prim.Native.Nat.{ℕ, zero, suc, _+_, _-_, _*_, _/_, _%_, _≤_, _<_}
 use lib.ListN.{getD, drop}
 use lib.Dec.{eqb}
 use Rattle.site.specs.declared.values.Slot.{Slot}
 use Rattle.site.specs.declared.values.Slot.the-variants.{Absent, Number}
 use Rattle.site.specs.declared.values.Site.{Site}
 use Rattle.site.specs.Rules.{inside}
-use Rattle.site.specs.Yearly.{laterSlots, laterMinor}
-use Rattle.site.specs.Record.{word, kindIn, mapIn, laterIn, minorIn}
+use Rattle.site.specs.Yearly.{laterSlots, yearly, laterMinor}
+use Rattle.site.specs.Record.{word, kindIn, mapIn, fieldMapIn}
 
 -- where a field's bit does not stand
 pub data Absence : Type 0 where
@@ -83,7 +85,7 @@ fieldAt (bit n x ∷ rows) b = cond (eqb b n) x (fieldAt rows b)
 abbrev pub fieldIn : List ℕ → ℕ → Field
 fieldIn s b = fieldAt (rowsOf (kindIn s)) b
 
--- "a two-byte bit map": its bits but for bit 15, which "has no field of its own", and those that a kind lacks
+-- the bits of fields, 0 to 14: bit 15 of the map "has no field of its own"; and those of them that a kind lacks
 abbrev pub mapBits : ℕ
 mapBits = 15
 
@@ -131,14 +133,19 @@ unfoldable pub standing : ℕ → ℕ → ℕ
 standing zero map = 0
 standing (suc b) map = map % 2 + standing b (map / 2)
 
--- document 02, request 4: "each traffic field is followed by Y − 1 more values": how many numbers the field of a bit has
+-- document 02, request 4: "Bit 15 of any kind of record now says that each traffic field is followed by Y − 1 more values": how many
+-- follow the traffic. As many follow the minor traffic, which a segment does not have
+abbrev pub laterTold : (years : ℕ) → List ℕ → ℕ
+laterTold years s = cond (bitAt 15 (mapIn s)) (years - 1) 0
+
+-- how many numbers the field of a bit has
 abbrev pub numbersOf : (kind later : ℕ) → ℕ → ℕ
 numbersOf kind later zero = 1 + later
 numbersOf kind later (suc zero) = 1 + laterMinor kind later
 numbersOf kind later (suc (suc b)) = 1
 
 abbrev pub numbersIn : (years : ℕ) → List ℕ → ℕ → ℕ
-numbersIn years s b = numbersOf (kindIn s) (laterIn years s) b
+numbersIn years s b = numbersOf (kindIn s) (laterTold years s) b
 
 -- "then two bytes for each bit that stands, in rising order": how many numbers the fields of the bits below b have
 unfoldable pub numbersBelow : (ℕ → ℕ) → ℕ → ℕ → ℕ
@@ -146,7 +153,7 @@ numbersBelow numbers zero map = 0
 numbersBelow numbers (suc b) map = map % 2 * numbers 0 + numbersBelow (λ c. numbers (suc c)) b (map / 2)
 
 abbrev pub placeOf : (years : ℕ) → ℕ → List ℕ → ℕ
-placeOf years b s = 3 + 2 * numbersBelow (numbersIn years s) b (mapIn s)
+placeOf years b s = 3 + 2 * numbersBelow (numbersIn years s) b (fieldMapIn s)
 
 -- the numbers of a bit that stands, those of the later years after that of the first
 abbrev pub valueAt : (years b i : ℕ) → List ℕ → ℕ
@@ -190,15 +197,15 @@ roadCurves (suc kind) map = false
 
 -- a field of a record that is read. A standing number is the slot's, in its range, and "a field may not spell its default out"
 pub record FieldRead (years : ℕ) (s : List ℕ) (site : Site) (b : ℕ) (value : Site → Slot) (low high : ℕ) (absence : Absence) : Type 0 where
-  pub standing-is : bitAt b (mapIn s) ≡ true → value site ≡ Number (numberAt years b s)
-  pub at-least : bitAt b (mapIn s) ≡ true → low ≤ numberAt years b s
-  pub at-most : bitAt b (mapIn s) ≡ true → numberAt years b s ≤ high
-  pub not-spelled : bitAt b (mapIn s) ≡ true → isUsual absence (numberAt years b s) ≡ false
-  pub absent-as : bitAt b (mapIn s) ≡ false → AbsentAs absence (roadCurves (kindIn s) (mapIn s)) (value site)
+  pub standing-is : bitAt b (fieldMapIn s) ≡ true → value site ≡ Number (numberAt years b s)
+  pub at-least : bitAt b (fieldMapIn s) ≡ true → low ≤ numberAt years b s
+  pub at-most : bitAt b (fieldMapIn s) ≡ true → numberAt years b s ≤ high
+  pub not-spelled : bitAt b (fieldMapIn s) ≡ true → isUsual absence (numberAt years b s) ≡ false
+  pub absent-as : bitAt b (fieldMapIn s) ≡ false → AbsentAs absence (roadCurves (kindIn s) (fieldMapIn s)) (value site)
 
 -- a bit of a record that is read, by what it means: one that the kind lacks does not stand
 abbrev pub BitRead : (years : ℕ) → List ℕ → Site → ℕ → Field → Type 0
-BitRead years s site b lacked = bitAt b (mapIn s) ≡ false
+BitRead years s site b lacked = bitAt b (fieldMapIn s) ≡ false
 BitRead years s site b (field value low high absence) = FieldRead years s site b value low high absence
 
 -- "for years two to Y": the later values of the field of a bit. "Each has the range of the first", and "a site holds no number for a
@@ -214,12 +221,13 @@ abbrev pub AllAbsent : List Slot → Type 0
 AllAbsent [] = Unit
 AllAbsent (slot ∷ slots) = (slot ≡ Absent) × AllAbsent slots
 
--- what is read from a part: kind, every bit of the map, no number in a slot of another kind, the later years of both traffics, and
--- "the record's length"
+-- what is read from a part: kind, every bit of the map, no number in a slot of another kind, the later years of both traffics, which
+-- the site has where bit 15 stands, and "the record's length"
 pub record FieldsRead (years : ℕ) (s : List ℕ) (site : Site) (n : ℕ) : Type 0 where
   pub kind-is : site .kind ≡ kindIn s
   pub bits : (b : ℕ) → BitRead years s site b (fieldIn s b)
   pub others : AllAbsent (othersOf (kindIn s) site)
-  pub later-traffic : LaterYears years s 0 (laterIn years s) (laterSlots (site .«later_traffic»))
-  pub later-minor : LaterYears years s 1 (minorIn years s) (laterSlots (site .«later_minor»))
+  pub yearly-is : yearly site ≡ bitAt 15 (mapIn s)
+  pub later-traffic : LaterYears years s 0 (laterTold years s) (laterSlots (site .«later_traffic»))
+  pub later-minor : LaterYears years s 1 (laterMinor (kindIn s) (laterTold years s)) (laterSlots (site .«later_minor»))
   pub length-is : n ≡ fieldsEnd years s

@@ -3,11 +3,10 @@ use mathlib.Core.Path.{_≡_, refl, ap, sym, _∙_}
 use mathlib.Core.Bool.{Bool, true, false, cond, _&&_}
 use mathlib.Core.List.{List, [], _∷_}
 use mathlib.Core.Logic.{_↔_, inl, inr}
-use Prim.Native.Nat.{ℕ, zero, suc, _+_, _*_, _%_, _<_, _≤_}
+use Prim.Native.Nat.{ℕ, zero, suc, _*_, _%_, _<_, _≤_}
 use native.Mathlib.Nat.{mod-one, lt-of-not-le}
 use native.Mathlib.Omega.{arith}
 use lib.ListN.{getD, drop}
-use lib.Seq.{drop-drop}
 use lib.Dec.{ltb, leb, eqb}
 use borrow.Author.Tests.{ltb-true, leb-true, eqb-true, ne-eqb}
 use Rattle.site.specs.declared.rules.Rule.{Rule}
@@ -20,7 +19,7 @@ use Rattle.site.specs.declared.values.Site.{Site}
 use Rattle.site.specs.declared.values.SiteAnswer.the-variants.{Read}
 use Rattle.site.specs.Rules.{entriesOf, lastKind, laterYears, inside, allows, absentOf, needed, lacking, bits, settled, settle, holds}
 use Rattle.site.specs.Record.{anyField, lackedBitStands, lacks, misses, curved, rulesRead, word, words, valueNumber}
-use Rattle.site.specs.Record.{fieldsNumber, fieldsValues, kindIn, mapIn, rulesIn, laterIn, minorIn, fieldsIn, laterAt, minorAt, laterRead}
+use Rattle.site.specs.Record.{fieldsNumber, fieldsValues, kindIn, fieldMapIn, rulesIn, laterIn, laterMinorIn, fieldsIn, laterAt, laterMinorAt, laterRead}
 use Rattle.site.specs.Record.{laterAllowed, lengthIn, siteIn, readSite}
 use Rattle.site.specs.Fields.{Absence, never, no-number, usual, on-curve, Field, lacked, field, Row, bit, rowsOf, fieldAt}
 use Rattle.site.specs.Fields.{mapBits, lackedFrom, lackedBits, fieldIn, othersOf, bitAt, standing, valueAt, numberAt, inRange}
@@ -30,9 +29,9 @@ use Rattle.laws.specs.Truth.{and-left, and-right, or-left, or-right, not-both, 
 use Rattle.site.specs.Tested.{by-kind, tested-rules}
 use Rattle.site.specs.LaterLaws.{later-given, later-absent, allowed-at}
 use Rattle.site.specs.Accepted.{Accepted, later-most, reading}
-use Rattle.site.specs.ReadWrite.{value-taken, no-miss, between, slots-again, later-slots-again, minor-slots-again}
+use Rattle.site.specs.ReadWrite.{value-taken, no-miss, between, slots-again, later-slots-again, minor-slots-again, yearly-again}
 use Rattle.site.specs.PlaceLaws.{passes-both, number-of, later-of, minor-of, end-of}
-use Rattle.site.specs.BitLaws.{bitRules, bitSlots, with-bits, listed, EachHasBit, wordAt, words-listed, value-at, needed-stands}
+use Rattle.site.specs.BitLaws.{yearly-told, later-told, minor-told, bitRules, bitSlots, with-bits, listed, EachHasBit, words-listed, value-at, needed-stands}
 use Rattle.site.specs.BitLaws.{BitsTell, bits-tell, all-right, StandingBit, Past, lacked-found, lacked-told, standing-past, same-road}
 use Rattle.site.specs.Curve.{curved-by-six}
 
@@ -257,38 +256,38 @@ absent-for low high (on-curve absence) false ne = refl
 module _ (years : ℕ) (s : List ℕ) (a : Accepted years s) where
   slot-at : (b : ℕ) → b < bitsHeld (kindIn s)
       → getD (bitSlots (rulesIn s) (slotsOf (siteIn years s))) b Absent
-      ≡ cond (bitAt b (mapIn s)) (Number (numberAt years b s)) (absentOf (rulesAt (kindIn s) (curved (entriesOf (kindIn s)) (mapIn s)) b))
+      ≡ cond (bitAt b (fieldMapIn s)) (Number (numberAt years b s)) (absentOf (rulesAt (kindIn s) (curved (entriesOf (kindIn s)) (fieldMapIn s)) b))
   slot-at b h =
-      let c = curved (entriesOf (kindIn s)) (mapIn s) in
-      let w = with-bits (rulesIn s) (mapIn s) (fieldsIn years s) in
+      let c = curved (entriesOf (kindIn s)) (fieldMapIn s) in
+      let w = with-bits (rulesIn s) (fieldMapIn s) (fieldsIn years s) in
       ap (λ (l : List Slot). getD (bitSlots (rulesIn s) l) b Absent) (slots-again years s a)
-      ∙ ap (λ (l : List Slot). getD l b Absent) (w .values ∙ ap (λ (l : List Rule). fieldsValues l (mapIn s) (fieldsIn years s)) (rules-by-bit (kindIn s) (a .passes .head .known) c))
-      ∙ value-at (bitsHeld (kindIn s)) (rulesAt (kindIn s) c) (mapIn s) (fieldsIn years s) (each-has-bit (kindIn s) c) b h
-      ∙ ap (λ (k : ℕ). cond (bitAt b (mapIn s)) (Number k) (absentOf (rulesAt (kindIn s) c b))) (number-of years s (passes-both years s (a .passes)) (between years s a) b)
+      ∙ ap (λ (l : List Slot). getD l b Absent) (w .values ∙ ap (λ (l : List Rule). fieldsValues l (fieldMapIn s) (fieldsIn years s)) (rules-by-bit (kindIn s) (a .passes .head .known) c))
+      ∙ value-at (bitsHeld (kindIn s)) (rulesAt (kindIn s) c) (fieldMapIn s) (fieldsIn years s) (each-has-bit (kindIn s) c) b h
+      ∙ ap (λ (k : ℕ). cond (bitAt b (fieldMapIn s)) (Number k) (absentOf (rulesAt (kindIn s) c b))) (number-of years s (passes-both years s (a .passes)) (between years s a) b)
 
-  number-at : (b : ℕ) → b < bitsHeld (kindIn s) → bitAt b (mapIn s) ≡ true → wrongNumber (fieldIn s b) (numberAt years b s) ≡ 0
+  number-at : (b : ℕ) → b < bitsHeld (kindIn s) → bitAt b (fieldMapIn s) ≡ true → wrongNumber (fieldIn s b) (numberAt years b s) ≡ 0
   number-at b h e =
-      let n = all-right (fields-by-bits (kindIn s) (mapIn s) (fieldsIn years s) (a .passes .head .known)) (a .no-field-refused) b h in
+      let n = all-right (fields-by-bits (kindIn s) (fieldMapIn s) (fieldsIn years s) (a .passes .head .known)) (a .no-field-refused) b h in
       sym (wrong-number (fieldIn s b) (numberAt years b s)) ∙ (rw (e, number-of years s (passes-both years s (a .passes)) (between years s a) b) at n)
 
-  never-absent : (b : ℕ) → b < bitsHeld (kindIn s) → bitAt b (mapIn s) ≡ false
-      → needed (rulesAt (kindIn s) (curved (entriesOf (kindIn s)) (mapIn s)) b) ≡ true → ⊥
+  never-absent : (b : ℕ) → b < bitsHeld (kindIn s) → bitAt b (fieldMapIn s) ≡ false
+      → needed (rulesAt (kindIn s) (curved (entriesOf (kindIn s)) (fieldMapIn s)) b) ≡ true → ⊥
   never-absent b h e k =
-      let c = curved (entriesOf (kindIn s)) (mapIn s) in
-      let m = with-bits (rulesIn s) (mapIn s) (fieldsIn years s) .miss ∙ ap (λ (l : List Rule). misses l (mapIn s)) (rules-by-bit (kindIn s) (a .passes .head .known) c) in
-      not-both (bitAt b (mapIn s)) (needed-stands (bitsHeld (kindIn s)) (rulesAt (kindIn s) c) (mapIn s) (each-has-bit (kindIn s) c) (sym m ∙ no-miss years s a) b h k) e
+      let c = curved (entriesOf (kindIn s)) (fieldMapIn s) in
+      let m = with-bits (rulesIn s) (fieldMapIn s) (fieldsIn years s) .miss ∙ ap (λ (l : List Rule). misses l (fieldMapIn s)) (rules-by-bit (kindIn s) (a .passes .head .known) c) in
+      not-both (bitAt b (fieldMapIn s)) (needed-stands (bitsHeld (kindIn s)) (rulesAt (kindIn s) c) (fieldMapIn s) (each-has-bit (kindIn s) c) (sym m ∙ no-miss years s a) b h k) e
 
-  lacked-unset : (b : ℕ) → fieldIn s b ≡ lacked → bitAt b (mapIn s) ≡ false
+  lacked-unset : (b : ℕ) → fieldIn s b ≡ lacked → bitAt b (fieldMapIn s) ≡ false
   lacked-unset b e =
-      never-so (bitAt b (mapIn s)) (λ t. not-both _ (lacks-exactly (kindIn s) (mapIn s) (a .passes .head .known) .1 (record { at = b; stands = t; holds = e })) (a .passes .lack))
+      never-so (bitAt b (fieldMapIn s)) (λ t. not-both _ (lacks-exactly (kindIn s) (fieldMapIn s) (a .passes .head .known) .1 (record { at = b; stands = t; holds = e })) (a .passes .lack))
 
   bit-read : (b : ℕ) (x : Field) → fieldIn s b ≡ x → NamedAt (bitSlots (rulesIn s) (slotsOf (siteIn years s))) (siteIn years s) b x → BitRead years s (siteIn years s) b x
   bit-read b lacked e n = lacked-unset b e
   bit-read b (field value low high absence) e n =
-      let c = curved (entriesOf (kindIn s)) (mapIn s) in
+      let c = curved (entriesOf (kindIn s)) (fieldMapIn s) in
       let h = among (kindIn s) b (λ l. let z : _≡_ {A = ℕ} 0 1 = cc in omega arith) in
       let is = n ∙ slot-at b h in
-      let right : bitAt b (mapIn s) ≡ true → (inside low high (numberAt years b s) ≡ true) × (isUsual absence (numberAt years b s) ≡ false) =
+      let right : bitAt b (fieldMapIn s) ≡ true → (inside low high (numberAt years b s) ≡ true) × (isUsual absence (numberAt years b s) ≡ false) =
       λ t. value-taken _ _ (rw e at (number-at b h t)) in
       record {
         standing-is = λ t. rw t at is;
@@ -299,7 +298,7 @@ module _ (years : ℕ) (s : List ℕ) (a : Accepted years s) where
             let q : value (siteIn years s) ≡ absentOf (ruleFor low high absence c) = rw (t, e) at is in
             let ne : needed (ruleFor low high absence c) ≡ true → ⊥ = rw e at (never-absent b h t) in
             let w = absent-for low high absence c ne in
-            rw (← curved-by-six (kindIn s) (mapIn s) (a .passes .head .known) (no-miss years s a), q) w;
+            rw (← curved-by-six (kindIn s) (fieldMapIn s) (a .passes .head .known) (no-miss years s a), q) w;
       }
 
   -- the later values of a traffic
@@ -316,17 +315,18 @@ module _ (years : ℕ) (s : List ℕ) (a : Accepted years s) where
 
   fields-in : FieldsRead years s (siteIn years s) (lengthIn years s)
   fields-in =
-      let c = curved (entriesOf (kindIn s)) (mapIn s) in
-      let none : (b : ℕ) → bitAt b (mapIn s) ≡ true → fieldIn s b ≡ lacked → ⊥ = λ b t e. not-both _ t (lacked-unset b e) in
+      let c = curved (entriesOf (kindIn s)) (fieldMapIn s) in
+      let none : (b : ℕ) → bitAt b (fieldMapIn s) ≡ true → fieldIn s b ≡ lacked → ⊥ = λ b t e. not-both _ t (lacked-unset b e) in
       let both = passes-both years s (a .passes) in
       let most = later-most years s (a .passes .head .years-in) in
       record {
         kind-is = refl;
         bits = λ b. bit-read b (fieldIn s b) refl (named-at (rowsOf (kindIn s)) _ (siteIn years s) (named (kindIn s) (a .passes .head .known) c (siteIn years s)) b);
-        others = rw (others-are (kindIn s) (a .passes .head .known) (siteIn years s), slots-again years s a) (others-absent c (entriesOf (kindIn s)) (mapIn s) (fieldsIn years s) (a .passes .lack));
-        later-traffic = rw (later-slots-again years s a) (later-years 0 (laterIn years s) (laterAt s) (most .0) (and-left (laterAllowed (laterIn years s) (laterAt s)) _ (a .later-in)) (later-of years s));
-        later-minor = rw (minor-slots-again years s a) (later-years 1 (minorIn years s) (minorAt years s) (most .1) (and-right (laterAllowed (laterIn years s) (laterAt s)) _ (a .later-in)) (minor-of years s both));
-        length-is = end-of years s both (words-standing (kindIn s) (mapIn s) (a .passes .head .known) none);
+        others = rw (others-are (kindIn s) (a .passes .head .known) (siteIn years s), slots-again years s a) (others-absent c (entriesOf (kindIn s)) (fieldMapIn s) (fieldsIn years s) (a .passes .lack));
+        yearly-is = yearly-again years s a ∙ sym (yearly-told s);
+        later-traffic = rw (later-told years s, later-slots-again years s a) (later-years 0 (laterIn years s) (laterAt s) (most .0) (and-left (laterAllowed (laterIn years s) (laterAt s)) _ (a .later-in)) (later-of years s));
+        later-minor = rw (minor-told years s, minor-slots-again years s a) (later-years 1 (laterMinorIn years s) (laterMinorAt years s) (most .1) (and-right (laterAllowed (laterIn years s) (laterAt s)) _ (a .later-in)) (minor-of years s both));
+        length-is = end-of years s both (words-standing (kindIn s) (fieldMapIn s) (a .passes .head .known) none);
       }
 
 -- A RECORD THAT IS READ HAS THE FIELDS OF DOCUMENT 01, bit by bit
@@ -335,16 +335,16 @@ fields-read years s site n e = let r = reading years s site n e in rw (← r .si
 
 -- "Without bit 2 there is no history; a standing 0 is a history of none", of every kind
 pub history-read : (years : ℕ) (s : List ℕ) (site : Site) (n : ℕ) → readSite years s ≡ Read site n
-    → site .observed ≡ cond (bitAt 2 (mapIn s)) (Number (numberAt years 2 s)) Absent
+    → site .observed ≡ cond (bitAt 2 (fieldMapIn s)) (Number (numberAt years 2 s)) Absent
 unfolding fieldAt
 history-read years s site n e = by (kindIn s) (fields-read years s site n e .bits 2)
   where
-    told : FieldRead years s site 2 (λ x. x .observed) 0 500 no-number → (b : Bool) → bitAt 2 (mapIn s) ≡ b
+    told : FieldRead years s site 2 (λ x. x .observed) 0 500 no-number → (b : Bool) → bitAt 2 (fieldMapIn s) ≡ b
         → site .observed ≡ cond b (Number (numberAt years 2 s)) Absent
     told r true t = r .standing-is t
     told r false t = r .absent-as t
 
-    by : (kind : ℕ) → BitRead years s site 2 (fieldAt (rowsOf kind) 2) → site .observed ≡ cond (bitAt 2 (mapIn s)) (Number (numberAt years 2 s)) Absent
+    by : (kind : ℕ) → BitRead years s site 2 (fieldAt (rowsOf kind) 2) → site .observed ≡ cond (bitAt 2 (fieldMapIn s)) (Number (numberAt years 2 s)) Absent
     by zero r = told r _ refl
     by (suc zero) r = told r _ refl
     by (suc (suc zero)) r = told r _ refl

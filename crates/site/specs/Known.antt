@@ -63,6 +63,22 @@ pub quarry-read : (readSite 3 quarry ≡ Read (siteIn 3 quarry) 11) × QuarryRea
 unfolding quarry entriesOf anyField words fieldsNumber fieldsValues laterRead laterAllowed recordNumber refusalOf readSite
 quarry-read = (refl, record { traffic = refl; second = refl; third = refl; fourth = refl; length = refl })
 
+-- and a 3ST over two years: 3,000 and 3,500 vehicles a day on its major road, 400 and 450 on its minor road
+pub turnOff : List ℕ
+turnOff = 0x01 ∷ 0x80 ∷ 0x03 ∷ 0x0B ∷ 0xB8 ∷ 0x0D ∷ 0xAC ∷ 0x01 ∷ 0x90 ∷ 0x01 ∷ 0xC2 ∷ []
+
+pub record TurnOffRead (site : Site) : Type 0 where
+  pub traffic : site .traffic ≡ Number 3000
+  pub second : site .«later_traffic» .second ≡ Number 3500
+  pub third : site .«later_traffic» .third ≡ Absent
+  pub minor : site .«minor_traffic» ≡ Number 400
+  pub minor-second : site .«later_minor» .second ≡ Number 450
+  pub minor-third : site .«later_minor» .third ≡ Absent
+
+pub turn-off-read : (readSite 2 turnOff ≡ Read (siteIn 2 turnOff) 11) × TurnOffRead (siteIn 2 turnOff)
+unfolding turnOff entriesOf anyField words fieldsNumber fieldsValues laterRead laterAllowed recordNumber refusalOf readSite
+turn-off-read = (refl, record { traffic = refl; second = refl; third = refl; minor = refl; minor-second = refl; minor-third = refl })
+
 -- "Bit 15 with Y = 1 is refused with 7, and a missing value is 1"
 pub quarry-in-one : refusalOf 1 quarry ≡ 7
 unfolding quarry entriesOf anyField words fieldsNumber laterAllowed recordNumber refusalOf

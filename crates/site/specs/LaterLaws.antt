@@ -2,22 +2,20 @@
 use mathlib.Core.Path.{_≡_, refl, ap, sym, _∙_}
 use mathlib.Core.Bool.{Bool, true, false, cond, _&&_, true≢false}
 use mathlib.Core.List.{List, [], _∷_, _++_, append-assoc}
-use Prim.Native.Nat.{ℕ, zero, suc, _+_, _-_, _*_, _<_, _≤_}
+use Prim.Native.Nat.{ℕ, zero, suc, _+_, _*_, _<_, _≤_}
 use native.Mathlib.Omega.{arith}
-use lib.ListN.{length, getD, take, drop, length-append, length-drop, take-append-drop, List·getD-append, drop-of-length-le}
+use lib.ListN.{length, getD, take, drop, length-append, length-drop, List·getD-append, drop-of-length-le}
 use lib.Seq.{length-take-le, take-add, take-at, drop-at, drop-drop, drop-append-le, take-append-le, take-append-add, getD-take, getD-drop, drop-cons}
 use lib.Dec.{leb, eqb}
 use borrow.Author.Tests.{eqb-true, leb-true}
-use Rattle.site.specs.declared.rules.Rule.{Rule}
 use Rattle.site.specs.declared.values.Slot.{Slot}
 use Rattle.site.specs.declared.values.Slot.the-variants.{Absent, Number}
-use Rattle.site.specs.declared.values.Later.{Later}
-use Rattle.site.specs.Rules.{mostYears, yearsKnown, laterYears, traffic, allows, absent}
+use Rattle.site.specs.Rules.{mostYears, yearsKnown, laterYears, traffic, allows}
 use Rattle.site.specs.Yearly.{laterSlots, laterOf, laterMinor}
 use Rattle.site.specs.Record.{word, yearlyBit, fieldMap, gathered, laterRead, laterAllowed}
-use Rattle.site.specs.Writing.{twoBytes, slotBytes, fits, laterBytes, laterFits}
+use Rattle.site.specs.Writing.{laterBytes, laterFits}
 use Rattle.laws.specs.Truth.{and-left, and-right}
-use Rattle.site.specs.Digits.{Bytes, two-bytes, bytes-of-word}
+use Rattle.site.specs.Digits.{Bytes, bytes-append, two-bytes, bytes-of-word}
 
 -- years within their limits
 pub years-within : (years : ℕ) → yearsKnown years ≡ true → (1 ≤ years) × (years ≤ mostYears)
@@ -98,11 +96,6 @@ length-gathered n m s h =
       length-drop (4 + 2 * n + 2 * m) s,
     )
 
-append-bytes : (s t : List ℕ) → Bytes s → Bytes t → (i : ℕ) → getD (s ++ t) i 0 < 256
-append-bytes [] t bytes later i = later i
-append-bytes (x ∷ s) t bytes later zero = bytes 0
-append-bytes (x ∷ s) t bytes later (suc i) = append-bytes s t (λ j. bytes (suc j)) later i
-
 take-bytes : (n : ℕ) (s : List ℕ) → Bytes s → (i : ℕ) → getD (take n s) i 0 < 256
 take-bytes zero s bytes i = omega arith
 take-bytes (suc n) [] bytes i = omega arith
@@ -111,8 +104,8 @@ take-bytes (suc n) (x ∷ s) bytes (suc i) = take-bytes n s (λ j. bytes (suc j)
 
 pub gathered-bytes : (n m : ℕ) (s : List ℕ) → Bytes s → Bytes (gathered n m s)
 gathered-bytes n m s bytes =
-    append-bytes (take 2 s) (take 2 (drop (2 + 2 * n) s) ++ drop (4 + 2 * n + 2 * m) s) (take-bytes 2 s bytes)
-    (append-bytes (take 2 (drop (2 + 2 * n) s)) (drop (4 + 2 * n + 2 * m) s)
+    bytes-append (take 2 s) (take 2 (drop (2 + 2 * n) s) ++ drop (4 + 2 * n + 2 * m) s) (take-bytes 2 s bytes)
+    (bytes-append (take 2 (drop (2 + 2 * n) s)) (drop (4 + 2 * n + 2 * m) s)
     (take-bytes 2 (drop (2 + 2 * n) s) (λ i. rw getD-drop (bytes (2 + 2 * n + i)))) (λ i. rw getD-drop (bytes (4 + 2 * n + 2 * m + i))))
 
 -- a number of the fields, gathered and not
@@ -270,21 +263,22 @@ later-rewritten (suc k) (suc n) s h l a =
           rw (e, take-add 2 (2 * n) s, ← bytes-of-word s b (omega arith), later .bytes (λ i. rw getD-drop (b (2 + i))));
     }
 
--- the years of a site are the slots that they were made of
-yearsFrom : ℕ → ℕ → List Slot → List Slot
-yearsFrom zero i slots = []
-yearsFrom (suc n) i slots = getD slots i Absent ∷ yearsFrom n (suc i) slots
+-- slots taken one by one from a place are those that stand there
+unfoldable pub firsts : ℕ → ℕ → List Slot → List Slot
+firsts zero i slots = []
+firsts (suc n) i slots = getD slots i Absent ∷ firsts n (suc i) slots
 
-years-from : (n i : ℕ) (slots : List Slot) → length slots ≡ i + n → yearsFrom n i slots ≡ drop i slots
-unfolding yearsFrom
-years-from zero i slots e = let h : length slots ≤ i = omega arith in sym (drop-of-length-le slots h)
-years-from (suc n) i slots e =
+pub firsts-drop : (n i : ℕ) (slots : List Slot) → length slots ≡ i + n → firsts n i slots ≡ drop i slots
+unfolding firsts
+firsts-drop zero i slots e = let h : length slots ≤ i = omega arith in sym (drop-of-length-le slots h)
+firsts-drop (suc n) i slots e =
     let h : i < length slots = omega arith in
-    ap (λ (l : List Slot). getD slots i Absent ∷ l) (years-from n (suc i) slots (omega arith)) ∙ sym (drop-cons slots i Absent h)
+    ap (λ (l : List Slot). getD slots i Absent ∷ l) (firsts-drop n (suc i) slots (omega arith)) ∙ sym (drop-cons slots i Absent h)
 
+-- the years of a site are the slots that they were made of
 pub later-slots-of : (slots : List Slot) → length slots ≡ laterYears → laterSlots (laterOf slots) ≡ slots
-unfolding yearsFrom
-later-slots-of slots e = years-from laterYears 0 slots (e ∙ omega arith)
+unfolding firsts
+later-slots-of slots e = firsts-drop laterYears 0 slots (e ∙ omega arith)
 
 -- nothing past them bears on them
 pub record LaterAlike (k n : ℕ) (s t : List ℕ) : Type 0 where

@@ -1,14 +1,12 @@
 -- A site's numbers by its kind, as the model takes them, and their ranges where the site is valid.
-use Prim.Native.Nat.{ℕ, zero, suc, _-_, _≤_, _<_}
+use Prim.Native.Nat.{ℕ, zero, suc, _≤_, _<_}
 use mathlib.Core.Path.{_≡_, refl, sym, ap}
 use mathlib.Core.Bool.{true, not}
-use mathlib.Core.List.{List, [], _∷_}
+use mathlib.Core.List.{[]}
 use mathlib.Core.Logic.{_⊎_, inl, inr}
 use native.Mathlib.Nat.{le-trans, le-of-eq}
 use native.Mathlib.Omega.{arith}
-use lib.ListN.{getD}
 use lib.Dec.{lit≤}
-use borrow.Author.Tests.{eqb-true, ne-eqb}
 use Rattle.site.specs.declared.rules.Rule.{Rule}
 use Rattle.site.specs.declared.rules.Rule.the-variants.{Foreign, Lacking, Needed, Optional, Default}
 use Rattle.site.specs.declared.values.Site.{Site}
@@ -18,11 +16,10 @@ use Rattle.site.specs.declared.numbers.Segment.{Segment}
 use Rattle.site.specs.declared.numbers.Crossing.{Crossing}
 use Rattle.site.specs.Rules as rules
 use Rattle.site.specs.Rules.{absent}
-use Rattle.site.specs.Yearly.{laterSlots, yearly}
-use Rattle.site.specs.Writing.{fits, laterFits, Valid}
+use Rattle.site.specs.Yearly.{yearly}
+use Rattle.site.specs.Writing.{Valid}
 use Rattle.site.specs.Tested.{by-kind, top}
-use Rattle.laws.specs.Truth.{and-left, and-right}
-use Rattle.site.specs.Ranges.{Within, Obeys, StraightRoad, CurvedRoad, CrossingRanges, fit-obeys, tests}
+use Rattle.site.specs.Ranges.{Within, Obeys, StraightRoad, CurvedRoad, CrossingRanges, laterTraffic, laterMinorTraffic, valid-later}
 use Rattle.site.specs.Ranges.{valid-kind, segment-ranges, three-leg-ranges, four-leg-ranges, signal-ranges}
 
 -- the number in a slot; a valid site has one wherever the model asks for it
@@ -135,14 +132,6 @@ pub record CrossingSizes (v : Crossing) : Type 0 where
 traffic-sizes : (slot : Slot) → Obeys rules.traffic slot → TrafficSizes (number slot)
 traffic-sizes slot h = record { least = obeys-least rules.traffic slot h; most = obeys-most rules.traffic slot h }
 
--- a later year that is given has a traffic within its rule
-later-fits-at : (n : ℕ) (slots : List Slot) → laterFits n slots ≡ true → (i : ℕ) → i < n → fits rules.traffic (getD slots i Absent) ≡ true
-unfolding laterFits
-later-fits-at n [] e i h = absurd (omega (arith, eqb-true n 0 e))
-later-fits-at zero (slot ∷ slots) e i h = absurd (omega arith)
-later-fits-at (suc n) (slot ∷ slots) e zero h = and-left _ _ e
-later-fits-at (suc n) (slot ∷ slots) e (suc i) h = later-fits-at n slots (and-right (fits rules.traffic slot) _ e) i (omega arith)
-
 module _ (years : ℕ) (site : Site) (valid : Valid years site) where
   -- a road that has a curve length is no straight one
   bend-of : (traffic : ℕ) → StraightRoad site ⊎ CurvedRoad site → not (absent (site .«curve_length»)) ≡ true → CurveSizes (segmentOf traffic site)
@@ -244,14 +233,8 @@ module _ (years : ℕ) (site : Site) (valid : Valid years site) where
       (λ from. obeys-most rules.observed (site .observed) (crossing-rules years site valid from .obeyed .observed))
 
   -- THE TRAFFIC OF A LATER YEAR of a site that has one for each year
-  pub later-traffic-sizes : yearly site ≡ true → (i : ℕ) → suc i < years → TrafficSizes (number (getD (laterSlots (site .«later_traffic»)) i Absent))
-  later-traffic-sizes e i h =
-      let slot = getD (laterSlots (site .«later_traffic»)) i Absent in
-      traffic-sizes slot (fit-obeys rules.traffic slot (later-fits-at _ _ (tests years site valid .later-traffic) i (rw e (omega arith))))
+  pub later-traffic-sizes : yearly site ≡ true → (i : ℕ) → suc i < years → TrafficSizes (number (laterTraffic site i))
+  later-traffic-sizes e i h = traffic-sizes (laterTraffic site i) (valid-later years site valid i .traffic-given e h)
 
-  pub later-minor-sizes : yearly site ≡ true → 1 ≤ site .kind → (i : ℕ) → suc i < years
-      → TrafficSizes (number (getD (laterSlots (site .«later_minor»)) i Absent))
-  later-minor-sizes e from i h =
-      let slot = getD (laterSlots (site .«later_minor»)) i Absent in
-      traffic-sizes slot (fit-obeys rules.traffic slot (later-fits-at _ _ (tests years site valid .later-minor) i
-      (rw (ne-eqb (site .kind) 0 (λ z. omega arith), e) (omega arith))))
+  pub later-minor-sizes : yearly site ≡ true → 1 ≤ site .kind → (i : ℕ) → suc i < years → TrafficSizes (number (laterMinorTraffic site i))
+  later-minor-sizes e from i h = traffic-sizes (laterMinorTraffic site i) (valid-later years site valid i .minor-given e from h)

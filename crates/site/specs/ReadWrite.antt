@@ -4,8 +4,8 @@ use mathlib.Core.Bool.{Bool, true, false, cond, _&&_, _||_, not, or-true}
 use mathlib.Core.List.{List, [], _∷_, _++_, append-nil}
 use Prim.Native.Nat.{ℕ, zero, suc, _+_, _-_, _*_, _/_, _%_, _<_, _≤_}
 use native.Mathlib.Omega.{arith}
-use lib.ListN.{length, getD, take, drop, length-drop, drop-of-length-le}
-use lib.Seq.{take-add, getD-drop, drop-drop, drop-cons}
+use lib.ListN.{length, take, drop, length-drop}
+use lib.Seq.{take-add, getD-drop, drop-drop}
 use lib.Dec.{eqb}
 use borrow.Author.Tests.{le-leb, ltb-false, eqb-true, eqb-false, eq-eqb}
 use Rattle.site.specs.declared.rules.Rule.{Rule}
@@ -19,8 +19,8 @@ use Rattle.site.specs.declared.values.SiteAnswer.the-variants.{Read}
 use Rattle.site.specs.Rules.{entriesOf, lastKind, laterYears, slotCount, allows, absentOf, needed, bits, settle, absent, holds}
 use Rattle.site.specs.Record.{word, bitOf, restOf, stands, lackedBitStands, neededBitAbsent, anyField, lacks, misses}
 use Rattle.site.specs.Record.{curved, rulesRead, words, valueNumber, fieldNumber, fieldValue, after, fieldsNumber}
-use Rattle.site.specs.Record.{fieldsValues, siteOf, yearlyBit, kindIn, wholeMapIn, mapIn, rulesIn, laterIn, minorIn, fieldsIn}
-use Rattle.site.specs.Record.{laterRead, laterAllowed, laterAt, minorAt, lengthIn, siteIn, readSite}
+use Rattle.site.specs.Record.{fieldsValues, siteOf, yearlyBit, kindIn, mapIn, fieldMapIn, rulesIn, laterIn, laterMinorIn, fieldsIn}
+use Rattle.site.specs.Record.{laterRead, laterAllowed, laterAt, laterMinorAt, lengthIn, siteIn, readSite}
 use Rattle.site.specs.Writing.{slotsOf, curveHeld, rulesHeld, fits, allFit, slotBit, mapOf, fieldBytes, bytesOf, twoBytes, laterBytes, spreadBytes, recordBy, recordOf, Valid}
 use Rattle.site.specs.Yearly.{laterSlots, yearly, laterGiven}
 use Rattle.site.specs.Ranges.{sound-by}
@@ -28,7 +28,7 @@ use Rattle.laws.specs.Truth.{and-left, and-right, or-left, or-right, both-zero}
 use Rattle.site.specs.Digits.{Bytes, digit-whole, digit-most, bytes-of-word}
 use Rattle.site.specs.Tested.{right, entryRight, bits-most, tested-rules, rules-lead, every}
 use Rattle.site.specs.LaterLaws.{years-within, bit-most, whole-map, length-gathered, gathered-bytes, spread-again}
-use Rattle.site.specs.LaterLaws.{LaterRewritten, later-rewritten, later-slots-of, later-given, later-absent}
+use Rattle.site.specs.LaterLaws.{LaterRewritten, later-rewritten, firsts, firsts-drop, later-slots-of, later-given, later-absent}
 use Rattle.site.specs.WriteRead.{firstField, secondField, otherFields, spread-parts, bytes-parts, first-long, second-long}
 use Rattle.site.specs.Accepted.{Accepted, words-least, fields-long, later-most, reading}
 
@@ -143,22 +143,11 @@ same-curve kind map s hk = by (curved (entriesOf kind) map) refl
     by false e = straight-read (entriesOf kind) map s (tested-rules kind false hk .entries-right) e
 
 -- the slots of a site are those that it was made of
-firsts : ℕ → ℕ → List Slot → List Slot
-firsts zero i slots = []
-firsts (suc n) i slots = getD slots i Absent ∷ firsts n (suc i) slots
-
-firsts-drop : (n i : ℕ) (slots : List Slot) → length slots ≡ i + n → firsts n i slots ≡ drop i slots
-unfolding firsts
-firsts-drop zero i slots e = let h : length slots ≤ i = omega arith in sym (drop-of-length-le slots h)
-firsts-drop (suc n) i slots e =
-    let h : i < length slots = omega arith in
-    ap (λ (l : List Slot). getD slots i Absent ∷ l) (firsts-drop n (suc i) slots (omega arith)) ∙ sym (drop-cons slots i Absent h)
-
 pub slots-of-site : (kind : ℕ) (slots : List Slot) (traffic minor : Later) → length slots ≡ slotCount → slotsOf (siteOf kind slots traffic minor) ≡ slots
 unfolding firsts
 slots-of-site kind slots traffic minor e = firsts-drop slotCount 0 slots (e ∙ omega arith)
 
-header : (s : List ℕ) → Bytes s → 3 ≤ length s → kindIn s ∷ wholeMapIn s / 256 ∷ wholeMapIn s % 256 ∷ [] ≡ take 3 s
+header : (s : List ℕ) → Bytes s → 3 ≤ length s → kindIn s ∷ mapIn s / 256 ∷ mapIn s % 256 ∷ [] ≡ take 3 s
 header [] bytes h = let z : ⊥ = omega arith in absurd z
 header (k ∷ s) bytes h = ap (λ (l : List ℕ). k ∷ l) (bytes-of-word s (λ i. bytes (suc i)) (omega arith))
 
@@ -168,25 +157,25 @@ module _ (years : ℕ) (s : List ℕ) (a : Accepted years s) where
   later = laterIn years s
 
   abbrev minor : ℕ
-  minor = minorIn years s
+  minor = laterMinorIn years s
 
   abbrev rules : List Rule
   rules = rulesIn s
 
   abbrev pub valuesRead : List Slot
-  valuesRead = fieldsValues (rulesIn s) (mapIn s) (fieldsIn years s)
+  valuesRead = fieldsValues (rulesIn s) (fieldMapIn s) (fieldsIn years s)
 
-  pub no-miss : misses (rulesIn s) (mapIn s) ≡ false
-  no-miss = or-left (misses (rulesIn s) (mapIn s)) _ (a .passes .miss)
+  pub no-miss : misses (rulesIn s) (fieldMapIn s) ≡ false
+  no-miss = or-left (misses (rulesIn s) (fieldMapIn s)) _ (a .passes .miss)
 
   pub between : 4 + 2 * later + 2 * minor ≤ length (drop 3 s)
   between = fields-long years s (a .passes) (a .full)
 
-  fields : RewrittenFields rules (mapIn s) (fieldsIn years s)
+  fields : RewrittenFields rules (fieldMapIn s) (fieldsIn years s)
   fields =
-      let full : 2 * words rules (mapIn s) ≤ length (fieldsIn years s) =
+      let full : 2 * words rules (fieldMapIn s) ≤ length (fieldsIn years s) =
       omega (arith, a .full, length-drop 3 s, between, length-gathered later minor (drop 3 s) between) in
-      rewritten-fields rules (mapIn s) (fieldsIn years s) (tested-rules _ _ (a .passes .head .known) .rights) full (a .passes .lack) no-miss (a .no-field-refused)
+      rewritten-fields rules (fieldMapIn s) (fieldsIn years s) (tested-rules _ _ (a .passes .head .known) .rights) full (a .passes .lack) no-miss (a .no-field-refused)
 
   values-count : length valuesRead ≡ slotCount
   values-count = fields .count ∙ tested-rules _ _ (a .passes .head .known) .count
@@ -196,9 +185,9 @@ module _ (years : ℕ) (s : List ℕ) (a : Accepted years s) where
       later-rewritten laterYears later (laterAt s) (later-most years s (a .passes .head .years-in) .0)
       (omega (arith, between, length-drop 3 s, length-drop 5 s)) (and-left (laterAllowed later (laterAt s)) _ (a .later-in))
 
-  pub minor-again : LaterRewritten laterYears minor (minorAt years s)
+  pub minor-again : LaterRewritten laterYears minor (laterMinorAt years s)
   minor-again =
-      later-rewritten laterYears minor (minorAt years s) (later-most years s (a .passes .head .years-in) .1)
+      later-rewritten laterYears minor (laterMinorAt years s) (later-most years s (a .passes .head .years-in) .1)
       (omega (arith, between, length-drop 3 s, length-drop (7 + 2 * later) s)) (and-right (laterAllowed later (laterAt s)) _ (a .later-in))
 
   pub slots-again : slotsOf (siteIn years s) ≡ valuesRead
@@ -207,29 +196,29 @@ module _ (years : ℕ) (s : List ℕ) (a : Accepted years s) where
   pub later-slots-again : laterSlots (siteIn years s .«later_traffic») ≡ laterRead laterYears later (laterAt s)
   later-slots-again = later-slots-of (laterRead laterYears later (laterAt s)) (traffic-again .count)
 
-  pub minor-slots-again : laterSlots (siteIn years s .«later_minor») ≡ laterRead laterYears minor (minorAt years s)
-  minor-slots-again = later-slots-of (laterRead laterYears minor (minorAt years s)) (minor-again .count)
+  pub minor-slots-again : laterSlots (siteIn years s .«later_minor») ≡ laterRead laterYears minor (laterMinorAt years s)
+  minor-slots-again = later-slots-of (laterRead laterYears minor (laterMinorAt years s)) (minor-again .count)
 
   rules-again : rulesHeld (kindIn s) valuesRead ≡ rules
-  rules-again = ap (λ (c : Bool). settle c (entriesOf (kindIn s))) (same-curve (kindIn s) (mapIn s) (fieldsIn years s) (a .passes .head .known))
+  rules-again = ap (λ (c : Bool). settle c (entriesOf (kindIn s))) (same-curve (kindIn s) (fieldMapIn s) (fieldsIn years s) (a .passes .head .known))
 
   -- the site has later values exactly where bit 15 stands
-  yearly-again : yearly (siteIn years s) ≡ eqb (yearlyBit (wholeMapIn s)) 1
-  yearly-again = by (yearlyBit (wholeMapIn s)) (bit-most (wholeMapIn s)) refl
+  pub yearly-again : yearly (siteIn years s) ≡ eqb (yearlyBit (mapIn s)) 1
+  yearly-again = by (yearlyBit (mapIn s)) (bit-most (mapIn s)) refl
     where
-      by : (bit : ℕ) → bit ≤ 1 → yearlyBit (wholeMapIn s) ≡ bit → yearly (siteIn years s) ≡ eqb bit 1
+      by : (bit : ℕ) → bit ≤ 1 → yearlyBit (mapIn s) ≡ bit → yearly (siteIn years s) ≡ eqb bit 1
       by zero h e =
           let none : later ≤ 0 = rw e (omega arith) in
           rw (later-absent laterYears later (laterAt s) 0 none)
       by (suc zero) h e =
-          let one : eqb years 1 ≡ false = rw e at (or-right (misses (rulesIn s) (mapIn s)) _ (a .passes .miss)) in
+          let one : eqb years 1 ≡ false = rw e at (or-right (misses (rulesIn s) (fieldMapIn s)) _ (a .passes .miss)) in
           let w = years-within years (a .passes .head .years-in) in
           let some : 0 < later = rw e (omega (arith, w .0, eqb-false years 1 one)) in
           rw (later-given laterYears later (laterAt s) (later-most years s (a .passes .head .years-in) .0) 0 some)
       by (suc (suc bit)) h e = absurd (omega arith)
 
   pub given-again : laterGiven years (siteIn years s) ≡ later
-  given-again = rw yearly-again (by (yearlyBit (wholeMapIn s)) (bit-most (wholeMapIn s)))
+  given-again = rw yearly-again (by (yearlyBit (mapIn s)) (bit-most (mapIn s)))
     where
       by : (bit : ℕ) → bit ≤ 1 → cond (eqb bit 1) (years - 1) 0 ≡ bit * (years - 1)
       by zero h = omega arith
@@ -247,41 +236,41 @@ module _ (years : ℕ) (s : List ℕ) (a : Accepted years s) where
       })
 
   -- its bytes are those of the part
-  spread-is : Bytes s → spreadBytes rules valuesRead (take (2 * later) (laterAt s)) (take (2 * minor) (minorAt years s))
-      ≡ take (2 * (words rules (mapIn s) + (later + minor))) (drop 3 s)
+  spread-is : Bytes s → spreadBytes rules valuesRead (take (2 * later) (laterAt s)) (take (2 * minor) (laterMinorAt years s))
+      ≡ take (2 * (words rules (fieldMapIn s) + (later + minor))) (drop 3 s)
   spread-is bytes =
       let count = tested-rules _ _ (a .passes .head .known) .count in
       let lead = rules-lead (kindIn s) _ (a .passes .head .known) in
-      let w = 2 * words rules (mapIn s) - 4 in
-      let two = words-least (kindIn s) (mapIn s) (a .passes .head .known) no-miss in
-      let e : 2 * words rules (mapIn s) ≡ 4 + w = omega arith in
-      let e′ : 2 * (words rules (mapIn s) + (later + minor)) ≡ 4 + 2 * later + 2 * minor + w = omega arith in
+      let w = 2 * words rules (fieldMapIn s) - 4 in
+      let two = words-least (kindIn s) (fieldMapIn s) (a .passes .head .known) no-miss in
+      let e : 2 * words rules (fieldMapIn s) ≡ 4 + w = omega arith in
+      let e′ : 2 * (words rules (fieldMapIn s) + (later + minor)) ≡ 4 + 2 * later + 2 * minor + w = omega arith in
       let g : 7 + 2 * later ≡ 3 + (4 + 2 * later) = omega arith in
       let is = sym (bytes-parts rules valuesRead count values-count)
       ∙ fields .bytes (gathered-bytes later minor (drop 3 s) (λ i. rw getD-drop (bytes (3 + i)))) ∙ ap (λ (k : ℕ). take k (fieldsIn years s)) e in
-      sym (append-nil _) ∙ spread-parts rules valuesRead (take (2 * later) (laterAt s)) (take (2 * minor) (minorAt years s)) []
+      sym (append-nil _) ∙ spread-parts rules valuesRead (take (2 * later) (laterAt s)) (take (2 * minor) (laterMinorAt years s)) []
       ∙ rw (append-nil (otherFields rules valuesRead), e′, g, ← drop-drop (4 + 2 * later) 3 s, ← drop-drop 2 3 s)
       (spread-again later minor w (drop 3 s) (firstField rules valuesRead) (secondField rules valuesRead) (otherFields rules valuesRead)
       (first-long rules valuesRead count values-count lead (fields .fit)) (second-long rules valuesRead count values-count lead (fields .fit)) between is)
 
-  whole-again : mapOf rules valuesRead + cond (eqb (yearlyBit (wholeMapIn s)) 1) 32768 0 ≡ wholeMapIn s
-  whole-again = rw (fields .map-is) (by (yearlyBit (wholeMapIn s)) (bit-most (wholeMapIn s)) (whole-map (wholeMapIn s)))
+  whole-again : mapOf rules valuesRead + cond (eqb (yearlyBit (mapIn s)) 1) 32768 0 ≡ mapIn s
+  whole-again = rw (fields .map-is) (by (yearlyBit (mapIn s)) (bit-most (mapIn s)) (whole-map (mapIn s)))
     where
-      by : (bit : ℕ) → bit ≤ 1 → mapIn s + 32768 * bit ≡ wholeMapIn s → mapIn s + cond (eqb bit 1) 32768 0 ≡ wholeMapIn s
+      by : (bit : ℕ) → bit ≤ 1 → fieldMapIn s + 32768 * bit ≡ mapIn s → fieldMapIn s + cond (eqb bit 1) 32768 0 ≡ mapIn s
       by zero h e = omega arith
       by (suc zero) h e = omega arith
       by (suc (suc bit)) h e = absurd (omega arith)
 
   parts-again : recordOf (siteIn years s)
-      ≡ recordBy rules (kindIn s) valuesRead (eqb (yearlyBit (wholeMapIn s)) 1) (laterRead laterYears later (laterAt s)) (laterRead laterYears minor (minorAt years s))
+      ≡ recordBy rules (kindIn s) valuesRead (eqb (yearlyBit (mapIn s)) 1) (laterRead laterYears later (laterAt s)) (laterRead laterYears minor (laterMinorAt years s))
   parts-again =
       let k = kindIn s in
       let x = siteIn years s in
       ap (λ (l : List Slot). recordBy (rulesHeld k l) k l (yearly x) (laterSlots (x .«later_traffic»)) (laterSlots (x .«later_minor»))) slots-again
       ∙ ap (λ (l : List Rule). recordBy l k valuesRead (yearly x) (laterSlots (x .«later_traffic»)) (laterSlots (x .«later_minor»))) rules-again
       ∙ ap (λ (b : Bool). recordBy rules k valuesRead b (laterSlots (x .«later_traffic»)) (laterSlots (x .«later_minor»))) yearly-again
-      ∙ ap (λ (l : List Slot). recordBy rules k valuesRead (eqb (yearlyBit (wholeMapIn s)) 1) l (laterSlots (x .«later_minor»))) later-slots-again
-      ∙ ap (λ (l : List Slot). recordBy rules k valuesRead (eqb (yearlyBit (wholeMapIn s)) 1) (laterRead laterYears later (laterAt s)) l) minor-slots-again
+      ∙ ap (λ (l : List Slot). recordBy rules k valuesRead (eqb (yearlyBit (mapIn s)) 1) l (laterSlots (x .«later_minor»))) later-slots-again
+      ∙ ap (λ (l : List Slot). recordBy rules k valuesRead (eqb (yearlyBit (mapIn s)) 1) (laterRead laterYears later (laterAt s)) l) minor-slots-again
 
   pub record-again : Bytes s → recordOf (siteIn years s) ≡ take (lengthIn years s) s
   unfolding recordBy
@@ -289,14 +278,14 @@ module _ (years : ℕ) (s : List ℕ) (a : Accepted years s) where
       let from : (k : ℕ) → Bytes (drop k s) = λ k i. rw getD-drop (bytes (k + i)) in
       parts-again
       ∙ ap (λ (m : ℕ). kindIn s ∷ (twoBytes m ++ spreadBytes rules valuesRead (laterBytes (laterRead laterYears later (laterAt s)))
-      (laterBytes (laterRead laterYears minor (minorAt years s))))) whole-again
-      ∙ ap (λ (l : List ℕ). kindIn s ∷ (twoBytes (wholeMapIn s) ++ spreadBytes rules valuesRead l (laterBytes (laterRead laterYears minor (minorAt years s)))))
+      (laterBytes (laterRead laterYears minor (laterMinorAt years s))))) whole-again
+      ∙ ap (λ (l : List ℕ). kindIn s ∷ (twoBytes (mapIn s) ++ spreadBytes rules valuesRead l (laterBytes (laterRead laterYears minor (laterMinorAt years s)))))
       (traffic-again .bytes (from 5))
-      ∙ ap (λ (l : List ℕ). kindIn s ∷ (twoBytes (wholeMapIn s) ++ spreadBytes rules valuesRead (take (2 * later) (laterAt s)) l))
+      ∙ ap (λ (l : List ℕ). kindIn s ∷ (twoBytes (mapIn s) ++ spreadBytes rules valuesRead (take (2 * later) (laterAt s)) l))
       (minor-again .bytes (from (7 + 2 * later)))
-      ∙ ap (λ (l : List ℕ). kindIn s ∷ (twoBytes (wholeMapIn s) ++ l)) (spread-is bytes)
-      ∙ ap (λ (l : List ℕ). l ++ take (2 * (words rules (mapIn s) + (later + minor))) (drop 3 s)) (header s bytes (a .passes .head .long))
-      ∙ sym (take-add 3 (2 * (words rules (mapIn s) + (later + minor))) s)
+      ∙ ap (λ (l : List ℕ). kindIn s ∷ (twoBytes (mapIn s) ++ l)) (spread-is bytes)
+      ∙ ap (λ (l : List ℕ). l ++ take (2 * (words rules (fieldMapIn s) + (later + minor))) (drop 3 s)) (header s bytes (a .passes .head .long))
+      ∙ sym (take-add 3 (2 * (words rules (fieldMapIn s) + (later + minor))) s)
 
 -- a site that is read is one that the writer takes
 pub read-valid : (years : ℕ) (s : List ℕ) (site : Site) (n : ℕ) → readSite years s ≡ Read site n → Valid years site

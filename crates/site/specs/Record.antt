@@ -132,34 +132,34 @@ fieldMap map = map - 32768 * yearlyBit map
 abbrev pub kindIn : List ℕ → ℕ
 kindIn s = getD s 0 0
 
-abbrev pub wholeMapIn : List ℕ → ℕ
-wholeMapIn s = word (drop 1 s)
-
 abbrev pub mapIn : List ℕ → ℕ
-mapIn s = fieldMap (wholeMapIn s)
+mapIn s = word (drop 1 s)
+
+abbrev pub fieldMapIn : List ℕ → ℕ
+fieldMapIn s = fieldMap (mapIn s)
 
 abbrev pub rulesIn : List ℕ → List Rule
-rulesIn s = rulesRead (kindIn s) (mapIn s)
+rulesIn s = rulesRead (kindIn s) (fieldMapIn s)
 
 -- "each traffic field is followed by Y − 1 more values": how many follow the major traffic, and the minor
 abbrev pub laterIn : (years : ℕ) → List ℕ → ℕ
-laterIn years s = yearlyBit (wholeMapIn s) * (years - 1)
+laterIn years s = yearlyBit (mapIn s) * (years - 1)
 
-abbrev pub minorIn : (years : ℕ) → List ℕ → ℕ
-minorIn years s = laterMinor (kindIn s) (laterIn years s)
+abbrev pub laterMinorIn : (years : ℕ) → List ℕ → ℕ
+laterMinorIn years s = laterMinor (kindIn s) (laterIn years s)
 
 -- they stand after the first number of the fields and after the second, the fields of bits 0 and 1: the fields without them
 abbrev pub gathered : (later minor : ℕ) → List ℕ → List ℕ
 gathered later minor s = take 2 s ++ (take 2 (drop (2 + 2 * later) s) ++ drop (4 + 2 * later + 2 * minor) s)
 
 abbrev pub fieldsIn : (years : ℕ) → List ℕ → List ℕ
-fieldsIn years s = gathered (laterIn years s) (minorIn years s) (drop 3 s)
+fieldsIn years s = gathered (laterIn years s) (laterMinorIn years s) (drop 3 s)
 
 abbrev pub laterAt : List ℕ → List ℕ
 laterAt s = drop 5 s
 
-abbrev pub minorAt : (years : ℕ) → List ℕ → List ℕ
-minorAt years s = drop (7 + 2 * laterIn years s) s
+abbrev pub laterMinorAt : (years : ℕ) → List ℕ → List ℕ
+laterMinorAt years s = drop (7 + 2 * laterIn years s) s
 
 -- so many values, "for years two to Y"; the years after them hold no number
 unfoldable pub laterRead : (years later : ℕ) → List ℕ → List Slot
@@ -173,32 +173,32 @@ laterAllowed zero s = true
 laterAllowed (suc later) s = allows traffic (word s) && laterAllowed later (drop 2 s)
 
 abbrev pub allLaterAllowed : (years : ℕ) → List ℕ → Bool
-allLaterAllowed years s = laterAllowed (laterIn years s) (laterAt s) && laterAllowed (minorIn years s) (minorAt years s)
+allLaterAllowed years s = laterAllowed (laterIn years s) (laterAt s) && laterAllowed (laterMinorIn years s) (laterMinorAt years s)
 
 abbrev pub lengthIn : (years : ℕ) → List ℕ → ℕ
-lengthIn years s = 3 + 2 * (words (rulesIn s) (mapIn s) + (laterIn years s + minorIn years s))
+lengthIn years s = 3 + 2 * (words (rulesIn s) (fieldMapIn s) + (laterIn years s + laterMinorIn years s))
 
 abbrev pub siteIn : (years : ℕ) → List ℕ → Site
 siteIn years s =
-    siteOf (kindIn s) (fieldsValues (rulesIn s) (mapIn s) (fieldsIn years s))
+    siteOf (kindIn s) (fieldsValues (rulesIn s) (fieldMapIn s) (fieldsIn years s))
     (laterOf (laterRead laterYears (laterIn years s) (laterAt s)))
-    (laterOf (laterRead laterYears (minorIn years s) (minorAt years s)))
+    (laterOf (laterRead laterYears (laterMinorIn years s) (laterMinorAt years s)))
 
 -- "Bit 15 with Y = 1 is refused with 7"
 abbrev pub yearlyInOne : (years : ℕ) → List ℕ → Bool
-yearlyInOne years s = eqb (yearlyBit (wholeMapIn s)) 1 && eqb years 1
+yearlyInOne years s = eqb (yearlyBit (mapIn s)) 1 && eqb years 1
 
 abbrev pub missesIn : (years : ℕ) → List ℕ → Bool
-missesIn years s = misses (rulesIn s) (mapIn s) || yearlyInOne years s
+missesIn years s = misses (rulesIn s) (fieldMapIn s) || yearlyInOne years s
 
 -- "6, 7, all fields present (1), then field by field 8, 9": the first refusal after the kind, or 0. A later value outside its range is
 -- 8 in its turn: what stands before it has no default, so that no other number can come first
 unfoldable pub recordNumber : (years : ℕ) → List ℕ → ℕ
 recordNumber years s =
-    cond (lacks (rulesIn s) (mapIn s)) 6
+    cond (lacks (rulesIn s) (fieldMapIn s)) 6
     (cond (missesIn years s) 7
     (cond (ltb (length s) (lengthIn years s)) 1
-    (cond (allLaterAllowed years s) (fieldsNumber (rulesIn s) (mapIn s) (fieldsIn years s)) 8)))
+    (cond (allLaterAllowed years s) (fieldsNumber (rulesIn s) (fieldMapIn s) (fieldsIn years s)) 8)))
 
 -- "Where a request hands .. the years to the site reader .., one outside its limits is .. 4 at place 0, tried first"; then "kind
 -- and map present (1), 5, 6, 7, all fields present (1), then field by field 8, 9"

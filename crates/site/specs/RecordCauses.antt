@@ -1,10 +1,11 @@
--- Document 01's causes to refuse the bytes that a record starts, 1 and 5 to 9, in its own words and order and by bit number.
+-- Document 01's causes to refuse the bytes that a record starts, 4 of the years, then 1 and 5 to 9, in its own words and order and by
+-- bit number.
 -- The site reader has a number for them exactly where that cause is the first.
 use mathlib.Core.Path.{_≡_, refl, ap, sym, _∙_}
 use mathlib.Core.Bool.{Bool, true, false, cond, _&&_, _||_, not, Bool·not-not}
 use mathlib.Core.List.{List}
 use mathlib.Core.Logic.{_↔_}
-use Prim.Native.Nat.{ℕ, zero, suc, _+_, _*_, _<_, _≤_}
+use Prim.Native.Nat.{ℕ, zero, suc, _*_, _<_, _≤_}
 use native.Mathlib.Omega.{arith}
 use lib.ListN.{length, drop}
 use lib.Dec.{eqb}
@@ -12,15 +13,15 @@ use borrow.Author.Tests.{eqb-true, eqb-false, eq-eqb, ne-eqb}
 use Rattle.site.specs.declared.values.SiteAnswer.the-variants.{Refused}
 use Rattle.site.specs.Rules.{lastKind, yearsKnown, traffic, allows}
 use Rattle.site.specs.Answers.{readNumber}
-use Rattle.site.specs.Record.{word, lacks, words, fieldsNumber, kindIn, wholeMapIn, mapIn, rulesIn, laterIn, minorIn, fieldsIn, laterAt, minorAt}
+use Rattle.site.specs.Record.{word, lacks, words, fieldsNumber, kindIn, mapIn, fieldMapIn, rulesIn, laterIn, laterMinorIn, fieldsIn, laterAt, laterMinorAt}
 use Rattle.site.specs.Record.{laterAllowed, allLaterAllowed, lengthIn, yearlyInOne, missesIn, refusalOf, readSite}
 use Rattle.site.specs.Fields.{Field, lacked, mapBits, rowsOf, fieldAt, fieldIn, bitAt, standing, numbersIn, valueAt, numberAt, fieldsEnd, inRange}
 use Rattle.site.specs.Fields.{spellsDefault}
-use Rattle.laws.specs.Truth.{and-left, and-right, not-both, never-so}
+use Rattle.laws.specs.Truth.{and-left, and-right, not-both, never-so, never-false, both-true}
 use Rattle.site.specs.Accepted.{HeadPresent, MapPasses, Tried, years-unknown, head-short, kind-unknown, map-lacks, map-misses, fields-short}
 use Rattle.site.specs.Accepted.{later-refused, fields-tell, fields-long, tried, tried-number, accepted, accept, number-read}
 use Rattle.site.specs.ReadWrite.{value-taken}
-use Rattle.site.specs.BitLaws.{bit-by-power, bitNumber, BitsTell, none-refused, first-refused, refused-first}
+use Rattle.site.specs.BitLaws.{yearly-told, later-told, minor-told, bitNumber, BitsTell, none-refused, first-refused, refused-first}
 use Rattle.site.specs.Curve.{mapMatched, misses-by-bits}
 use Rattle.site.specs.FieldsRead.{rulesAt, bitsHeld, each-has-bit, among, by-bits, fields-by-bits, lacks-exactly}
 use Rattle.site.specs.FieldsRead.{words-standing, wrongNumber, wrong-number}
@@ -29,11 +30,11 @@ use Rattle.site.specs.PlaceLaws.{BothStand, passes-both, number-of, late
 
 -- no bit stands that the kind lacks
 abbrev pub NoneLacked : List ℕ → Type 0
-NoneLacked s = (b : ℕ) → bitAt b (mapIn s) ≡ true → fieldIn s b ≡ lacked → ⊥
+NoneLacked s = (b : ℕ) → bitAt b (fieldMapIn s) ≡ true → fieldIn s b ≡ lacked → ⊥
 
 -- nor is one missing: "Bits 0 and 1 always stand", the curve bits are matched, and "Bit 15 with Y = 1 is refused"
 abbrev pub allMatched : (years : ℕ) → List ℕ → Bool
-allMatched years s = mapMatched (kindIn s) (mapIn s) && not (bitAt 15 (wholeMapIn s) && eqb years 1)
+allMatched years s = mapMatched (kindIn s) (fieldMapIn s) && not (bitAt 15 (mapIn s) && eqb years 1)
 
 pub record MapRight (years : ℕ) (s : List ℕ) : Type 0 where
   pub head : HeadPresent years s
@@ -48,8 +49,8 @@ AllInRange years s b = (i : ℕ) → i < numbersIn years s b → inRange (fieldI
 pub record RightBelow (years : ℕ) (s : List ℕ) (b : ℕ) : Type 0 where
   pub map-right : MapRight years s
   pub present : fieldsEnd years s ≤ length s
-  pub in-range : (c : ℕ) → c < b → bitAt c (mapIn s) ≡ true → AllInRange years s c
-  pub not-spelled : (c : ℕ) → c < b → bitAt c (mapIn s) ≡ true → spellsDefault (fieldIn s c) (numberAt years c s) ≡ false
+  pub in-range : (c : ℕ) → c < b → bitAt c (fieldMapIn s) ≡ true → AllInRange years s c
+  pub not-spelled : (c : ℕ) → c < b → bitAt c (fieldMapIn s) ≡ true → spellsDefault (fieldIn s c) (numberAt years c s) ≡ false
 
 -- years "outside its limits is .. 4 .., tried first"; "kind and map present (1), 5, 6, 7, all fields present (1), then field by field
 -- 8, 9"
@@ -57,12 +58,12 @@ pub data RecordCause (years : ℕ) (s : List ℕ) : ℕ → Type 0 where
   years-outside : yearsKnown years ≡ false → RecordCause years s 4
   map-past : yearsKnown years ≡ true → length s < 3 → RecordCause years s 1
   kind-above : yearsKnown years ≡ true → 3 ≤ length s → lastKind < kindIn s → RecordCause years s 5
-  bit-lacked : HeadPresent years s → (b : ℕ) → bitAt b (mapIn s) ≡ true → fieldIn s b ≡ lacked → RecordCause years s 6
+  bit-lacked : HeadPresent years s → (b : ℕ) → bitAt b (fieldMapIn s) ≡ true → fieldIn s b ≡ lacked → RecordCause years s 6
   bit-missing : HeadPresent years s → NoneLacked s → allMatched years s ≡ false → RecordCause years s 7
   field-past : MapRight years s → length s < fieldsEnd years s → RecordCause years s 1
-  field-outside : (b i : ℕ) → RightBelow years s b → bitAt b (mapIn s) ≡ true → i < numbersIn years s b
+  field-outside : (b i : ℕ) → RightBelow years s b → bitAt b (fieldMapIn s) ≡ true → i < numbersIn years s b
       → inRange (fieldIn s b) (valueAt years b i s) ≡ false → RecordCause years s 8
-  field-spelled : (b : ℕ) → RightBelow years s b → bitAt b (mapIn s) ≡ true → AllInRange years s b
+  field-spelled : (b : ℕ) → RightBelow years s b → bitAt b (fieldMapIn s) ≡ true → AllInRange years s b
       → spellsDefault (fieldIn s b) (numberAt years b s) ≡ true → RecordCause years s 9
 
 pub cause-not-zero : {years : ℕ} {s : List ℕ} {n : ℕ} → RecordCause years s n → n ≡ 0 → ⊥
@@ -103,15 +104,15 @@ some-number years s (suc (suc b)) = omega arith
 module _ (years : ℕ) (s : List ℕ) where
   -- where the head is there: what the definition's tests say, bit by bit
   module _ (head : HeadPresent years s) where
-    lacks-none : lacks (rulesIn s) (mapIn s) ≡ false → NoneLacked s
-    lacks-none e b t l = not-both _ (lacks-exactly (kindIn s) (mapIn s) (head .known) .1 (record { at = b; stands = t; holds = l })) e
+    lacks-none : lacks (rulesIn s) (fieldMapIn s) ≡ false → NoneLacked s
+    lacks-none e b t l = not-both _ (lacks-exactly (kindIn s) (fieldMapIn s) (head .known) .1 (record { at = b; stands = t; holds = l })) e
 
-    none-lacks : NoneLacked s → lacks (rulesIn s) (mapIn s) ≡ false
-    none-lacks none = never-so _ (λ e. let r = lacks-exactly (kindIn s) (mapIn s) (head .known) .0 e in none (r .at) (r .stands) (r .holds))
+    none-lacks : NoneLacked s → lacks (rulesIn s) (fieldMapIn s) ≡ false
+    none-lacks none = never-so _ (λ e. let r = lacks-exactly (kindIn s) (fieldMapIn s) (head .known) .0 e in none (r .at) (r .stands) (r .holds))
 
     missing : missesIn years s ≡ not (allMatched years s)
     missing =
-        rw (misses-by-bits (kindIn s) (mapIn s) (head .known), bit-by-power 15 (wholeMapIn s)) (by (mapMatched (kindIn s) (mapIn s)) (yearlyInOne years s))
+        rw (misses-by-bits (kindIn s) (fieldMapIn s) (head .known), yearly-told s) (by (mapMatched (kindIn s) (fieldMapIn s)) (yearlyInOne years s))
       where
         by : (a b : Bool) → (not a || b) ≡ not (a && not b)
         by true true = refl
@@ -121,8 +122,8 @@ module _ (years : ℕ) (s : List ℕ) where
     matching : allMatched years s ≡ not (missesIn years s)
     matching = rw missing (sym (Bool·not-not _))
 
-    counted : NoneLacked s → words (rulesIn s) (mapIn s) ≡ standing mapBits (mapIn s)
-    counted none = words-standing (kindIn s) (mapIn s) (head .known) none
+    counted : NoneLacked s → words (rulesIn s) (fieldMapIn s) ≡ standing mapBits (fieldMapIn s)
+    counted none = words-standing (kindIn s) (fieldMapIn s) (head .known) none
 
   map-right : MapPasses years s → MapRight years s
   map-right p = record { head = p .head; none-lacked = lacks-none (p .head) (p .lack); all-matched = matching (p .head) ∙ ap not (p .miss) }
@@ -135,37 +136,37 @@ module _ (years : ℕ) (s : List ℕ) where
 
   -- where the map is right and the fields are there
   module _ (p : MapPasses years s) (full : lengthIn years s ≤ length s) where
-    both : BothStand (mapIn s)
+    both : BothStand (fieldMapIn s)
     both = passes-both years s p
 
-    stands-first : (b : ℕ) → b < 2 → bitAt b (mapIn s) ≡ true
+    stands-first : (b : ℕ) → b < 2 → bitAt b (fieldMapIn s) ≡ true
     stands-first zero h = eq-eqb _ 1 (both .zeroth)
     stands-first (suc zero) h = eq-eqb _ 1 (both .first)
     stands-first (suc (suc b)) h = absurd (omega arith)
 
     abbrev refusedAt : ℕ → ℕ
-    refusedAt b = bitNumber (rulesAt (kindIn s) true) b (mapIn s) (fieldsIn years s)
+    refusedAt b = bitNumber (rulesAt (kindIn s) true) b (fieldMapIn s) (fieldsIn years s)
 
-    refused-at : (b : ℕ) → refusedAt b ≡ cond (bitAt b (mapIn s)) (wrongNumber (fieldIn s b) (numberAt years b s)) 0
+    refused-at : (b : ℕ) → refusedAt b ≡ cond (bitAt b (fieldMapIn s)) (wrongNumber (fieldIn s b) (numberAt years b s)) 0
     refused-at b = rw (wrong-number (fieldIn s b) _, number-of years s both (fields-long years s p full) b)
 
     -- a later value that is in its range, and one that is not
     first-later : (i : ℕ) → inRange (fieldIn s 0) (valueAt years 0 (suc i) s) ≡ allows traffic (word (drop (2 * i) (laterAt s)))
     first-later i = leading (kindIn s) 0 (omega arith) .ranges _ ∙ ap (allows traffic) (sym (later-of years s i))
 
-    second-later : (i : ℕ) → inRange (fieldIn s 1) (valueAt years 1 (suc i) s) ≡ allows traffic (word (drop (2 * i) (minorAt years s)))
+    second-later : (i : ℕ) → inRange (fieldIn s 1) (valueAt years 1 (suc i) s) ≡ allows traffic (word (drop (2 * i) (laterMinorAt years s)))
     second-later i = leading (kindIn s) 1 (omega arith) .ranges _ ∙ ap (allows traffic) (sym (minor-of years s both i))
 
     -- where the later values of a traffic are in their range, its bit has all its numbers there if it has the first
     first-in : laterAllowed (laterIn years s) (laterAt s) ≡ true → inRange (fieldIn s 0) (numberAt years 0 s) ≡ true → AllInRange years s 0
     first-in r e zero h = e
-    first-in r e (suc i) h = first-later i ∙ allowed-at (laterIn years s) (laterAt s) r i (omega arith)
+    first-in r e (suc i) h = first-later i ∙ allowed-at (laterIn years s) (laterAt s) r i (omega (arith, later-told years s))
 
     later-in-range : allLaterAllowed years s ≡ true → (b i : ℕ) → suc i < numbersIn years s b → inRange (fieldIn s b) (valueAt years b (suc i) s) ≡ true
     later-in-range r zero i h =
-        first-later i ∙ allowed-at (laterIn years s) (laterAt s) (and-left (laterAllowed (laterIn years s) (laterAt s)) _ r) i (omega arith)
+        first-later i ∙ allowed-at (laterIn years s) (laterAt s) (and-left (laterAllowed (laterIn years s) (laterAt s)) _ r) i (omega (arith, later-told years s))
     later-in-range r (suc zero) i h =
-        second-later i ∙ allowed-at (minorIn years s) (minorAt years s) (and-right (laterAllowed (laterIn years s) (laterAt s)) _ r) i (omega arith)
+        second-later i ∙ allowed-at (laterMinorIn years s) (laterMinorAt years s) (and-right (laterAllowed (laterIn years s) (laterAt s)) _ r) i (omega (arith, minor-told years s))
     later-in-range r (suc (suc b)) i h = absurd (omega arith)
 
     all-in : allLaterAllowed years s ≡ true → (b : ℕ) → inRange (fieldIn s b) (numberAt years b s) ≡ true → AllInRange years s b
@@ -176,22 +177,15 @@ module _ (years : ℕ) (s : List ℕ) where
     in-allowed : AllInRange years s 0 → AllInRange years s 1 → allLaterAllowed years s ≡ true
     in-allowed first second = both-true _ _ (never-false _ one) (never-false _ two)
       where
-        never-false : (b : Bool) → (b ≡ false → ⊥) → b ≡ true
-        never-false true ne = refl
-        never-false false ne = absurd (ne refl)
-
-        both-true : (a b : Bool) → a ≡ true → b ≡ true → (a && b) ≡ true
-        both-true a b x y = rw (x, y)
-
         one : laterAllowed (laterIn years s) (laterAt s) ≡ false → ⊥
         one e =
             let o = some-outside (laterIn years s) (laterAt s) e in
-            not-both _ (first (suc (o .at)) (omega (arith, o .below))) (first-later (o .at) ∙ o .outside)
+            not-both _ (first (suc (o .at)) (omega (arith, o .below, later-told years s))) (first-later (o .at) ∙ o .outside)
 
-        two : laterAllowed (minorIn years s) (minorAt years s) ≡ false → ⊥
+        two : laterAllowed (laterMinorIn years s) (laterMinorAt years s) ≡ false → ⊥
         two e =
-            let o = some-outside (minorIn years s) (minorAt years s) e in
-            not-both _ (second (suc (o .at)) (omega (arith, o .below))) (second-later (o .at) ∙ o .outside)
+            let o = some-outside (laterMinorIn years s) (laterMinorAt years s) e in
+            not-both _ (second (suc (o .at)) (omega (arith, o .below, minor-told years s))) (second-later (o .at) ∙ o .outside)
 
     nothing-below : RightBelow years s 0
     nothing-below =
@@ -201,7 +195,7 @@ module _ (years : ℕ) (s : List ℕ) where
     later-cause : allLaterAllowed years s ≡ false → RecordCause years s 8
     later-cause e = by (laterAllowed (laterIn years s) (laterAt s)) refl e
       where
-        second : laterAllowed (laterIn years s) (laterAt s) ≡ true → Outside (minorIn years s) (minorAt years s)
+        second : laterAllowed (laterIn years s) (laterAt s) ≡ true → Outside (laterMinorIn years s) (laterMinorAt years s)
             → (b : Bool) → inRange (fieldIn s 0) (numberAt years 0 s) ≡ b → RecordCause years s 8
         second r o false q = field-outside 0 0 nothing-below (stands-first 0 (omega arith)) (omega arith) q
         second r o true q =
@@ -210,18 +204,18 @@ module _ (years : ℕ) (s : List ℕ) where
               present = omega (arith, ends p);
               in-range = λ c h t. one c h;
               not-spelled = λ c h t. leading (kindIn s) c (omega arith) .no-default _;
-            }) (stands-first 1 (omega arith)) (omega (arith, o .below)) (second-later (o .at) ∙ o .outside)
+            }) (stands-first 1 (omega arith)) (omega (arith, o .below, minor-told years s)) (second-later (o .at) ∙ o .outside)
           where
             one : (c : ℕ) → c < 1 → AllInRange years s c
             one zero h = first-in r q
             one (suc c) h = absurd (omega arith)
 
-        by : (b : Bool) → laterAllowed (laterIn years s) (laterAt s) ≡ b → (b && laterAllowed (minorIn years s) (minorAt years s)) ≡ false
+        by : (b : Bool) → laterAllowed (laterIn years s) (laterAt s) ≡ b → (b && laterAllowed (laterMinorIn years s) (laterMinorAt years s)) ≡ false
             → RecordCause years s 8
         by false r q =
             let o = some-outside (laterIn years s) (laterAt s) r in
-            field-outside 0 (suc (o .at)) nothing-below (stands-first 0 (omega arith)) (omega (arith, o .below)) (first-later (o .at) ∙ o .outside)
-        by true r q = second r (some-outside (minorIn years s) (minorAt years s) q) _ refl
+            field-outside 0 (suc (o .at)) nothing-below (stands-first 0 (omega arith)) (omega (arith, o .below, later-told years s)) (first-later (o .at) ∙ o .outside)
+        by true r q = second r (some-outside (laterMinorIn years s) (laterMinorAt years s) q) _ refl
 
     -- the fields' first refusal is the first bit that is refused
     module _ (allowed : allLaterAllowed years s ≡ true) where
@@ -234,16 +228,16 @@ module _ (years : ℕ) (s : List ℕ) where
             not-spelled = λ c h t. right c h t .1;
           }
         where
-          right : (c : ℕ) → c < b → bitAt c (mapIn s) ≡ true
+          right : (c : ℕ) → c < b → bitAt c (fieldMapIn s) ≡ true
               → (inRange (fieldIn s c) (numberAt years c s) ≡ true) × (spellsDefault (fieldIn s c) (numberAt years c s) ≡ false)
           right c h t = value-taken _ _ (rw t at (sym (refused-at c) ∙ below c h))
 
-      field-cause : {number : ℕ} → (number ≡ 0 → ⊥) → BitsTell (bitsHeld (kindIn s)) (rulesAt (kindIn s) true) (mapIn s) (fieldsIn years s) number
+      field-cause : {number : ℕ} → (number ≡ 0 → ⊥) → BitsTell (bitsHeld (kindIn s)) (rulesAt (kindIn s) true) (fieldMapIn s) (fieldsIn years s) number
           → RecordCause years s number
       field-cause ne (none-refused all) = absurd (ne refl)
       field-cause {number} ne (first-refused some b is below) = by b (right-below b below) _ _ _ refl refl refl (sym (refused-at b) ∙ is)
         where
-          by : (b : ℕ) → RightBelow years s b → (t i d : Bool) → bitAt b (mapIn s) ≡ t → inRange (fieldIn s b) (numberAt years b s) ≡ i
+          by : (b : ℕ) → RightBelow years s b → (t i d : Bool) → bitAt b (fieldMapIn s) ≡ t → inRange (fieldIn s b) (numberAt years b s) ≡ i
               → spellsDefault (fieldIn s b) (numberAt years b s) ≡ d → cond t (cond i (cond d 9 0) 8) 0 ≡ number → RecordCause years s number
           by b r true true true q i d z = rw (← z) (field-spelled b r q (all-in allowed b i) d)
           by b r true true false q i d z = absurd (ne (sym z))
@@ -254,14 +248,14 @@ module _ (years : ℕ) (s : List ℕ) where
   cause-of (years-unknown y) ne = years-outside y
   cause-of (head-short y h) ne = map-past y h
   cause-of (kind-unknown y l k) ne = kind-above y l k
-  cause-of (map-lacks h l) ne = let w = lacks-exactly (kindIn s) (mapIn s) (h .known) .0 l in bit-lacked h (w .at) (w .stands) (w .holds)
+  cause-of (map-lacks h l) ne = let w = lacks-exactly (kindIn s) (fieldMapIn s) (h .known) .0 l in bit-lacked h (w .at) (w .stands) (w .holds)
   cause-of (map-misses h l m) ne = bit-missing h (lacks-none h l) (matching h ∙ ap not m)
   cause-of (fields-short p f) ne = field-past (map-right p) (omega (arith, ends p))
   cause-of (later-refused p f r) ne = later-cause p f r
-  cause-of (fields-tell p f r) ne = field-cause p f r ne (fields-by-bits (kindIn s) (mapIn s) (fieldsIn years s) (p .head .known))
+  cause-of (fields-tell p f r) ne = field-cause p f r ne (fields-by-bits (kindIn s) (fieldMapIn s) (fieldsIn years s) (p .head .known))
 
   -- and a cause tells the number
-  module _ (b : ℕ) (r : RightBelow years s b) (stood : bitAt b (mapIn s) ≡ true) where
+  module _ (b : ℕ) (r : RightBelow years s b) (stood : bitAt b (fieldMapIn s) ≡ true) where
     passing : MapPasses years s
     passing = passes-of (r .map-right)
 
@@ -269,17 +263,17 @@ module _ (years : ℕ) (s : List ℕ) where
     there = omega (arith, r .present, ends passing)
 
     below : (c : ℕ) → c < b → refusedAt passing there c ≡ 0
-    below c h = refused-at passing there c ∙ by (bitAt c (mapIn s)) refl
+    below c h = refused-at passing there c ∙ by (bitAt c (fieldMapIn s)) refl
       where
-        by : (t : Bool) → bitAt c (mapIn s) ≡ t → cond t (wrongNumber (fieldIn s c) (numberAt years c s)) 0 ≡ 0
+        by : (t : Bool) → bitAt c (fieldMapIn s) ≡ t → cond t (wrongNumber (fieldIn s c) (numberAt years c s)) 0 ≡ 0
         by true t = rw (r .in-range c h t 0 (some-number years s c), r .not-spelled c h t)
         by false t = refl
 
     field-number : (number : ℕ) → wrongNumber (fieldIn s b) (numberAt years b s) ≡ number → (number ≡ 0 → ⊥)
-        → fieldsNumber (rulesIn s) (mapIn s) (fieldsIn years s) ≡ number
+        → fieldsNumber (rulesIn s) (fieldMapIn s) (fieldsIn years s) ≡ number
     field-number number e ne =
-        by-bits (kindIn s) (mapIn s) (fieldsIn years s) (passing .head .known) .number
-        ∙ refused-first (bitsHeld (kindIn s)) (rulesAt (kindIn s) true) (mapIn s) (fieldsIn years s) number b (each-has-bit (kindIn s) true) ne
+        by-bits (kindIn s) (fieldMapIn s) (fieldsIn years s) (passing .head .known) .number
+        ∙ refused-first (bitsHeld (kindIn s)) (rulesAt (kindIn s) true) (fieldMapIn s) (fieldsIn years s) number b (each-has-bit (kindIn s) true) ne
         (among (kindIn s) b (r .map-right .none-lacked b stood)) (refused-at passing there b ∙ rw stood e) below
 
     outside-told : (i : ℕ) → i < numbersIn years s b → inRange (fieldIn s b) (valueAt years b i s) ≡ false → Tried years s 8
@@ -305,7 +299,7 @@ module _ (years : ℕ) (s : List ℕ) where
   tried-of (years-outside y) = years-unknown y
   tried-of (map-past y h) = head-short y h
   tried-of (kind-above y h k) = kind-unknown y h k
-  tried-of (bit-lacked h b t l) = map-lacks h (lacks-exactly (kindIn s) (mapIn s) (h .known) .1 (record { at = b; stands = t; holds = l }))
+  tried-of (bit-lacked h b t l) = map-lacks h (lacks-exactly (kindIn s) (fieldMapIn s) (h .known) .1 (record { at = b; stands = t; holds = l }))
   tried-of (bit-missing h l m) = map-misses h (none-lacks h l) (missing h ∙ ap not m)
   tried-of (field-past m h) = fields-short (passes-of m) (omega (arith, ends (passes-of m)))
   tried-of (field-outside b i r t h o) = outside-told b r t i h o

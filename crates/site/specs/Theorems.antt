@@ -18,7 +18,7 @@ use Rattle.site.specs.declared.values.Measure.the-variants.{Length, Outs
 use Rattle.site.specs.declared.values.WriteAnswer.the-variants.{Written, Unwritten}
 use Rattle.site.specs.Rules.{entriesOf, lastKind, yearsKnown, laterYears, bits, settle}
 use Rattle.site.specs.Yearly.{laterMinor}
-use Rattle.site.specs.Record.{curved, restOf, words, kindIn, mapIn, rulesIn, laterIn, lengthIn, readSite}
+use Rattle.site.specs.Record.{curved, restOf, words, kindIn, fieldMapIn, rulesIn, laterIn, lengthIn, readSite}
 use Rattle.site.specs.Writing.{recordOf, soundSite, sound, Valid, measureOf, writeRefusal, writeAnswer, writeInto}
 use Rattle.site.specs.Digits.{Bytes, digit-most}
 use Rattle.laws.specs.Truth.{and-left, and-right, or-left, chosen, never-so, not-both}
@@ -68,8 +68,8 @@ length-most years s y known =
     let few = later-most years s y .0 in
     omega (
       arith,
-      words-most (rulesIn s) (mapIn s),
-      numbers-most (kindIn s) (curved (entriesOf (kindIn s)) (mapIn s)) known,
+      words-most (rulesIn s) (fieldMapIn s),
+      numbers-most (kindIn s) (curved (entriesOf (kindIn s)) (fieldMapIn s)) known,
       few,
       minor-more (kindIn s) (laterIn years s) few,
     )
@@ -79,7 +79,7 @@ read-length years s site n e =
     let r = reading years s site n e in
     let a = r .accepts in
     record {
-      at-least = omega (arith, r .length-is, words-least (kindIn s) (mapIn s) (a .passes .head .known) (no-miss years s a));
+      at-least = omega (arith, r .length-is, words-least (kindIn s) (fieldMapIn s) (a .passes .head .known) (no-miss years s a));
       at-most = omega (arith, r .length-is, length-most years s (a .passes .head .years-in) (a .passes .head .known));
       within = omega (arith, r .length-is, a .full);
     }

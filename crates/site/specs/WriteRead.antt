@@ -1,5 +1,5 @@
 -- What is written is read back: field by field, then the curve, then the whole record.
-use mathlib.Core.Path.{_≡_, refl, ap, sym, subst, _∙_}
+use mathlib.Core.Path.{_≡_, refl, ap, sym, _∙_}
 use mathlib.Core.Bool.{Bool, true, false, cond, _&&_, _||_, not, and-false, or-true, true≢false}
 use mathlib.Core.List.{List, [], _∷_, _++_, append-assoc}
 use Prim.Native.Nat.{ℕ, zero, suc, _+_, _-_, _*_, _/_, _%_, _^_, _<_, _≤_}
@@ -22,8 +22,8 @@ use Rattle.site.specs.Yearly.{laterSlots, laterOf, laterGiven, laterMino
 use Rattle.site.specs.Yearly as years-given
 use Rattle.site.specs.Rules.{entriesOf, lastKind, yearsKnown, laterYears, slotCount, allows, absentOf, needed, lacking, bits, settle, absent, holds}
 use Rattle.site.specs.Record.{bitOf, stands, lackedBitStands, neededBitAbsent, anyField, lacks, misses, curved, rulesRead}
-use Rattle.site.specs.Record.{words, fieldNumber, fieldValue, after, fieldsNumber, fieldsValues, siteOf, yearlyBit, fieldMap, wholeMapIn, mapIn}
-use Rattle.site.specs.Record.{rulesIn, laterIn, minorIn, gathered, fieldsIn, laterRead, laterAllowed, laterAt, minorAt, lengthIn, siteIn, missesIn, readSite}
+use Rattle.site.specs.Record.{words, fieldNumber, fieldValue, after, fieldsNumber, fieldsValues, siteOf, yearlyBit, mapIn, fieldMapIn}
+use Rattle.site.specs.Record.{rulesIn, laterIn, laterMinorIn, fieldsIn, laterRead, laterAt, laterMinorAt, lengthIn, siteIn, readSite}
 use Rattle.site.specs.Writing.{slotsOf, curveHeld, rulesHeld, fits, allFit, slotBit, mapOf, slotBytes, fieldBytes, bytesOf}
 use Rattle.site.specs.Writing.{laterBytes, spreadBytes, recordBy, recordOf, laterFits, Valid}
 use Rattle.laws.specs.Truth.{and-left, and-right, not-both, never-so}
@@ -361,10 +361,10 @@ module _ (years kind : ℕ) (slots : List Slot) (yearly : Bool) (traffic minor :
   small : map < 32768
   small = map-small rules slots 0 (tested-rules _ _ hk .few)
 
-  map-is : mapIn whole ≡ map
+  map-is : fieldMapIn whole ≡ map
   map-is = rw (two-bytes (map + cond yearly 32768 0)) (fields-of-whole map small yearly)
 
-  bit-is : yearlyBit (wholeMapIn whole) ≡ cond yearly 1 0
+  bit-is : yearlyBit (mapIn whole) ≡ cond yearly 1 0
   bit-is = rw (two-bytes (map + cond yearly 32768 0)) (bit-of-whole map small yearly)
 
   later-is : laterIn years whole ≡ later
@@ -401,7 +401,7 @@ module _ (years kind : ℕ) (slots : List Slot) (yearly : Bool) (traffic minor :
   traffic-at : laterAt whole ≡ laterBytes traffic ++ (secondField rules slots ++ (laterBytes minor ++ others))
   traffic-at = drop-at (firstField rules slots) _ 2 first-two
 
-  minor-at : minorAt years whole ≡ laterBytes minor ++ others
+  minor-at : laterMinorAt years whole ≡ laterBytes minor ++ others
   minor-at =
       let e : 7 + 2 * later ≡ 3 + (2 + 2 * later + 2) = omega arith in
       rw (later-is, e)
@@ -412,13 +412,13 @@ module _ (years kind : ℕ) (slots : List Slot) (yearly : Bool) (traffic minor :
   traffic-read : laterRead laterYears (laterIn years whole) (laterAt whole) ≡ traffic
   traffic-read = rw (later-is, traffic-at) (traffic-back .values)
 
-  minor-read : laterRead laterYears (minorIn years whole) (minorAt years whole) ≡ minor
+  minor-read : laterRead laterYears (laterMinorIn years whole) (laterMinorAt years whole) ≡ minor
   minor-read = rw (minor-at, later-is) (minor-back .values)
 
   fields-back : FieldsReadBack rules slots t
   fields-back = fields-read-back rules slots t f (l ∙ sym rules-count)
 
-  words-are : words (rulesIn whole) (mapIn whole) ≡ words rules map
+  words-are : words (rulesIn whole) (fieldMapIn whole) ≡ words rules map
   words-are = rw (map-is, same-rules) refl
 
   spread-long : length (spreadBytes rules slots (laterBytes traffic) (laterBytes minor)) ≡ 2 * (words rules map + (later + laterMinor kind later))
@@ -475,9 +475,9 @@ module _ (years kind : ℕ) (slots : List Slot) (yearly : Bool) (traffic minor :
 
   site-is : siteIn years whole ≡ siteOf kind slots (laterOf traffic) (laterOf minor)
   site-is =
-      let values : fieldsValues (rulesIn whole) (mapIn whole) (fieldsIn years whole) ≡ slots = rw (fields-are, map-is, same-rules) (fields-back .values) in
-      ap (λ (x : List Slot). siteOf kind x (laterOf (laterRead laterYears (laterIn years whole) (laterAt whole))) (laterOf (laterRead laterYears (minorIn years whole) (minorAt years whole)))) values
-      ∙ ap (λ (x : List Slot). siteOf kind slots (laterOf x) (laterOf (laterRead laterYears (minorIn years whole) (minorAt years whole)))) traffic-read
+      let values : fieldsValues (rulesIn whole) (fieldMapIn whole) (fieldsIn years whole) ≡ slots = rw (fields-are, map-is, same-rules) (fields-back .values) in
+      ap (λ (x : List Slot). siteOf kind x (laterOf (laterRead laterYears (laterIn years whole) (laterAt whole))) (laterOf (laterRead laterYears (laterMinorIn years whole) (laterMinorAt years whole)))) values
+      ∙ ap (λ (x : List Slot). siteOf kind slots (laterOf x) (laterOf (laterRead laterYears (laterMinorIn years whole) (laterMinorAt years whole)))) traffic-read
       ∙ ap (λ (x : List Slot). siteOf kind slots (laterOf traffic) (laterOf x)) minor-read
 
   read-back : readSite years (recordBy rules kind slots yearly traffic minor ++ t)

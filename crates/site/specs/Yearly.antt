@@ -1,5 +1,5 @@
 -- Traffic year by year: document 02, request 4, "each traffic field is followed by Y − 1 more values, for years two to Y".
-use Prim.Native.Nat.{ℕ, zero, suc, _-_}
+use Prim.Native.Nat.{ℕ, _-_}
 use mathlib.Core.Bool.{Bool, cond, not}
 use mathlib.Core.List.{List, [], _∷_}
 use lib.ListN.{getD}

@@ -110,7 +110,7 @@ pub fn is_yearly(site: Site) -> bool
     !is_absent(second)
 }
 
-// How many later values follow the minor traffic: as many as the traffic, which a segment does not have.
+// How many later values follow the minor traffic: as many as the traffic's; a segment has no minor traffic.
 pub fn minor_later(kind: u8, later: usize) -> usize
     ensures { λ r. ⌜ (r ≡ laterMinor kind later) × (r ≤ later) ⌝ }
 {

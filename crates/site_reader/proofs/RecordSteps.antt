@@ -2,17 +2,16 @@
 use mathlib.Core.Path.{_≡_, refl, ap, sym, _∙_}
 use mathlib.Core.Bool.{Bool, true, false, cond, _&&_, _||_}
 use mathlib.Core.List.{List}
-use Prim.Native.Nat.{ℕ, _+_, _-_, _*_, _<_, _≤_}
+use Prim.Native.Nat.{ℕ, _+_, _-_, _*_, _≤_}
 use native.Mathlib.Omega.{arith}
 use lib.ListN.{length, drop}
 use lib.Dec.{ltb, eqb}
-use borrow.Author.Tests.{lt-ltb, le-ltb}
 use Rattle.laws.specs.Truth.{passed}
 use Rattle.site.specs.declared.rules.Rule.{Rule}
 use Rattle.site.specs.Rules.{lastKind, laterYears}
 use Rattle.site.specs.Yearly.{laterOf, laterMinor}
-use Rattle.site.specs.Record.{lacks, misses, words, fieldsNumber, fieldsValues, siteOf, gathered, laterRead, laterAllowed, kindIn, mapIn, laterIn, fieldsIn, lengthIn, siteIn}
-use Rattle.site.specs.Record.{allLaterAllowed, missesIn, recordNumber}
+use Rattle.site.specs.Record.{lacks, misses, words, fieldsNumber, fieldsValues, siteOf, gathered, laterRead, laterAllowed, kindIn, fieldMapIn, laterIn, fieldsIn, lengthIn, siteIn}
+use Rattle.site.specs.Record.{allLaterAllowed, recordNumber}
 use Rattle.site.specs.Answers.{readAnswer}
 use Rattle.site.specs.Accepted.{Parts, words-least}
 
@@ -38,7 +37,7 @@ module _ (years : ℕ) (s : List ℕ) (kind map yearly : ℕ) (rules : List Rule
     pub two-words : kind ≤ lastKind → fault ≡ 0 → 2 ≤ words rules map
     two-words known none =
         rw (← p .rules-are, ← p .map-is)
-        (words-least (kindIn s) (mapIn s) (omega (arith, p .kind-is)) (rw (p .rules-are, p .map-is) (lack-none none .1)))
+        (words-least (kindIn s) (fieldMapIn s) (omega (arith, p .kind-is)) (rw (p .rules-are, p .map-is) (lack-none none .1)))
 
     pub one-year-tells : fault ≡ 0 → (eqb yearly 1 && eqb years 1) ≡ true → recordNumber years s ≡ 7
     unfolding recordNumber

@@ -307,7 +307,7 @@ fn bit_of_years(yearly: bool) -> u16
     if yearly { 32768 } else { 0 }
 }
 
-// Writes the kind and the map of a record, and answers nothing.
+// Writes the kind and the map of a record.
 fn put_head(kind: u8, map: u16, buffer: &mut [u8])
     requires { ⌜ 3 ≤ length (now buffer) ⌝ }
     ensures { λ r. ⌜ now (buffer .exit) ≡ sets (now (buffer .entry)) 0 (kind ∷ twoBytes map) ⌝ }
@@ -343,7 +343,7 @@ pub fn put_record(years: u64, site: Site, buffer: &mut [u8]) -> usize
     )
 }
 
-// Writes the record of a site from the start of the buffer: its length, or document 01's 8 or 10.
+// Writes the record of a site from the start of the buffer: its length, or document 01's 4, 8 or 10.
 pub fn write_site(years: u64, site: Site, buffer: &mut [u8]) -> WriteAnswer
     ensures { λ r. ⌜ WritesSite years site (now (buffer .entry)) (now (buffer .exit)) r ⌝ }
 {

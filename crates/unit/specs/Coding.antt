@@ -22,6 +22,7 @@ use Rattle.site.specs.Writing.{slotsOf, curveHeld, fits, allFit, laterFits, sou
 use Rattle.laws.specs.Truth.{and-left, and-right}
 use Rattle.site.specs.Tested.{top, topLow, every, allows-top, tested-rules}
 use Rattle.site.specs.Ranges.{tests, valid-kind}
+use Rattle.site.specs.LaterLaws.{firsts}
 use Rattle.unit.specs.SiteNumbers.{allSlots, siteOfAll, allCount, code, readValues, slotFrom, kindFrom, slotNumbers, siteFrom, siteNumbers}
 
 -- THE LAW: the code of a slot that two bytes can hold is read as that slot
@@ -101,10 +102,6 @@ valid-low years site valid =
     (every-more (laterSlots (site .«later_traffic»)) _ (later-low _ _ (t .later-traffic)) (later-low _ _ (t .later-minor)))
 
 -- all the slots of a site are those that it was made of
-firsts : ℕ → ℕ → List Slot → List Slot
-firsts zero i slots = []
-firsts (suc n) i slots = getD slots i Absent ∷ firsts n (suc i) slots
-
 firsts-part : (n i : ℕ) (slots : List Slot) → i + n ≤ length slots → firsts n i slots ≡ take n (drop i slots)
 unfolding firsts
 firsts-part zero i slots h = refl

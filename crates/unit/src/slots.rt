@@ -41,17 +41,17 @@ fn later_at(slots: [Slot; ALL_SLOTS], at: usize) -> Later
     requires { ⌜ (length slots ≡ allCount) × (at + laterYears ≤ allCount) ⌝ }
     ensures { λ r. ⌜ r ≡ laterOf (drop at slots) ⌝ }
 {
-    Later {
-        second: slots[at],
-        third: slots[at + 1],
-        fourth: slots[at + 2],
-        fifth: slots[at + 3],
-        sixth: slots[at + 4],
-        seventh: slots[at + 5],
-        eighth: slots[at + 6],
-        ninth: slots[at + 7],
-        tenth: slots[at + 8],
-    }
+    values::later_of([
+        slots[at],
+        slots[at + 1],
+        slots[at + 2],
+        slots[at + 3],
+        slots[at + 4],
+        slots[at + 5],
+        slots[at + 6],
+        slots[at + 7],
+        slots[at + 8],
+    ])
 }
 
 // The site of its kind and of all its slots.

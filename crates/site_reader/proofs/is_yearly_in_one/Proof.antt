@@ -1,5 +1,4 @@
 use borrow.Author.Tests.{eq-eqb, ne-eqb}
-use borrow.Author.Needs.{needs}
 use Rattle.site_reader.proofs.is_yearly_in_one.Statement.{statement}
 use Rattle.site_reader.proofs.is_yearly_in_one.Tie as tie
 

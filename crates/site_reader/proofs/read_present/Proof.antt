@@ -2,9 +2,8 @@
 use borrow.Author.Needs.{needs}
 use borrow.Author.Tests.{not-true, not-false}
 use native.Mathlib.Omega.{arith}
-use mathlib.Core.Path.{_≡_, sym, _∙_}
-use mathlib.Core.Bool.{and-false}
-use lib.ListN.{length, length-drop}
+use mathlib.Core.Path.{sym, _∙_}
+use lib.ListN.{length-drop}
 use denote.Ref.{now}
 use Rattle.laws.specs.Walk.{part-from}
 use Rattle.site_reader.proofs.read_present.Statement.{statement}

@@ -2,7 +2,6 @@
 use borrow.Author.Needs.{needs}
 use borrow.Author.Tests.{not-true, not-false}
 use mathlib.Core.Path.{sym, _∙_}
-use mathlib.Core.Bool.{and-false}
 use Rattle.site_writer.proofs.is_later_sound.Statement.{statement}
 use Rattle.site_writer.proofs.is_later_sound.Tie as tie
 

@@ -1,7 +1,7 @@
 -- Kind and map, then the fields with the later values behind their traffics.
 use borrow.Author.Needs.{needs}
 use native.Mathlib.Omega.{arith}
-use mathlib.Core.Path.{_≡_, refl, ap, sym, _∙_}
+use mathlib.Core.Path.{ap}
 use mathlib.Core.Bool.{Bool, true, false, cond}
 use Prim.Native.Nat.{_+_, _≤_}
 use lib.ListN.{length}

@@ -1,6 +1,5 @@
 use native.Mathlib.Omega.{arith}
 use borrow.Author.Tests.{eq-eqb, ne-eqb}
-use mathlib.Core.Path.{refl}
 use Rattle.site.proofs.values.minor_later.Statement.{statement}
 use Rattle.site.proofs.values.minor_later.Tie as tie
 
