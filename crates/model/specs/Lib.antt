@@ -1,6 +1,6 @@
--- The road model beside document 01's sections on factors, sites and history, as document 02 amends them. What a reader must believe: Coefficients to
--- StatedWidths. Laws: all the rest, the table of known figures among them; inner steps require `ColumnWithin` and `MeansWithin` of
--- FactorBounds.
+-- The road model beside document 01's sections on factors, sites and history, as document 02 amends them. What a reader must believe:
+-- Coefficients to StatedWidths. Laws: all the rest, the table of known figures among them; inner steps require `ColumnWithin` and
+-- `MeansWithin` of FactorBounds.
 pub mod Coefficients
 pub mod Widths
 pub mod Alignment

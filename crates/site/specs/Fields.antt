@@ -1,7 +1,7 @@
 -- Document 01's bits, by number: what each bit of each kind's map means, where a field's two bytes stand, and what a field
 -- that stands or does not stand is read as. With the reader's definitions it shares only what a range and a two-byte number are,
 -- where kind and map stand, and that a segment has no minor traffic. The bits of fields, 0 to 14, are read from the map without bit 15,
--- `fieldMapIn`: by `fields-keep-bits` of BitLaws they are those of the record's own map, `mapIn`, and bit 15 does not stand in it.
+-- `fieldMapIn`: by `fields-keep-bits` and `fields-lack-fifteen` of BitLaws it has the bits of the record's own map, `mapIn`, but for 15.
 -- `fields-read` of FieldsRead and `record-cause-exactly` of RecordCauses tie it to the reader's answer.
 use mathlib.Core.Path.{_≡_}
 use mathlib.Core.Bool.{Bool, true, false, cond}

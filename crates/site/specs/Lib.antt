@@ -1,5 +1,5 @@
--- To be believed, since contracts cite it: Rules, Answers, Record and Writing, document 01's bits by number (Fields), a site's numbers
--- (`number`, `segmentOf` and `crossingOf` of Numbers), and what the public calls promise (Promises, with `RecordCause` of RecordCauses,
+-- To be believed, since contracts cite it: Rules, Yearly, Answers, Record and Writing, document 01's bits by number (Fields), a site's
+-- numbers (`number`, `segmentOf` and `crossingOf` of Numbers), and what the public calls promise (Promises, with `RecordCause` of RecordCauses,
 -- which cites `HeadPresent` of Accepted and `mapMatched` of Curve, and `RecordLength` of Theorems). Everything else is a law about these.
 pub mod Rules
 pub mod Yearly
