@@ -17,7 +17,7 @@ use Rattle.site.specs.Record.{siteOf}
 use Rattle.site.specs.Writing.{slotsOf}
 use Rattle.header.specs.declared.Header.{Header}
 use Rattle.model.specs.Coefficients.{Coefficients}
-use Rattle.model.specs.Parts.{Term, termAt, segmentParts, crossingParts, partsOf}
+use Rattle.model.specs.Parts.{Part, Term, exact, termAt, segmentStart, segmentParts, crossingStart, crossingParts, partsOf}
 use Rattle.model.specs.Predicted.{productUnder, productOver, termOf, yearTerm, laterTerms, yearlyTerms, termsOf, sumUnder, sumOver, predictedUnder, predictedOver}
 
 -- a product whose first factor has so many times the numerator of another's
@@ -25,31 +25,24 @@ scaled : (years : ℕ) (x y rest : Fraction) → x .num ≡ years * y .num → x
 unfolding _*ᶠ_ whole fraction
 scaled years x y rest e f = record { cross = rw (e, f) (omega arith) }
 
--- A PRODUCT IS IN PROPORTION TO THE YEARS OF ITS TERM
-module _ (k : Coefficients) (segments crossings : ℕ) (site : Site) (traffic minor years d : ℕ) where
-  pub under-by-years : productUnder d (partsOf k segments crossings site (termAt years traffic minor))
-      =ᶠ whole years *ᶠ productUnder d (partsOf k segments crossings site (termAt 1 traffic minor))
-  unfolding productUnder segmentParts crossingParts _//_ fraction
-  under-by-years = by (eqb (site .kind) 0)
+-- A PRODUCT IS IN PROPORTION TO THE YEARS OF ITS TERM, under or over
+module _ (product : List Part → Fraction) (exactly : (x : Fraction) (parts : List Part) → product (exact x ∷ parts) ≡ x *ᶠ product parts)
+    (k : Coefficients) (segments crossings : ℕ) (site : Site) (traffic minor years : ℕ) where
+  by-years : product (partsOf k segments crossings site (termAt years traffic minor))
+      =ᶠ whole years *ᶠ product (partsOf k segments crossings site (termAt 1 traffic minor))
+  unfolding segmentParts crossingParts _//_ fraction
+  by-years = by (eqb (site .kind) 0)
     where
       by : (segment : Bool)
-          → productUnder d (cond segment (segmentParts k segments site (termAt years traffic minor)) (crossingParts k crossings site (termAt years traffic minor)))
+          → product (cond segment (segmentParts k segments site (termAt years traffic minor)) (crossingParts k crossings site (termAt years traffic minor)))
           =ᶠ whole years
-          *ᶠ productUnder d (cond segment (segmentParts k segments site (termAt 1 traffic minor)) (crossingParts k crossings site (termAt 1 traffic minor)))
-      by true = scaled years _ _ _ (omega arith) refl
-      by false = scaled years _ _ _ (omega arith) refl
-
-  pub over-by-years : productOver d (partsOf k segments crossings site (termAt years traffic minor))
-      =ᶠ whole years *ᶠ productOver d (partsOf k segments crossings site (termAt 1 traffic minor))
-  unfolding productOver segmentParts crossingParts _//_ fraction
-  over-by-years = by (eqb (site .kind) 0)
-    where
-      by : (segment : Bool)
-          → productOver d (cond segment (segmentParts k segments site (termAt years traffic minor)) (crossingParts k crossings site (termAt years traffic minor)))
-          =ᶠ whole years
-          *ᶠ productOver d (cond segment (segmentParts k segments site (termAt 1 traffic minor)) (crossingParts k crossings site (termAt 1 traffic minor)))
-      by true = scaled years _ _ _ (omega arith) refl
-      by false = scaled years _ _ _ (omega arith) refl
+          *ᶠ product (cond segment (segmentParts k segments site (termAt 1 traffic minor)) (crossingParts k crossings site (termAt 1 traffic minor)))
+      by true =
+          rw (exactly (segmentStart segments site (termAt years traffic minor)) _, exactly (segmentStart segments site (termAt 1 traffic minor)) _)
+          (scaled years _ _ _ (omega arith) refl)
+      by false =
+          rw (exactly (crossingStart crossings (termAt years traffic minor)) _, exactly (crossingStart crossings (termAt 1 traffic minor)) _)
+          (scaled years _ _ _ (omega arith) refl)
 
 -- one more of the same
 one-more : (n all : ℕ) → suc n ≡ all → (p s : Fraction) → s =ᶠ whole n *ᶠ p → p +ᶠ s =ᶠ whole all *ᶠ p
@@ -105,15 +98,15 @@ ofOneTraffic site = siteOf (site .kind) (slotsOf site) noLater noLater
 module _ (k : Coefficients) (header : Header) (site : Site) (d : ℕ) (some : 1 ≤ header .years) (each : yearly site ≡ true)
     (same : SameFrom site 0 (header .years - 1)) where
   pub same-under : predictedUnder k header site d =ᶠ predictedUnder k header (ofOneTraffic site) d
-  unfolding predictedUnder sumUnder termsOf segmentParts crossingParts
+  unfolding predictedUnder sumUnder productUnder termsOf segmentParts crossingParts
   same-under =
       rw each
       (same-sum (λ term. productUnder d (partsOf k (header .segments) (header .crossings) site term)) (sumUnder k header site d) refl
-      (λ term terms. refl) site (λ years. under-by-years k (header .segments) (header .crossings) site _ _ years d) (header .years) some same)
+      (λ term terms. refl) site (by-years (productUnder d) (λ x parts. refl) k (header .segments) (header .crossings) site _ _) (header .years) some same)
 
   pub same-over : predictedOver k header site d =ᶠ predictedOver k header (ofOneTraffic site) d
-  unfolding predictedOver sumOver termsOf segmentParts crossingParts
+  unfolding predictedOver sumOver productOver termsOf segmentParts crossingParts
   same-over =
       rw each
       (same-sum (λ term. productOver d (partsOf k (header .segments) (header .crossings) site term)) (sumOver k header site d) refl
-      (λ term terms. refl) site (λ years. over-by-years k (header .segments) (header .crossings) site _ _ years d) (header .years) some same)
+      (λ term terms. refl) site (by-years (productOver d) (λ x parts. refl) k (header .segments) (header .crossings) site _ _) (header .years) some same)
