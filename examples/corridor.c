@@ -33,11 +33,12 @@ static int first_record_comes_back(size_t file_len)
     uint64_t line[CRASH_LINE_NUMBERS];
     uint64_t written = 0;
 
-    if (crash_site_read(file[1], part, file_len - CRASH_HEADER_BYTES, values, CRASH_READ_NUMBERS) != CRASH_OK)
+    if (crash_site_read(file[0], file[1], part, file_len - CRASH_HEADER_BYTES, values, CRASH_READ_NUMBERS) != CRASH_OK)
         return 0;
-    if (crash_site_write(file[1], values, CRASH_READ_NUMBERS, record, sizeof record, &written) != CRASH_OK)
+    if (crash_site_write(file[0], file[1], values, CRASH_READ_NUMBERS, record, sizeof record, &written) != CRASH_OK)
         return 0;
-    if (crash_line(file[1], two_bytes(2), two_bytes(4), values, CRASH_READ_NUMBERS, line, CRASH_LINE_NUMBERS) != CRASH_OK)
+    if (crash_line(file[0], file[1], two_bytes(2), two_bytes(4), values, CRASH_READ_NUMBERS, line, CRASH_LINE_NUMBERS)
+        != CRASH_OK)
         return 0;
     return written == values[CRASH_SITE_NUMBERS] && memcmp(record, part, written) == 0
         && memcmp(line, report, sizeof line) == 0;
@@ -50,7 +51,7 @@ static size_t gather(size_t file_len)
     size_t numbers = 0;
 
     for (size_t at = CRASH_HEADER_BYTES; at < file_len; at += sites[numbers]) {
-        if (crash_site_read(file[1], file + at, file_len - at, sites + numbers, CRASH_READ_NUMBERS) != CRASH_OK)
+        if (crash_site_read(file[0], file[1], file + at, file_len - at, sites + numbers, CRASH_READ_NUMBERS) != CRASH_OK)
             break;
         numbers += CRASH_SITE_NUMBERS;
     }
@@ -63,7 +64,8 @@ static int survey_is_the_file(size_t file_len, uint64_t report_len)
     size_t numbers = gather(file_len);
     uint64_t value = 0;
 
-    if (crash_project_write(file[1], two_bytes(2), two_bytes(4), sites, numbers, survey, sizeof survey, &value) != CRASH_OK)
+    if (crash_project_write(file[0], file[1], two_bytes(2), two_bytes(4), sites, numbers, survey, sizeof survey, &value)
+        != CRASH_OK)
         return 0;
     if (value != file_len || memcmp(survey, file, file_len) != 0)
         return 0;

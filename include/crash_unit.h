@@ -25,18 +25,22 @@
 extern "C" {
 #endif
 
-/* The answers, by document 01's table. */
+/* The answers, by document 01's table as document 02 amends it. */
 #define CRASH_OK 0
 #define CRASH_RUNS_PAST 1       /* header, kind, map or field runs past the end */
 #define CRASH_BYTES_AFTER 2     /* bytes after the last record */
-#define CRASH_EDITION_NOT 3     /* edition not 1 */
+#define CRASH_EDITION_NOT 3     /* edition neither 1 nor 2 */
 #define CRASH_OUTSIDE_LIMITS 4  /* years, calibration or sites outside limits */
 #define CRASH_KIND_ABOVE 5      /* kind above 3 */
-#define CRASH_BIT_LACKED 6      /* bit the kind lacks */
+#define CRASH_BIT_LACKED 6      /* bit the kind lacks; in edition 2 limited sight too */
 #define CRASH_BIT_MISSING 7     /* needed bit absent, curve bits unmatched, or later years in a project of one year */
 #define CRASH_OUTSIDE_RANGE 8   /* field outside its range */
 #define CRASH_DEFAULT_SPELLED 9 /* default spelled out */
 #define CRASH_TOO_SHORT 10      /* report, record buffer or other lent run too short */
+
+/* Editions, as the first byte of a file: document 01 as amended, and Chapter 10 of the Highway Safety Manual, first edition. */
+#define CRASH_FIRST_EDITION 1
+#define CRASH_LAST_EDITION 2
 
 /* Sizes: no accepted file, report or record is longer. */
 #define CRASH_HEADER_BYTES 8
@@ -56,7 +60,9 @@ extern "C" {
  *   CRASH_PREDICTED_EACH * sites + high / CRASH_WIDTH_PARTS for a predicted pair,
  *   CRASH_EXPECTED_EACH * (sites + observed crashes) + high / CRASH_WIDTH_PARTS for an expected pair,
  * of a line, which has one site, and of a report's totals, all in millionths of a crash; a site with traffic year by year counts
- * as so many sites as the project has years, and each of its observed crashes as so many; and for a bracket
+ * as so many sites as the project has years, and each of its observed crashes as so many. In edition 2 an observed crash of a
+ * segment counts 1 + k times as much, where k is 236 / length, the length in thousandths of a mile, and what the crashes of a
+ * site count is rounded up once a site. And for a bracket
  *   high / CRASH_POWER_PARTS of a power, high / CRASH_EXPONENTIAL_PARTS of e^x and of e^(-x),
  *   1 / CRASH_LOGARITHM_PARTS of a logarithm, whatever its high. */
 #define CRASH_PREDICTED_EACH 4
@@ -77,7 +83,8 @@ uint64_t crash_project(const uint8_t *file, size_t file_len, uint64_t *report, s
  * ends, deficiency, grade, driveways, two-way lane, passing, hazard rating, skew, left lanes, right lanes, limited sight; then
  * the traffic of years two to ten, and the minor traffic of years two to ten. A field that holds no number is CRASH_ABSENT: an
  * absent history, the four fields of a curve on a straight road, and the fields of other kinds. Any other field holds its
- * number, its default too. Later years are all CRASH_ABSENT where the site has one traffic for all years. Otherwise, in a
+ * number, its default too. In edition 2 no site has limited sight: it is CRASH_ABSENT, and any number there, 0 too, is outside the
+ * range. Later years are all CRASH_ABSENT where the site has one traffic for all years. Otherwise, in a
  * project of Y years, years two to Y hold a number in the range of the first and the rest are CRASH_ABSENT, for the traffic and,
  * at a crossing, for the minor traffic too; anything else, and any later year in a project of one year, is outside the range.
  * A call that takes a site reads the first CRASH_SITE_NUMBERS numbers of values and nothing of what follows, so that the
@@ -85,38 +92,42 @@ uint64_t crash_project(const uint8_t *file, size_t file_len, uint64_t *report, s
  * range. */
 #define CRASH_ABSENT 65536
 
-/* Reads the record that part starts with, in a project of so many years.
+/* Reads the record that part starts with, in a project of an edition and so many years.
  * CRASH_OK: the first CRASH_SITE_NUMBERS numbers of values are the site, the next is the record's length in bytes; the rest of
  * values is as it was.
- * CRASH_OUTSIDE_LIMITS, tried first: years is not from 1 to CRASH_MOST_YEARS. 1, 5 to 9: the record is refused; later years in a
- * project of one year are CRASH_BIT_MISSING, and a missing one is CRASH_RUNS_PAST. CRASH_TOO_SHORT, tried last: values has fewer
- * than CRASH_READ_NUMBERS numbers. */
-uint64_t crash_site_read(uint64_t years, const uint8_t *part, size_t part_len, uint64_t *values, size_t values_len);
+ * CRASH_EDITION_NOT, tried first: edition is not from CRASH_FIRST_EDITION to CRASH_LAST_EDITION. CRASH_OUTSIDE_LIMITS, tried
+ * next: years is not from 1 to CRASH_MOST_YEARS. 1, 5 to 9: the record is refused; later years in a project of one year are
+ * CRASH_BIT_MISSING, and a missing one is CRASH_RUNS_PAST. CRASH_TOO_SHORT, tried last: values has fewer than
+ * CRASH_READ_NUMBERS numbers. */
+uint64_t crash_site_read(uint64_t edition, uint64_t years, const uint8_t *part, size_t part_len, uint64_t *values,
+                         size_t values_len);
 
-/* Writes a site's record from the start of buffer, for a project of so many years; the rest of buffer is as it was.
- * CRASH_OK: *written is the record's length. CRASH_OUTSIDE_LIMITS, tried first: years is not from 1 to CRASH_MOST_YEARS.
- * CRASH_OUTSIDE_RANGE, tried next: the site is outside its range. CRASH_TOO_SHORT, tried last: buffer is too short. On any
+/* Writes a site's record from the start of buffer, for a project of an edition and so many years; the rest of buffer is as it
+ * was.
+ * CRASH_OK: *written is the record's length. CRASH_EDITION_NOT, tried first, and CRASH_OUTSIDE_LIMITS, tried next: as above.
+ * CRASH_OUTSIDE_RANGE, tried then: the site is outside its range. CRASH_TOO_SHORT, tried last: buffer is too short. On any
  * refusal *written is as it was. */
-uint64_t crash_site_write(uint64_t years, const uint64_t *values, size_t values_len, uint8_t *buffer, size_t buffer_len,
-                          uint64_t *written);
+uint64_t crash_site_write(uint64_t edition, uint64_t years, const uint64_t *values, size_t values_len, uint8_t *buffer,
+                          size_t buffer_len, uint64_t *written);
 
 /* Writes the whole project file of a list of sites from the start of buffer; the rest of buffer is as it was. sites has the
  * CRASH_SITE_NUMBERS numbers of each site in turn, without the record's length that crash_site_read leaves after them, and the
  * file has the sites in this order. Their count is sites_len / CRASH_SITE_NUMBERS, rounded up: fewer numbers left at the end
  * are a site outside its range. Calibrations are in thousandths.
  * CRASH_OK: *value is the file's length in bytes; crash_project accepts the file.
- * CRASH_OUTSIDE_LIMITS, tried first: years (1 to 10), a calibration (1 to 9,999) or the count of sites (0 to CRASH_MOST_SITES)
- * is outside its limits; *value is 0. CRASH_OUTSIDE_RANGE, tried next: *value is the index, from 0, of the first site that is
- * outside its range. CRASH_TOO_SHORT, tried last: buffer is shorter than the file; *value is 0. */
-uint64_t crash_project_write(uint64_t years, uint64_t segment_calibration, uint64_t crossing_calibration, const uint64_t *sites,
-                             size_t sites_len, uint8_t *buffer, size_t buffer_len, uint64_t *value);
+ * CRASH_EDITION_NOT, tried first: as above; *value is 0. CRASH_OUTSIDE_LIMITS, tried next: years (1 to 10), a calibration (1 to
+ * 9,999) or the count of sites (0 to CRASH_MOST_SITES) is outside its limits; *value is 0. CRASH_OUTSIDE_RANGE, tried then:
+ * *value is the index, from 0, of the first site that is outside its range. CRASH_TOO_SHORT, tried last: buffer is shorter than
+ * the file; *value is 0. */
+uint64_t crash_project_write(uint64_t edition, uint64_t years, uint64_t segment_calibration, uint64_t crossing_calibration,
+                             const uint64_t *sites, size_t sites_len, uint8_t *buffer, size_t buffer_len, uint64_t *value);
 
 /* The four numbers of one site, in line[0] to line[3]; the rest of line is as it was. Calibrations are in thousandths.
- * CRASH_OUTSIDE_LIMITS, tried first: years (1 to 10) or a calibration (1 to 9,999) is outside its limits.
- * CRASH_OUTSIDE_RANGE, tried next: the site is outside its range. CRASH_TOO_SHORT, tried last: line has fewer than
- * CRASH_LINE_NUMBERS numbers. */
-uint64_t crash_line(uint64_t years, uint64_t segment_calibration, uint64_t crossing_calibration, const uint64_t *values,
-                    size_t values_len, uint64_t *line, size_t line_len);
+ * CRASH_EDITION_NOT, tried first: as above. CRASH_OUTSIDE_LIMITS, tried next: years (1 to 10) or a calibration (1 to 9,999) is
+ * outside its limits. CRASH_OUTSIDE_RANGE, tried then: the site is outside its range. CRASH_TOO_SHORT, tried last: line has fewer
+ * than CRASH_LINE_NUMBERS numbers. */
+uint64_t crash_line(uint64_t edition, uint64_t years, uint64_t segment_calibration, uint64_t crossing_calibration,
+                    const uint64_t *values, size_t values_len, uint64_t *line, size_t line_len);
 
 /* Brackets of powers, logarithms and exponentials, for any model: ends[0] / ends[1] is at most the exact figure, and
  * ends[2] / ends[3] at least, no further apart than said above; the rest of ends is as it was. CRASH_OUTSIDE_RANGE: an argument

@@ -69,7 +69,8 @@ impl fmt::Display for Fault {
 pub const WIDTH_PARTS: u64 = 1_000_000;
 /// What a predicted pair may be wider for each site.
 pub const PREDICTED_EACH: u64 = 4;
-/// What an expected pair may be wider for each site and each observed crash.
+/// What an expected pair may be wider for each site and for each time that an
+/// observed crash counts.
 pub const EXPECTED_EACH: u64 = 8;
 
 /// What a pair's width may be apart from its part of high.
@@ -81,22 +82,25 @@ struct Allowance {
 
 impl Allowance {
     /// A site counts once for each term of its prediction, and each of its
-    /// observed crashes as often.
-    fn of_site(site: &Site, years: u8) -> Allowance {
-        let sites = site.terms(years).len() as u128;
-        let observed = sites * u128::from(site.observed().unwrap_or(0));
+    /// observed crashes as often, times the crash's weight. What the crashes
+    /// count is rounded up once for a site.
+    fn of_site(model: &Model, site: &Site, years: u8) -> Allowance {
+        let sites = site.terms(years).len() as u64;
+        let crashes = Natural::from(sites * site.observed().unwrap_or(0));
+        let counted = model.crash_weight(site).ceil_scaled(&crashes);
+        let counted = counted.to_u64().expect("a count of crashes");
         Allowance {
-            predicted: u128::from(PREDICTED_EACH) * sites,
-            expected: u128::from(EXPECTED_EACH) * (sites + observed),
+            predicted: u128::from(PREDICTED_EACH * sites),
+            expected: u128::from(EXPECTED_EACH * (sites + counted)),
         }
     }
 
     /// The totals' is that of all sites.
-    fn of_project(project: &Project) -> Allowance {
+    fn of_project(model: &Model, project: &Project) -> Allowance {
         let years = project.header.years;
         let sites = project.sites.iter();
         sites.fold(Allowance::default(), |sum, site| {
-            let more = Allowance::of_site(site, years);
+            let more = Allowance::of_site(model, site, years);
             Allowance {
                 predicted: sum.predicted + more.predicted,
                 expected: sum.expected + more.expected,
@@ -250,7 +254,7 @@ fn sum_faults(lines: &[u64], totals: &[u64]) -> Vec<Wrong> {
 /// Every fault of a site's four numbers over so many years that shows without
 /// estimates: order, widths and the expected pair.
 pub fn site_line_faults(model: &Model, years: u8, site: &Site, numbers: &[u64]) -> Vec<Wrong> {
-    let mut faults = pair_faults(numbers, &Allowance::of_site(site, years));
+    let mut faults = pair_faults(numbers, &Allowance::of_site(model, site, years));
     faults.extend(history_faults(model, site, numbers));
     faults
 }
@@ -264,7 +268,7 @@ fn shape_faults(model: &Model, project: &Project, report: &[u64]) -> Vec<Fault> 
         let wrongs = site_line_faults(model, project.header.years, site, numbers);
         faults.extend(wrongs.into_iter().map(|wrong| Fault { line, wrong }));
     }
-    let mut wrongs = pair_faults(totals, &Allowance::of_project(project));
+    let mut wrongs = pair_faults(totals, &Allowance::of_project(model, project));
     wrongs.extend(sum_faults(lines, totals));
     let line = Line::Totals;
     faults.extend(wrongs.into_iter().map(|wrong| Fault { line, wrong }));

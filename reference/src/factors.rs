@@ -1,7 +1,7 @@
 //! The exact factors of a site, each a fraction.
 
 use crate::model::{
-    CrossingModel, SegmentModel, WidthTable, HEAVY_TRAFFIC, LIGHT_TRAFFIC, WIDTH_UNIT,
+    CrossingModel, Grade, SegmentModel, WidthTable, HEAVY_TRAFFIC, LIGHT_TRAFFIC, WIDTH_UNIT,
 };
 use crate::rational::Rational;
 use crate::record::Site;
@@ -73,7 +73,13 @@ pub fn superelevation(model: &SegmentModel, deficiency: u64) -> Rational {
 }
 
 pub fn grade(model: &SegmentModel, percent: u64) -> Rational {
-    model.grade.exact().pow(percent as u32)
+    match model.grade {
+        Grade::Power(base) => base.exact().pow(percent as u32),
+        Grade::Steps { most, factors } => {
+            let step = most.iter().filter(|most| percent > **most).count();
+            Rational::of(factors[step], 100)
+        }
+    }
 }
 
 pub fn two_way_lane(model: &SegmentModel, present: u64, driveways: u64) -> Rational {
@@ -92,11 +98,14 @@ pub fn passing(model: &SegmentModel, passing: u64) -> Rational {
 }
 
 /// The driveway part at one value of ln A:
-/// (0.2 + c DD) / (0.2 + 5 c), c = 0.05 - 0.005 ln A.
+/// (0.2 + c DD) / (0.2 + 5 c), c = 0.05 - 0.005 ln A, or 1 for too few driveways.
 ///
 /// No estimate of ln A passes 10 while A is at most 20,000, so c is not
 /// negative.
 pub fn driveway(model: &SegmentModel, driveways: u64, log_traffic: &Rational) -> Rational {
+    if driveways < model.driveway_fewest {
+        return Rational::one();
+    }
     let fall = &model.driveway_log_slope.exact() * log_traffic;
     let c = &model.driveway_slope.exact() - &fall;
     let at = |count: u64| &model.driveway_offset.exact() + &(&c * &Rational::whole(count));

@@ -1,11 +1,12 @@
-//! Seeded projects, plain and extreme, and damaged sites and files made from
-//! them.
+//! Seeded projects of both editions, plain and extreme, and damaged sites and
+//! files made from them.
 
 use crate::project::{encode_header, write_project, Header, Project};
-use crate::record::{encode_record, values_of, write_site, Site, RECORD_HEAD};
+use crate::record::{encode_record, values_of, Site, RECORD_HEAD};
 use crate::rules::{
-    rules, Field, Presence, Rule, EDITION, FIELD_NAMES, KIND_NAMES, LATER_YEARS, MOST_CALIBRATION,
-    MOST_SITES, MOST_YEARS, SEGMENT, TRAFFIC_FIELDS, YEARLY_BIT,
+    rules, Field, Presence, Rule, EDITIONS, FIELD_NAMES, FOUR_LEG_STOP, KIND_NAMES, LAST_EDITION,
+    LATER_YEARS, MOST_CALIBRATION, MOST_SITES, MOST_YEARS, SEGMENT, THREE_LEG_STOP, TRAFFIC_FIELDS,
+    YEARLY_BIT,
 };
 
 /// A small generator of numbers (splitmix64): the same seed, the same run.
@@ -65,10 +66,10 @@ fn value(random: &mut Random, rule: &Rule) -> u16 {
     }
 }
 
-/// A site that the writer accepts for so many years, half of them with traffic
-/// year by year where there is a second year.
-pub fn site(random: &mut Random, years: u8) -> Site {
-    let site = plain_site(random);
+/// A site that the writer accepts for an edition and so many years, half of them
+/// with traffic year by year where there is a second year.
+pub fn site(random: &mut Random, edition: u8, years: u8) -> Site {
+    let site = plain_site(random, edition);
     if random.once_in(2) {
         yearly(random, site, years)
     } else {
@@ -76,25 +77,35 @@ pub fn site(random: &mut Random, years: u8) -> Site {
     }
 }
 
-/// A site that the writer accepts for any years.
-pub fn plain_site(random: &mut Random) -> Site {
+/// A site that the writer accepts for an edition and any years.
+pub fn plain_site(random: &mut Random, edition: u8) -> Site {
     let kind = random.below(KIND_NAMES.len()) as u8;
     let curve = random.once_in(2);
-    site_of(random, kind, curve)
+    site_of(random, edition, kind, curve)
 }
 
-pub fn sites(random: &mut Random, years: u8, count: usize) -> Vec<Site> {
-    (0..count).map(|_| site(random, years)).collect()
+pub fn sites(random: &mut Random, edition: u8, years: u8, count: usize) -> Vec<Site> {
+    (0..count).map(|_| site(random, edition, years)).collect()
 }
 
-fn plain_sites(random: &mut Random, count: usize) -> Vec<Site> {
-    (0..count).map(|_| plain_site(random)).collect()
+pub fn plain_sites(random: &mut Random, edition: u8, count: usize) -> Vec<Site> {
+    (0..count).map(|_| plain_site(random, edition)).collect()
+}
+
+/// The rules of a kind's traffic, which every edition has.
+fn traffic_rules(kind: u8) -> impl Iterator<Item = &'static Rule> {
+    let table = rules(EDITIONS[0], kind).unwrap_or(&[]).iter();
+    table.filter(|rule| rule.is_traffic())
+}
+
+/// One of a kind's traffics.
+fn traffic_rule(random: &mut Random, kind: u8) -> Rule {
+    *random.pick(&traffic_rules(kind).collect::<Vec<_>>())
 }
 
 /// The same site with a traffic of its own in each later year.
 pub fn yearly(random: &mut Random, mut site: Site, years: u8) -> Site {
-    let table = rules(site.kind).unwrap_or(&[]);
-    for rule in table.iter().filter(|rule| rule.is_traffic()) {
+    for rule in traffic_rules(site.kind) {
         for year in 2..=usize::from(years) {
             let drawn = value(random, rule);
             site.set_later(rule.field, year, Some(drawn));
@@ -104,12 +115,12 @@ pub fn yearly(random: &mut Random, mut site: Site, years: u8) -> Site {
 }
 
 /// A site of a kind, on a curve or straight.
-fn site_of(random: &mut Random, kind: u8, curve: bool) -> Site {
+fn site_of(random: &mut Random, edition: u8, kind: u8, curve: bool) -> Site {
     let mut site = Site::empty(kind);
     let history = random.once_in(2);
     // Some sites are plain, some have every field, most are mixed.
     let share = random.pick(&[1, 2, 2, 3, 1_000]);
-    for rule in rules(kind).unwrap_or(&[]) {
+    for rule in rules(edition, kind).unwrap_or(&[]) {
         let spelled = random.once_in(share);
         let drawn = value(random, rule);
         let chosen = match rule.presence {
@@ -128,8 +139,8 @@ fn site_of(random: &mut Random, kind: u8, curve: bool) -> Site {
 
 /// A site with some slots replaced, emptied or filled, which the writer may
 /// refuse.
-pub fn disturbed_site(random: &mut Random, years: u8) -> Site {
-    let mut site = site(random, years);
+pub fn disturbed_site(random: &mut Random, edition: u8, years: u8) -> Site {
+    let mut site = site(random, edition, years);
     for _ in 0..random.below(3) {
         let value = match random.below(4) {
             0 => None,
@@ -162,6 +173,9 @@ pub enum Damage {
     PartOfCurve,
     /// A value that the kind lacks.
     Foreign,
+    /// A stop crossing as another edition has it: with limited quadrants, be it
+    /// none of them, or without their number.
+    OtherEdition,
     /// The later years of a project with other years, also of one with one year.
     OtherYears,
     /// A year that is not given before one that is.
@@ -174,13 +188,14 @@ pub enum Damage {
     ForeignYears,
 }
 
-pub const DAMAGES: [Damage; 11] = [
+pub const DAMAGES: [Damage; 12] = [
     Damage::Kind,
     Damage::Value,
     Damage::Missing,
     Damage::HalfCurve,
     Damage::PartOfCurve,
     Damage::Foreign,
+    Damage::OtherEdition,
     Damage::OtherYears,
     Damage::SkippedYear,
     Damage::LaterValue,
@@ -191,24 +206,37 @@ pub const DAMAGES: [Damage; 11] = [
 /// Kinds that there are not.
 const NO_KINDS: [u8; 5] = [4, 5, 6, 128, 255];
 
+/// An edition that is not this one.
+fn other_edition(random: &mut Random, edition: u8) -> u8 {
+    let others = EDITIONS.into_iter().filter(|other| *other != edition);
+    random.pick(&others.collect::<Vec<_>>())
+}
+
 /// A site that the writer refuses for this damage alone.
-pub fn damaged_site(random: &mut Random, years: u8, damage: Damage) -> Site {
+pub fn damaged_site(random: &mut Random, edition: u8, years: u8, damage: Damage) -> Site {
     let mut site = match damage {
-        Damage::HalfCurve => site_of(random, SEGMENT, true),
-        Damage::PartOfCurve | Damage::ForeignYears => site_of(random, SEGMENT, false),
+        Damage::HalfCurve => site_of(random, edition, SEGMENT, true),
+        Damage::PartOfCurve | Damage::ForeignYears => site_of(random, edition, SEGMENT, false),
         Damage::OneTraffic => {
             let kind = random.between(1, KIND_NAMES.len() as u16 - 1) as u8;
-            site_of(random, kind, false)
+            site_of(random, edition, kind, false)
         }
-        Damage::OtherYears | Damage::SkippedYear | Damage::LaterValue => plain_site(random),
-        _ => site(random, years),
+        Damage::OtherEdition => {
+            let kind = random.pick(&[THREE_LEG_STOP, FOUR_LEG_STOP]);
+            let other = other_edition(random, edition);
+            site_of(random, other, kind, false)
+        }
+        Damage::OtherYears | Damage::SkippedYear | Damage::LaterValue => {
+            plain_site(random, edition)
+        }
+        _ => site(random, edition, years),
     };
-    damage_site(random, years, &mut site, damage);
+    let table = rules(edition, site.kind).unwrap_or(&[]);
+    damage_site(random, years, table, &mut site, damage);
     site
 }
 
-fn damage_site(random: &mut Random, years: u8, site: &mut Site, damage: Damage) {
-    let table = rules(site.kind).unwrap_or(&[]);
+fn damage_site(random: &mut Random, years: u8, table: &[Rule], site: &mut Site, damage: Damage) {
     let curve = site.is_curve();
     let is_asked = |rule: &Rule| curve || !rule.is_of_curve();
     let may_lack = |rule: &Rule| matches!(rule.presence, Presence::History | Presence::Curve);
@@ -232,14 +260,15 @@ fn damage_site(random: &mut Random, years: u8, site: &mut Site, damage: Damage) 
             let field = foreign_field(random, table);
             site.set(field, Some(random.between(0, 20)));
         }
+        // It was made so.
+        Damage::OtherEdition => {}
         _ => damage_years(random, years, site, damage),
     }
 }
 
 /// Gives a plain site later years that the writer refuses, whatever the years.
 fn damage_years(random: &mut Random, years: u8, site: &mut Site, damage: Damage) {
-    let table = rules(site.kind).unwrap_or(&[]);
-    let traffic = pick_rule(random, table, Rule::is_traffic);
+    let traffic = traffic_rule(random, site.kind);
     match damage {
         Damage::OtherYears => {
             let others: Vec<u8> = (2..=MOST_YEARS).filter(|other| *other != years).collect();
@@ -294,7 +323,7 @@ pub fn header(random: &mut Random) -> Header {
         _ => random.between(1, MOST_CALIBRATION),
     };
     Header {
-        edition: EDITION,
+        edition: random.pick(&EDITIONS),
         years: random.between(1, u16::from(MOST_YEARS)) as u8,
         segment_calibration: calibration(random),
         crossing_calibration: calibration(random),
@@ -305,7 +334,7 @@ pub fn header(random: &mut Random) -> Header {
 /// taken for.
 pub fn edges(most: u64) -> Vec<u64> {
     let wide = [1 << 8, 1 << 16, 1 << 32, 1 << 63].map(|high| high + 1);
-    let near = [0, 1, 2, most - 1, most, most + 1, 65_535, u64::MAX];
+    let near = [0, 1, 2, most - 1, most, most + 1, 255, 65_535, u64::MAX];
     near.into_iter().chain(wide).collect()
 }
 
@@ -314,9 +343,9 @@ pub fn edges(most: u64) -> Vec<u64> {
 pub fn project_of(random: &mut Random, count: usize) -> Project {
     let header = header(random);
     let sites = if random.once_in(3) {
-        sites(random, header.years, count)
+        sites(random, header.edition, header.years, count)
     } else {
-        plain_sites(random, count)
+        plain_sites(random, header.edition, count)
     };
     Project { header, sites }
 }
@@ -338,9 +367,13 @@ pub fn largest_project(random: &mut Random) -> Project {
 
 /// The records of a project, one list of bytes each.
 fn records(project: &Project) -> Vec<Vec<u8>> {
-    let years = project.header.years.into();
-    let record = |site| write_site(years, site, usize::MAX).expect("a site that the writer takes");
-    project.sites.iter().map(record).collect()
+    let sites = project.sites.iter();
+    sites.map(|site| record(&project.header, site)).collect()
+}
+
+fn record(header: &Header, site: &Site) -> Vec<u8> {
+    let record = header.write_site(site);
+    record.expect("a site that the writer takes")
 }
 
 fn assemble(header: &Header, count: u16, records: &[Vec<u8>]) -> Vec<u8> {
@@ -358,15 +391,15 @@ struct RawRecord {
 }
 
 impl RawRecord {
-    /// A record that the writer made for so many years.
-    fn of(record: &[u8], years: u8) -> RawRecord {
+    /// A record that the writer made for this header.
+    fn of(record: &[u8], header: &Header) -> RawRecord {
         let (kind, map) = (record[0], u16::from_be_bytes([record[1], record[2]]));
         let words = record[RECORD_HEAD..].chunks(2);
         let mut values = words.map(|word| u16::from_be_bytes([word[0], word[1]]));
-        let table = rules(kind).unwrap_or(&[]).iter();
+        let table = rules(header.edition, kind).unwrap_or(&[]).iter();
         let standing = table.filter(|rule| map >> rule.bit & 1 == 1);
         let fields = standing.map(|rule| {
-            let count = values_of(map, years, rule);
+            let count = values_of(map, header.years, rule);
             values.by_ref().take(count).collect()
         });
         let fields = fields.collect();
@@ -405,8 +438,7 @@ impl RawRecord {
     /// Gives each traffic a value for each year.
     fn make_yearly(&mut self, random: &mut Random, years: u8) {
         self.map |= 1 << YEARLY_BIT;
-        let table = rules(self.kind).unwrap_or(&[]);
-        for rule in table.iter().filter(|rule| rule.is_traffic()) {
+        for rule in traffic_rules(self.kind) {
             let at = self.position(rule.bit);
             self.fields[at].resize_with(years.into(), || value(random, rule));
         }
@@ -424,11 +456,11 @@ fn outside(random: &mut Random, rule: &Rule) -> u16 {
 }
 
 /// Makes one record wrong in its kind, its map, a field or its later years.
-fn damage_record(random: &mut Random, years: u8, record: &[u8]) -> Vec<u8> {
-    let mut raw = RawRecord::of(record, years);
-    let rules = rules(raw.kind).unwrap_or(&[]);
+fn damage_record(random: &mut Random, header: &Header, record: &[u8]) -> Vec<u8> {
+    let mut raw = RawRecord::of(record, header);
+    let rules = rules(header.edition, raw.kind).unwrap_or(&[]);
     let rule = random.pick(rules);
-    match random.below(10) {
+    match random.below(11) {
         0 => raw.kind = random.pick(&NO_KINDS),
         1 => raw.kind = random.below(4) as u8,
         2 => {
@@ -438,18 +470,29 @@ fn damage_record(random: &mut Random, years: u8, record: &[u8]) -> Vec<u8> {
         3 => raw.take(random.below(16) as u32),
         4 => raw.map ^= 1 << random.below(16),
         5 => raw.put(rule.bit, outside(random, &rule)),
-        6 | 7 => damage_later(random, &mut raw, years),
+        6 | 7 => damage_later(random, &mut raw, header.years),
+        8 => put_lacking_bit(random, &mut raw, rules),
         _ => spell_default(random, &mut raw, rules),
     }
     raw.encode()
+}
+
+/// Makes a bit stand that the kind lacks, where there is one: of the lowest two,
+/// which another edition or kind has, with a value that it takes.
+fn put_lacking_bit(random: &mut Random, raw: &mut RawRecord, rules: &[Rule]) {
+    let is_lacking = |bit: &u32| rules.iter().all(|rule| rule.bit != *bit);
+    let lacking: Vec<u32> = (0..YEARLY_BIT).filter(is_lacking).collect();
+    if !lacking.is_empty() {
+        let small = random.between(1, 2);
+        raw.put(random.pick(&lacking[..lacking.len().min(2)]), small);
+    }
 }
 
 /// Gives a record later years with one too few or too many of a traffic, or a
 /// year outside its range. In a project of one year any are wrong.
 fn damage_later(random: &mut Random, raw: &mut RawRecord, years: u8) {
     raw.make_yearly(random, years);
-    let table = rules(raw.kind).unwrap_or(&[]);
-    let rule = pick_rule(random, table, Rule::is_traffic);
+    let rule = traffic_rule(random, raw.kind);
     let at = raw.position(rule.bit);
     let values = &mut raw.fields[at];
     match random.below(4) {
@@ -474,7 +517,11 @@ fn spell_default(random: &mut Random, raw: &mut RawRecord, rules: &[Rule]) {
 fn damage_header(random: &mut Random, file: &mut [u8]) {
     let zero_or_above = [0, MOST_CALIBRATION + 1, 65_535];
     let (at, bytes) = match random.below(5) {
-        0 => (0, vec![random.pick(&[0, 2, 3, 255])]),
+        // Another edition takes the file where it takes each record.
+        0 => {
+            let other = other_edition(random, file[0]);
+            (0, vec![random.pick(&[0, LAST_EDITION + 1, 255, other])])
+        }
         1 => (1, vec![random.pick(&[0, MOST_YEARS + 1, 255])]),
         2 => (2, random.pick(&zero_or_above).to_be_bytes().to_vec()),
         3 => (4, random.pick(&zero_or_above).to_be_bytes().to_vec()),
@@ -519,19 +566,19 @@ pub fn damaged_file(random: &mut Random) -> Vec<u8> {
 
 /// The project's file with one record, or rarely two, made wrong.
 fn with_damaged_records(random: &mut Random, project: &Project) -> Vec<u8> {
-    let years = project.header.years;
+    let header = &project.header;
     let mut records = records(project);
     if records.is_empty() {
-        let site = site(random, years);
-        records = vec![write_site(years.into(), &site, usize::MAX).expect("a writable site")];
+        let site = site(random, header.edition, header.years);
+        records = vec![record(header, &site)];
     }
     let first = random.below(records.len());
-    records[first] = damage_record(random, years, &records[first]);
+    records[first] = damage_record(random, header, &records[first]);
     if records.len() > 1 && random.once_in(4) {
         let second = (first + 1) % records.len();
-        records[second] = damage_record(random, years, &records[second]);
+        records[second] = damage_record(random, header, &records[second]);
     }
-    let mut file = assemble(&project.header, records.len() as u16, &records);
+    let mut file = assemble(header, records.len() as u16, &records);
     if random.once_in(8) {
         file.truncate(random.below(file.len()));
     }

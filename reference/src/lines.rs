@@ -7,14 +7,14 @@
 use crate::project::{write_project, Header, Project};
 use crate::record::Site;
 use crate::rules::{
-    rules, Field, Presence, Rule, EDITION, FIELD_NAMES, KIND_NAMES, MOST_CALIBRATION, MOST_SITES,
-    MOST_YEARS,
+    editions_with, rules, Field, Presence, Rule, EDITION_ONE, FIELD_NAMES, KIND_NAMES,
+    LAST_EDITION, MOST_CALIBRATION, MOST_SITES, MOST_YEARS,
 };
 use std::ops::RangeInclusive;
 
 /// The header's lines in their order: a name and the numbers allowed.
 const HEADER_LINES: [(&str, RangeInclusive<u16>); 4] = [
-    ("edition", EDITION as u16..=EDITION as u16),
+    ("edition", EDITION_ONE as u16..=LAST_EDITION as u16),
     ("years", 1..=MOST_YEARS as u16),
     ("segment-calibration", 1..=MOST_CALIBRATION),
     ("crossing-calibration", 1..=MOST_CALIBRATION),
@@ -58,12 +58,7 @@ const YEARS_APART: &str = ",";
 
 /// The numbers allowed, in words.
 fn range(allowed: &RangeInclusive<u16>) -> String {
-    let (low, high) = (allowed.start(), allowed.end());
-    if low == high {
-        format!("it must be {low}")
-    } else {
-        format!("it must be from {low} to {high}")
-    }
+    format!("it must be from {} to {}", allowed.start(), allowed.end())
 }
 
 /// Reads a number that a name has, or says what it may be.
@@ -85,9 +80,9 @@ fn header_number(line: &str, name: &str, allowed: &RangeInclusive<u16>) -> Resul
     }
 }
 
-/// Reads a site's line in a project of so many years and fills in its defaults.
-/// What the site writer would refuse is told in words.
-pub fn site(years: u8, line: &str) -> Result<Site, String> {
+/// Reads a site's line in a project of an edition and so many years and fills in
+/// its defaults. What the site writer would refuse is told in words.
+pub fn site(edition: u8, years: u8, line: &str) -> Result<Site, String> {
     let words: Vec<&str> = line.split_whitespace().collect();
     let (kind_name, pairs) = words.split_first().ok_or("an empty line")?;
     let kind = KIND_NAMES.iter().position(|name| name == kind_name);
@@ -97,9 +92,9 @@ pub fn site(years: u8, line: &str) -> Result<Site, String> {
     })?;
     let mut site = Site::empty(kind as u8);
     for pair in pairs.chunks(2) {
-        read_value(&mut site, years, pair)?;
+        read_value(&mut site, edition, years, pair)?;
     }
-    let table = rules(site.kind).unwrap_or(&[]);
+    let table = rules(edition, site.kind).unwrap_or(&[]);
     fill_defaults(&mut site, table);
     table.iter().try_for_each(|rule| matched(&site, rule))?;
     Ok(site)
@@ -107,15 +102,15 @@ pub fn site(years: u8, line: &str) -> Result<Site, String> {
 
 /// Reads a field's name and its number, or a traffic's number for each year,
 /// into a site.
-fn read_value(site: &mut Site, years: u8, pair: &[&str]) -> Result<(), String> {
+fn read_value(site: &mut Site, edition: u8, years: u8, pair: &[&str]) -> Result<(), String> {
     let name = pair[0];
     let known = FIELD_NAMES.iter().find(|(_, known)| *known == name);
     let (field, _) = *known.ok_or_else(|| format!("there is no field {name:?}"))?;
     let text = pair.get(1).ok_or_else(|| format!("{name} has no number"))?;
-    let mut table = rules(site.kind).unwrap_or(&[]).iter();
+    let mut table = rules(edition, site.kind).unwrap_or(&[]).iter();
     let Some(rule) = table.find(|rule| rule.field == field) else {
-        let kind = KIND_NAMES[usize::from(site.kind)];
-        return Err(format!("{name} is {text}; a {kind} has no such field"));
+        let lacks = lacking(edition, site.kind, field);
+        return Err(format!("{name} is {text}; {lacks}"));
     };
     if site.get(field).is_some() {
         return Err(format!("{name} stands twice"));
@@ -126,6 +121,16 @@ fn read_value(site: &mut Site, years: u8, pair: &[&str]) -> Result<(), String> {
         site.set(field, Some(number(name, text, &rule.range())?));
     }
     Ok(())
+}
+
+/// That a kind lacks a field, with the edition where another one has it.
+fn lacking(edition: u8, kind: u8, field: Field) -> String {
+    let name = KIND_NAMES[usize::from(kind)];
+    if editions_with(kind, field).is_empty() {
+        format!("a {name} has no such field")
+    } else {
+        format!("a {name} has no such field in edition {edition}")
+    }
 }
 
 /// Reads the numbers of a traffic's years.
@@ -220,7 +225,7 @@ pub fn parse(text: &str) -> Result<Project, String> {
         if sites.len() == MOST_SITES {
             return Err(place(format!("there may be {MOST_SITES} sites at most")));
         }
-        let site = site(header.years, line).map_err(place)?;
+        let site = site(header.edition, header.years, line).map_err(place)?;
         sites.push(site);
     }
     Ok(Project { header, sites })

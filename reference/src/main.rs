@@ -1,7 +1,7 @@
 //! Commands of the reference; `reference` alone prints the usage.
 
 use reference::estimates::Estimates;
-use reference::model::FIRST_EDITION;
+use reference::model::{FIRST_EDITION, SECOND_EDITION};
 use reference::natural::Natural;
 use reference::prediction::{report, site_estimates};
 use reference::program::{check, Tally};
@@ -26,7 +26,8 @@ usage: reference COMMAND ...
   report                   a project file on standard input to a report made
                            from the estimates at depth 9
   stored NAME              the numbers that the engine stores, one a line:
-                           powers, logarithms, exponentials, bases or hazards
+                           powers, logarithms, exponentials, bases-one,
+                           bases-two (by edition) or hazards
   figures                  what the engine's program bracket_figures prints
 PROJECT is a project file or a file of lines as `dump` prints them; `-` is
 standard input. What is refused ends with a message on standard error and a
@@ -86,7 +87,8 @@ fn print_stored(name: &str) -> Outcome {
         "powers" => stored::powers(),
         "logarithms" => stored::logarithms(),
         "exponentials" => stored::exponentials(),
-        "bases" => stored::bases(),
+        "bases-one" => stored::bases(&FIRST_EDITION),
+        "bases-two" => stored::bases(&SECOND_EDITION),
         "hazards" => stored::hazards(),
         _ => return Err(USAGE.to_string()),
     };
@@ -127,11 +129,10 @@ fn make() -> Outcome {
 /// A refusal is printed as the engine's program prints it, and told in words.
 fn print_own_report() -> Outcome {
     match parse_project(&read_input("-")?) {
-        Ok(project) => print(print_report(&report(
-            &FIRST_EDITION,
-            &project,
-            REPORT_DEPTH,
-        ))),
+        Ok(project) => {
+            let model = project.header.model();
+            print(print_report(&report(model, &project, REPORT_DEPTH)))
+        }
         Err(refusal) => {
             print(format!("{refusal}\n"))?;
             Err(refusal.in_words())
@@ -156,7 +157,7 @@ fn estimate_lines(project: &Project, depth: u32) -> String {
     let mut text = String::new();
     let mut sums = [(); 4].map(|()| Sum::default());
     for (index, site) in project.sites.iter().enumerate() {
-        let estimates = site_estimates(&FIRST_EDITION, &project.header, site, depth);
+        let estimates = site_estimates(project.header.model(), &project.header, site, depth);
         let (predicted, expected) = (&estimates.predicted, &estimates.expected);
         text.push_str(&format!(
             "site {} predicted {} expected {}\n",

@@ -1,8 +1,10 @@
-//! The numbers of the crash model (FHWA-RD-99-207 as document 01 states it),
-//! each in one place. Another edition is another `Model`.
+//! The numbers of the crash model, each in one place: FHWA-RD-99-207 as document
+//! 01 states it, and what Chapter 10 of the Highway Safety Manual has in place of
+//! them, as document 02 states it. Another edition is another `Model`.
 
 use crate::rational::Rational;
-use crate::rules;
+use crate::record::Site;
+use crate::rules::{self, Field};
 
 /// A number of the model, as a fraction of two whole numbers.
 #[derive(Clone, Copy, Debug)]
@@ -53,6 +55,35 @@ pub struct Superelevation {
     pub second_slope: u64,
 }
 
+/// The factor of a grade in percent.
+#[derive(Clone, Copy, Debug)]
+pub enum Grade {
+    /// This to the power of the grade.
+    Power(Fraction),
+    /// Hundredths, the first up to and with the first of two grades, the second
+    /// up to and with the other, and the third above.
+    Steps { most: [u64; 2], factors: [u64; 3] },
+}
+
+/// k of a segment.
+#[derive(Clone, Copy, Debug)]
+pub enum SegmentOverdispersion {
+    Constant(Fraction),
+    /// This over the length in thousandths of a mile.
+    OverLength(u64),
+}
+
+impl SegmentOverdispersion {
+    fn of(self, site: &Site) -> Rational {
+        match self {
+            SegmentOverdispersion::Constant(k) => k.exact(),
+            SegmentOverdispersion::OverLength(over) => {
+                Rational::of(over, site.value(Field::Length))
+            }
+        }
+    }
+}
+
 #[derive(Clone, Copy, Debug)]
 pub struct SegmentModel {
     /// The base model is e to the power of minus this.
@@ -70,8 +101,7 @@ pub struct SegmentModel {
     pub curve_radius: Fraction,
     pub curve_spiral: Fraction,
     pub superelevation: Superelevation,
-    /// Base of the grade's power.
-    pub grade: Fraction,
+    pub grade: Grade,
     /// 0.0047, 0.0024, 1.199 and 0.35 of the two-way lane's formula.
     pub two_way_linear: Fraction,
     pub two_way_square: Fraction,
@@ -82,12 +112,14 @@ pub struct SegmentModel {
     pub passing: [u64; 3],
     pub hazard_slope: Fraction,
     pub hazard_base: u64,
-    /// 0.2, 0.05, 0.005 and 5 of the driveway part.
+    /// 0.2, 0.05, 0.005 and 5 of the driveway part; fewer driveways than the
+    /// fewest give 1.
     pub driveway_offset: Fraction,
     pub driveway_slope: Fraction,
     pub driveway_log_slope: Fraction,
     pub driveway_base: u64,
-    pub overdispersion: Fraction,
+    pub driveway_fewest: u64,
+    pub overdispersion: SegmentOverdispersion,
 }
 
 #[derive(Clone, Copy, Debug)]
@@ -124,6 +156,14 @@ pub const FIRST_EDITION: Model = Model {
     four_leg_signal: FOUR_LEG_SIGNAL,
 };
 
+/// The model of edition 2.
+pub const SECOND_EDITION: Model = Model {
+    segment: MANUAL_SEGMENT,
+    three_leg_stop: MANUAL_THREE_LEG_STOP,
+    four_leg_stop: MANUAL_FOUR_LEG_STOP,
+    four_leg_signal: MANUAL_FOUR_LEG_SIGNAL,
+};
+
 const SEGMENT: SegmentModel = SegmentModel {
     base_exponent: Fraction(4_865, 10_000),
     exposure: Fraction(365, 1_000_000),
@@ -154,7 +194,7 @@ const SEGMENT: SegmentModel = SegmentModel {
         at_turn: Fraction(106, 100),
         second_slope: 3,
     },
-    grade: Fraction(1_016, 1_000),
+    grade: Grade::Power(Fraction(1_016, 1_000)),
     two_way_linear: Fraction(47, 10_000),
     two_way_square: Fraction(24, 10_000),
     two_way_offset: Fraction(1_199, 1_000),
@@ -167,7 +207,21 @@ const SEGMENT: SegmentModel = SegmentModel {
     driveway_slope: Fraction(5, 100),
     driveway_log_slope: Fraction(5, 1_000),
     driveway_base: 5,
-    overdispersion: Fraction(31, 100),
+    driveway_fewest: 0,
+    overdispersion: SegmentOverdispersion::Constant(Fraction(31, 100)),
+};
+
+const MANUAL_SEGMENT: SegmentModel = SegmentModel {
+    base_exponent: Fraction(312, 1_000),
+    related_share: Fraction(574, 1_000),
+    grade: Grade::Steps {
+        most: [3, 6],
+        factors: [100, 110, 116],
+    },
+    driveway_offset: Fraction(322, 1_000),
+    driveway_fewest: 5,
+    overdispersion: SegmentOverdispersion::OverLength(236),
+    ..SEGMENT
 };
 
 const THREE_LEG_STOP: CrossingModel = CrossingModel {
@@ -208,6 +262,28 @@ const FOUR_LEG_SIGNAL: CrossingModel = CrossingModel {
     overdispersion: Fraction(11, 100),
 };
 
+// Edition 2's crossings hold no quadrants: the step is never read.
+const MANUAL_THREE_LEG_STOP: CrossingModel = CrossingModel {
+    base_exponent: Fraction(986, 100),
+    left_turn: [1_000, 560, 560],
+    right_turn: [1_000, 860, 860],
+    ..THREE_LEG_STOP
+};
+
+const MANUAL_FOUR_LEG_STOP: CrossingModel = CrossingModel {
+    base_exponent: Fraction(856, 100),
+    left_turn: [1_000, 720, 520],
+    right_turn: [1_000, 860, 740],
+    ..FOUR_LEG_STOP
+};
+
+// Its left-turn lanes are those of edition 1.
+const MANUAL_FOUR_LEG_SIGNAL: CrossingModel = CrossingModel {
+    base_exponent: Fraction(513, 100),
+    right_turn: [1_000, 960, 920],
+    ..FOUR_LEG_SIGNAL
+};
+
 /// What a kind's prediction is made from.
 pub enum KindModel<'a> {
     Segment(&'a SegmentModel),
@@ -215,6 +291,15 @@ pub enum KindModel<'a> {
 }
 
 impl Model {
+    /// The model of an edition. Panics for an edition that there is not.
+    pub fn of_edition(edition: u8) -> &'static Model {
+        match edition {
+            rules::EDITION_ONE => &FIRST_EDITION,
+            rules::EDITION_TWO => &SECOND_EDITION,
+            _ => panic!("an edition that there is"),
+        }
+    }
+
     /// The model of a kind. Panics for a kind above 3.
     pub fn of_kind(&self, kind: u8) -> KindModel<'_> {
         match kind {
@@ -227,10 +312,24 @@ impl Model {
     }
 
     /// k of the Empirical Bayes formula. Panics for a kind above 3.
-    pub fn overdispersion(&self, kind: u8) -> Fraction {
-        match self.of_kind(kind) {
-            KindModel::Segment(segment) => segment.overdispersion,
-            KindModel::Crossing(crossing) => crossing.overdispersion,
+    pub fn overdispersion(&self, site: &Site) -> Rational {
+        match self.of_kind(site.kind) {
+            KindModel::Segment(segment) => segment.overdispersion.of(site),
+            KindModel::Crossing(crossing) => crossing.overdispersion.exact(),
         }
+    }
+
+    /// How often an observed crash of a site counts in the width of its expected
+    /// pair: "an observed crash on a segment counts 1 + k times" where k is
+    /// larger the shorter the segment, and otherwise once.
+    pub fn crash_weight(&self, site: &Site) -> Rational {
+        let k = match self.of_kind(site.kind) {
+            KindModel::Segment(SegmentModel {
+                overdispersion: k @ SegmentOverdispersion::OverLength(_),
+                ..
+            }) => k.of(site),
+            _ => Rational::zero(),
+        };
+        &Rational::one() + &k
     }
 }

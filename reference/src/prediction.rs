@@ -65,7 +65,7 @@ fn segment_traffic(model: &SegmentModel, site: &Site, depth: u32) -> Estimates {
 }
 
 /// e^(0.0668 (rating - 3)); a rating below 3 makes the exponent negative.
-fn hazard(model: &SegmentModel, rating: u64, depth: u32) -> Estimates {
+pub fn hazard(model: &SegmentModel, rating: u64, depth: u32) -> Estimates {
     let distance = rating.abs_diff(model.hazard_base);
     let x = &model.hazard_slope.exact() * &Rational::whole(distance);
     if rating < model.hazard_base {
@@ -116,7 +116,7 @@ pub fn expected(model: &Model, site: &Site, predicted: &Estimates) -> Estimates 
     let Some(observed) = site.observed() else {
         return predicted.clone();
     };
-    let k = model.overdispersion(site.kind).exact();
+    let k = model.overdispersion(site);
     Estimates {
         under: expected_value(&predicted.under, observed, &k),
         over: expected_value(&predicted.over, observed, &k),
@@ -139,7 +139,7 @@ pub fn expected_pair(model: &Model, site: &Site, low: u64, high: u64) -> (Natura
     let Some(observed) = site.observed() else {
         return (low.into(), high.into());
     };
-    let k = model.overdispersion(site.kind).exact();
+    let k = model.overdispersion(site);
     let at = |millionths| expected_value(&Rational::of(millionths, MILLION), observed, &k);
     let million = Natural::from(MILLION);
     (

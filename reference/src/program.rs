@@ -2,7 +2,6 @@
 
 use crate::checker::report_faults;
 use crate::generate::{damaged_file, largest_project, project, Random};
-use crate::model::FIRST_EDITION;
 use crate::project::{parse_project, write_project};
 use crate::report::parse_report;
 use std::io::{self, Read, Write};
@@ -65,7 +64,7 @@ pub fn judge(input: &[u8], output: &str, depths: &[u32]) -> Result<(), String> {
         Ok(project) => project,
     };
     let report = parse_report(output)?;
-    let faults = report_faults(&FIRST_EDITION, &project, &report, depths);
+    let faults = report_faults(project.header.model(), &project, &report, depths);
     match faults.first() {
         None => Ok(()),
         Some(fault) => Err(format!("{fault} ({} faults)", faults.len())),

@@ -1,8 +1,11 @@
 //! The project file: header and records, with document 01's refusals in
 //! their order, and those of document 02's writer.
 
+use crate::model::Model;
 use crate::record::{cause, read_site, write_site, Refusal, Site, LONGEST_RECORD};
-use crate::rules::{years_within, EDITION, MOST_CALIBRATION, MOST_SITES, MOST_YEARS};
+use crate::rules::{
+    edition_within, years_within, LAST_EDITION, MOST_CALIBRATION, MOST_SITES, MOST_YEARS,
+};
 
 /// Bytes of the header.
 pub const HEADER: usize = 8;
@@ -22,20 +25,39 @@ pub struct Header {
 
 impl Header {
     /// The greatest of a header's numbers; the least are 1.
-    pub const MOST: [u64; 3] = [
+    pub const MOST: [u64; 4] = [
+        LAST_EDITION as u64,
         MOST_YEARS as u64,
         MOST_CALIBRATION as u64,
         MOST_CALIBRATION as u64,
     ];
 
-    /// Years, segment calibration and crossing calibration, as a writer takes
-    /// them.
-    pub fn numbers(&self) -> [u64; 3] {
+    /// Edition, years, segment calibration and crossing calibration, as a writer
+    /// takes them.
+    pub fn numbers(&self) -> [u64; 4] {
         [
+            self.edition.into(),
             self.years.into(),
             self.segment_calibration.into(),
             self.crossing_calibration.into(),
         ]
+    }
+
+    /// The model of the header's edition. Panics for an edition that there is
+    /// not.
+    pub fn model(&self) -> &'static Model {
+        Model::of_edition(self.edition)
+    }
+
+    /// The site and the length of the record that a part starts with, in a
+    /// project of this header.
+    pub fn read_site(&self, part: &[u8]) -> Result<(Site, usize), u8> {
+        read_site(self.edition.into(), self.years.into(), part)
+    }
+
+    /// The record of a site in a project of this header.
+    pub fn write_site(&self, site: &Site) -> Result<Vec<u8>, u8> {
+        write_site(self.edition.into(), self.years.into(), site, usize::MAX)
     }
 }
 
@@ -77,7 +99,7 @@ fn read_header(file: &[u8]) -> Result<(Header, usize), Refusal> {
         crossing_calibration: number(4),
     };
     let sites = usize::from(number(6));
-    if header.edition != EDITION {
+    if edition_within(header.edition.into()).is_none() {
         return refuse(cause::EDITION, 0);
     }
     if !limits_kept(&header, sites) {
@@ -89,11 +111,10 @@ fn read_header(file: &[u8]) -> Result<(Header, usize), Refusal> {
 /// Reads a project file whose report has space: refusals 1 to 9.
 pub fn parse_project(file: &[u8]) -> Result<Project, Refusal> {
     let (header, count) = read_header(file)?;
-    let years = header.years.into();
     let mut sites = Vec::with_capacity(count);
     let mut at = HEADER;
     for _ in 0..count {
-        let read = read_site(years, &file[at..]);
+        let read = header.read_site(&file[at..]);
         let (site, length) = read.map_err(|number| Refusal::of(number, at))?;
         sites.push(site);
         at += length;
@@ -122,11 +143,12 @@ pub fn encode_header(header: &Header, sites: u16) -> Vec<u8> {
     file
 }
 
-/// The header of these numbers, where it and so many sites keep the limits.
-fn header_within(numbers: [u64; 3], sites: usize) -> Option<Header> {
+/// The header of these numbers, where it and so many sites keep the limits of
+/// their edition, which there is.
+fn header_within(edition: u8, numbers: [u64; 3], sites: usize) -> Option<Header> {
     let [years, segments, crossings] = numbers;
     let header = Header {
-        edition: EDITION,
+        edition,
         years: years.try_into().ok()?,
         segment_calibration: segments.try_into().ok()?,
         crossing_calibration: crossings.try_into().ok()?,
@@ -135,15 +157,20 @@ fn header_within(numbers: [u64; 3], sites: usize) -> Option<Header> {
 }
 
 /// Writes the file of a header's numbers and a list of sites, for a buffer of
-/// `room` bytes: 4 at place 0 for the header and the count of sites, then 8 at
-/// the index of the first site that the site writer refuses, then 10 at 0.
-pub fn write_file(header: [u64; 3], sites: &[Site], room: usize) -> Result<Vec<u8>, Refusal> {
-    let Some(header) = header_within(header, sites.len()) else {
+/// `room` bytes: 3 at place 0 for the edition, then 4 at 0 for the rest of the
+/// header and the count of sites, then 8 at the index of the first site that the
+/// site writer refuses, then 10 at 0.
+pub fn write_file(header: [u64; 4], sites: &[Site], room: usize) -> Result<Vec<u8>, Refusal> {
+    let [edition, numbers @ ..] = header;
+    let Some(edition) = edition_within(edition) else {
+        return refuse(cause::EDITION, 0);
+    };
+    let Some(header) = header_within(edition, numbers, sites.len()) else {
         return refuse(cause::HEADER_LIMITS, 0);
     };
     let mut file = encode_header(&header, sites.len() as u16);
     for (index, site) in sites.iter().enumerate() {
-        let record = write_site(header.years.into(), site, usize::MAX);
+        let record = header.write_site(site);
         file.extend(record.map_err(|number| Refusal::of(number, index))?);
     }
     if room < file.len() {
@@ -152,11 +179,7 @@ pub fn write_file(header: [u64; 3], sites: &[Site], room: usize) -> Result<Vec<u
     Ok(file)
 }
 
-/// Writes a project's file with the room that it needs; an edition that is not
-/// 1 is 3 at place 0, tried first.
+/// Writes a project's file with the room that it needs.
 pub fn write_project(project: &Project) -> Result<Vec<u8>, Refusal> {
-    if project.header.edition != EDITION {
-        return refuse(cause::EDITION, 0);
-    }
     write_file(project.header.numbers(), &project.sites, usize::MAX)
 }

@@ -15,7 +15,7 @@ use crate::estimates::Estimates;
 use crate::rational::Rational;
 use crate::record::Site;
 use crate::rules::{
-    Field, FOUR_LEG_SIGNAL, FOUR_LEG_STOP, SEGMENT, THREE_LEG_STOP, TRAFFIC_FIELDS,
+    Field, EDITION_ONE, FOUR_LEG_SIGNAL, FOUR_LEG_STOP, SEGMENT, THREE_LEG_STOP, TRAFFIC_FIELDS,
 };
 
 /// Whether both estimates round to `printed` units of 1/`unit`.
@@ -180,7 +180,7 @@ fn of_segments<const N: usize>(
     let halves = printed.chunks(TRAFFIC.len()).zip(measures).zip(slips);
     let block = |((half, measure), slips): ((&[[u64; N]], Measure), Vec<Slip>)| {
         let row = |(printed, traffic): (&[u64; N], u16)| {
-            let plain = Site::plain(SEGMENT, traffic, 1_000);
+            let plain = Site::plain(EDITION_ONE, SEGMENT, traffic, 1_000);
             let cell = |(column, printed): (usize, &u64)| Cell {
                 parts: parts(column, plain),
                 printed: *printed,
@@ -500,7 +500,7 @@ fn of_crossings<const N: usize>(
     slips: Vec<Slip>,
 ) -> Vec<Block> {
     let row = |(printed, (major, minor)): (&[u64; N], (u16, u16))| {
-        let plain = Site::plain(kind, major, minor);
+        let plain = Site::plain(EDITION_ONE, kind, major, minor);
         let cell = |(column, printed): (usize, &u64)| Cell {
             parts: one(site(column, plain)),
             printed: *printed,
@@ -764,7 +764,7 @@ fn of_field(
 /// the last column.
 fn table_3() -> Vec<Factor> {
     let widths = [0, 2, 4, 6, 8];
-    let plain = Site::plain(SEGMENT, 10_000, 20_000);
+    let plain = Site::plain(EDITION_ONE, SEGMENT, 10_000, 20_000);
     let factor = |material: usize, column: usize| {
         let base = plain.with(Field::ShoulderWidth, widths[column]);
         Factor {
@@ -785,9 +785,9 @@ fn table_3() -> Vec<Factor> {
 
 /// Tables 3, 4 and 5 and the factors that the report's text prints.
 pub fn factors() -> Vec<Factor> {
-    let segment = Site::plain(SEGMENT, 10_000, 20_000);
+    let segment = Site::plain(EDITION_ONE, SEGMENT, 10_000, 20_000);
     let curve = segment.with_curve(160, 843);
-    let crossing = |kind| Site::plain(kind, 10_000, 10_000);
+    let crossing = |kind| Site::plain(EDITION_ONE, kind, 10_000, 10_000);
     let (three, four, signal) = (
         crossing(THREE_LEG_STOP),
         crossing(FOUR_LEG_STOP),
@@ -927,7 +927,7 @@ const MINOR_TRAFFIC: [u16; 9] = [500, 550, 550, 530, 550, 580, 600, 620, 600];
 /// Table 24. The report does not give the segment's geometry. Its cells bear
 /// on one factor common to all years, here put in as a curve of that size.
 pub fn table_24() -> Example {
-    let site = Site::plain(SEGMENT, 1, 1_000).with_curve(1_000, 3_214);
+    let site = Site::plain(EDITION_ONE, SEGMENT, 1, 1_000).with_curve(1_000, 3_214);
     Example {
         name: "table 24",
         calibrations: SEGMENT_CALIBRATIONS,
@@ -940,7 +940,7 @@ pub fn table_24() -> Example {
 
 /// Table 25, as table 24.
 pub fn table_25() -> Example {
-    let site = Site::plain(SEGMENT, 1, 5_000).with_curve(999, 421);
+    let site = Site::plain(EDITION_ONE, SEGMENT, 1, 5_000).with_curve(999, 421);
     Example {
         name: "table 25",
         calibrations: SEGMENT_CALIBRATIONS,
@@ -954,7 +954,7 @@ pub fn table_25() -> Example {
 /// Table 27. The cells show a factor of 1.05, which is one quadrant with
 /// limited sight.
 pub fn table_27() -> Example {
-    let site = Site::plain(FOUR_LEG_STOP, 1, 1).with(Field::LimitedQuadrants, 1);
+    let site = Site::plain(EDITION_ONE, FOUR_LEG_STOP, 1, 1).with(Field::LimitedQuadrants, 1);
     Example {
         name: "table 27",
         calibrations: CROSSING_CALIBRATIONS,

@@ -1,8 +1,8 @@
 //! One site: its values, its record, the site reader and the site writer.
 
 use crate::rules::{
-    rules, years_within, Field, Presence, Rule, FIELD_NAMES, LATER_YEARS, SEGMENT, STOP_FIELDS,
-    TRAFFIC_FIELDS, YEARLY_BIT,
+    edition_within, rules, years_within, Field, Presence, Rule, FIELD_NAMES, LATER_YEARS, SEGMENT,
+    STOP_FIELDS, TRAFFIC_FIELDS, YEARLY_BIT,
 };
 use std::fmt;
 
@@ -39,7 +39,7 @@ const CAUSES: [(u8, &str); 10] = [
         "the file ends before its header or a record does",
     ),
     (cause::BYTES_AFTER, "there are bytes after the last record"),
-    (cause::EDITION, "the edition is not 1"),
+    (cause::EDITION, "the edition is neither 1 nor 2"),
     (
         cause::HEADER_LIMITS,
         "years, a calibration or the count of sites is outside its limits",
@@ -47,7 +47,7 @@ const CAUSES: [(u8, &str); 10] = [
     (cause::KIND, "the kind is above 3"),
     (
         cause::LACKING_BIT,
-        "a bit stands that the kind does not have",
+        "a bit stands that the kind does not have in this edition",
     ),
     (
         cause::UNMATCHED_BITS,
@@ -107,11 +107,11 @@ impl Site {
         }
     }
 
-    /// A straight site without history: these needed values, all else at its
-    /// default.
-    pub fn plain(kind: u8, traffic: u16, second: u16) -> Site {
+    /// A straight site of an edition without history: these needed values, all
+    /// else at its default.
+    pub fn plain(edition: u8, kind: u8, traffic: u16, second: u16) -> Site {
         let mut site = Site::empty(kind);
-        for rule in rules(kind).unwrap_or(&[]) {
+        for rule in rules(edition, kind).unwrap_or(&[]) {
             site.set(rule.field, rule.default().filter(|_| !rule.is_of_curve()));
         }
         let other = if kind == SEGMENT {
@@ -216,16 +216,23 @@ fn stands(map: u16, rule: &Rule) -> bool {
     map >> rule.bit & 1 == 1
 }
 
-/// Reads the record at the start of `part` in a project of so many years: the
-/// site and the record's length, or the number of the refusal, whose place is
-/// 0.
-pub fn read_site(years: u64, part: &[u8]) -> Result<(Site, usize), u8> {
+/// The edition (3), then the years (4) that a reader or writer of sites takes.
+fn within(edition: u64, years: u64) -> Result<(u8, u8), u8> {
+    let edition = edition_within(edition).ok_or(cause::EDITION)?;
     let years = years_within(years).ok_or(cause::HEADER_LIMITS)?;
+    Ok((edition, years))
+}
+
+/// Reads the record at the start of `part` in a project of an edition and so
+/// many years: the site and the record's length, or the number of the refusal,
+/// whose place is 0.
+pub fn read_site(edition: u64, years: u64, part: &[u8]) -> Result<(Site, usize), u8> {
+    let (edition, years) = within(edition, years)?;
     if part.len() < RECORD_HEAD {
         return Err(cause::RUNS_PAST_END);
     }
     let kind = part[0];
-    let rules = rules(kind).ok_or(cause::KIND)?;
+    let rules = rules(edition, kind).ok_or(cause::KIND)?;
     let map = two_bytes(part, 1);
     check_map(map, years, rules)?;
     let standing = rules.iter().filter(|rule| stands(map, rule));
@@ -236,7 +243,8 @@ pub fn read_site(years: u64, part: &[u8]) -> Result<(Site, usize), u8> {
     }
     let words = part[RECORD_HEAD..length].chunks_exact(2);
     let mut values = words.map(|word| two_bytes(word, 0));
-    let site = read_fields(kind, map, years, &mut values)?;
+    let mut site = Site::empty(kind);
+    read_fields(&mut site, map, years, rules, &mut values)?;
     Ok((site, length))
 }
 
@@ -284,13 +292,12 @@ fn check_map(map: u16, years: u8, rules: &[Rule]) -> Result<(), u8> {
 /// after its first; each value must be in its range (8) and no default (9).
 /// Absent fields take their defaults.
 fn read_fields(
-    kind: u8,
+    site: &mut Site,
     map: u16,
     years: u8,
+    rules: &[Rule],
     values: &mut impl Iterator<Item = u16>,
-) -> Result<Site, u8> {
-    let rules = rules(kind).ok_or(cause::KIND)?;
-    let mut site = Site::empty(kind);
+) -> Result<(), u8> {
     let mut next = |rule: &Rule| {
         let value = values.next().ok_or(cause::RUNS_PAST_END)?;
         rule.allows(value).then_some(value).ok_or(cause::RANGE)
@@ -310,15 +317,15 @@ fn read_fields(
         let applies = curve || !rule.is_of_curve();
         site.set(rule.field, rule.default().filter(|_| applies));
     }
-    Ok(site)
+    Ok(())
 }
 
-/// Writes a site's record in a project of so many years, dropping defaults, for
-/// a buffer of `room` bytes; or the number of the refusal, 4, 8 and then 10,
-/// whose place is 0.
-pub fn write_site(years: u64, site: &Site, room: usize) -> Result<Vec<u8>, u8> {
-    let years = years_within(years).ok_or(cause::HEADER_LIMITS)?;
-    let rules = rules(site.kind).ok_or(cause::RANGE)?;
+/// Writes a site's record in a project of an edition and so many years, dropping
+/// defaults, for a buffer of `room` bytes; or the number of the refusal, 3, 4, 8
+/// and then 10, whose place is 0.
+pub fn write_site(edition: u64, years: u64, site: &Site, room: usize) -> Result<Vec<u8>, u8> {
+    let (edition, years) = within(edition, years)?;
+    let rules = rules(edition, site.kind).ok_or(cause::RANGE)?;
     if !(values_allowed(site, rules) && later_allowed(site, years, rules)) {
         return Err(cause::RANGE);
     }

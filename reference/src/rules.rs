@@ -1,11 +1,17 @@
 //! The limits, kinds, fields and defaults of document 01 as document 02 amends
-//! it: one table for each kind, read by the reader, the writer, the generator
-//! and the text form.
+//! it: one table for each kind, with the editions that have each field, read by
+//! the reader, the writer, the generator and the text form.
 
 use std::ops::RangeInclusive;
 
+/// The editions, as their byte in a header: document 01's, and Chapter 10 of
+/// the Highway Safety Manual.
+pub const EDITION_ONE: u8 = 1;
+pub const EDITION_TWO: u8 = 2;
+pub const EDITIONS: [u8; 2] = [EDITION_ONE, EDITION_TWO];
+pub const LAST_EDITION: u8 = EDITIONS[EDITIONS.len() - 1];
+
 /// Limits of the header; that of sites is document 02's.
-pub const EDITION: u8 = 1;
 pub const MOST_YEARS: u8 = 10;
 pub const MOST_CALIBRATION: u16 = 9_999;
 pub const MOST_SITES: usize = 1_200;
@@ -23,7 +29,7 @@ pub const THREE_LEG_STOP: u8 = 1;
 pub const FOUR_LEG_STOP: u8 = 2;
 pub const FOUR_LEG_SIGNAL: u8 = 3;
 
-/// The kinds of the first edition with their names in the text form.
+/// The names of the kinds in the text form.
 pub const KIND_NAMES: [&str; 4] = ["segment", "3st", "4st", "4sg"];
 
 /// The values that a site may hold.
@@ -102,6 +108,8 @@ pub struct Rule {
     pub low: u16,
     pub high: u16,
     pub presence: Presence,
+    /// The editions that have the field.
+    pub editions: &'static [u8],
 }
 
 impl Field {
@@ -138,6 +146,11 @@ impl Rule {
     pub fn is_of_curve(&self) -> bool {
         matches!(self.presence, Presence::Curve | Presence::CurveDefault(_))
     }
+
+    /// The same rule where not every edition has the field.
+    const fn only_in(self, editions: &'static [u8]) -> Rule {
+        Rule { editions, ..self }
+    }
 }
 
 const fn rule(bit: u32, field: Field, low: u16, high: u16, presence: Presence) -> Rule {
@@ -147,6 +160,7 @@ const fn rule(bit: u32, field: Field, low: u16, high: u16, presence: Presence) -
         low,
         high,
         presence,
+        editions: &EDITIONS,
     }
 }
 
@@ -177,6 +191,11 @@ const fn count(bit: u32, field: Field, high: u16) -> Rule {
     rule(bit, field, 0, high, Presence::Default(0))
 }
 
+/// Sight is edition 1's alone: "Bit 6 of a crossing gets 6 in edition 2".
+const fn limited_quadrants(high: u16) -> Rule {
+    count(6, Field::LimitedQuadrants, high).only_in(&[EDITION_ONE])
+}
+
 const THREE_LEG_STOP_RULES: [Rule; 7] = [
     TRAFFIC,
     MINOR_TRAFFIC,
@@ -184,7 +203,7 @@ const THREE_LEG_STOP_RULES: [Rule; 7] = [
     count(3, Field::Skew, 60),
     count(4, Field::LeftTurnLanes, 1),
     count(5, Field::RightTurnLanes, 1),
-    count(6, Field::LimitedQuadrants, 2),
+    limited_quadrants(2),
 ];
 
 const FOUR_LEG_STOP_RULES: [Rule; 7] = [
@@ -194,10 +213,10 @@ const FOUR_LEG_STOP_RULES: [Rule; 7] = [
     count(3, Field::Skew, 60),
     count(4, Field::LeftTurnLanes, 2),
     count(5, Field::RightTurnLanes, 2),
-    count(6, Field::LimitedQuadrants, 4),
+    limited_quadrants(4),
 ];
 
-/// The fields of a stop crossing, both of whose traffics may be yearly.
+/// The most fields of a stop crossing, both of whose traffics may be yearly.
 pub const STOP_FIELDS: usize = FOUR_LEG_STOP_RULES.len();
 
 const FOUR_LEG_SIGNAL_RULES: [Rule; 5] = [
@@ -208,8 +227,8 @@ const FOUR_LEG_SIGNAL_RULES: [Rule; 5] = [
     count(5, Field::RightTurnLanes, 2),
 ];
 
-/// The rules of a kind in rising bit order, or nothing for a kind above 3.
-pub fn rules(kind: u8) -> Option<&'static [Rule]> {
+/// A kind's rules of every edition; those that one lacks stand last.
+fn table(kind: u8) -> Option<&'static [Rule]> {
     match kind {
         SEGMENT => Some(&SEGMENT_RULES),
         THREE_LEG_STOP => Some(&THREE_LEG_STOP_RULES),
@@ -217,6 +236,27 @@ pub fn rules(kind: u8) -> Option<&'static [Rule]> {
         FOUR_LEG_SIGNAL => Some(&FOUR_LEG_SIGNAL_RULES),
         _ => None,
     }
+}
+
+/// The rules of a kind in an edition, in rising bit order, or nothing for a kind
+/// above 3.
+pub fn rules(edition: u8, kind: u8) -> Option<&'static [Rule]> {
+    let table = table(kind)?;
+    let held = table.partition_point(|rule| rule.editions.contains(&edition));
+    Some(&table[..held])
+}
+
+/// The editions in which a kind has a field.
+pub fn editions_with(kind: u8, field: Field) -> &'static [u8] {
+    let mut table = table(kind).unwrap_or(&[]).iter();
+    let rule = table.find(|rule| rule.field == field);
+    rule.map_or(&[], |rule| rule.editions)
+}
+
+/// An edition that there is.
+pub fn edition_within(edition: u64) -> Option<u8> {
+    let edition = u8::try_from(edition).ok()?;
+    EDITIONS.contains(&edition).then_some(edition)
 }
 
 /// Years within the header's limits.

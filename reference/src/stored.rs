@@ -1,7 +1,9 @@
 //! The numbers that the engine stores, derived anew from the estimates.
 
-use crate::estimates::{exponential, exponential_under, logarithm, power, Estimates};
+use crate::estimates::{exponential_of_negative, exponential_under, logarithm, power, Estimates};
+use crate::model::{Fraction, Model, FIRST_EDITION};
 use crate::natural::Natural;
+use crate::prediction::hazard;
 use crate::rational::Rational;
 
 /// Stored powers are of 1 to 256, at these exponents in hundredths.
@@ -46,14 +48,6 @@ pub fn logarithms() -> Vec<u64> {
 /// Base and hazard factors are in units of 10^-13.
 const FACTOR_PLACES: u32 = 13;
 
-/// By kind, x of the base factor e^(-x), in ten-thousandths.
-const BASE_EXPONENTS: [u64; 4] = [4_865, 109_000, 93_400, 57_300];
-
-/// What a step of the hazard rating adds to the exponent, in ten-thousandths,
-/// and the rating at which the factor is 1.
-const HAZARD_STEP: u64 = 668;
-const HAZARD_BASE: u64 = 3;
-
 /// Each factor's estimates rounded outward, the low and the high side by side.
 fn outward(factors: impl Iterator<Item = Estimates>) -> Vec<u64> {
     let scale = Natural::power_of_ten(FACTOR_PLACES);
@@ -63,30 +57,22 @@ fn outward(factors: impl Iterator<Item = Estimates>) -> Vec<u64> {
         .collect()
 }
 
-/// e^x at depth 20, x in ten-thousandths.
-fn at_ten_thousandths(x: u64) -> Estimates {
-    exponential(&Rational::of(x, 10_000), EXPONENTIAL_DEPTH)
+/// The base factors of an edition by kind.
+pub fn bases(model: &Model) -> Vec<u64> {
+    let exponents = [
+        model.segment.base_exponent,
+        model.three_leg_stop.base_exponent,
+        model.four_leg_stop.base_exponent,
+        model.four_leg_signal.base_exponent,
+    ];
+    let factor = |x: Fraction| exponential_of_negative(&x.exact(), EXPONENTIAL_DEPTH);
+    outward(exponents.into_iter().map(factor))
 }
 
-/// The base factors by kind.
-pub fn bases() -> Vec<u64> {
-    outward(
-        BASE_EXPONENTS
-            .map(|x| at_ten_thousandths(x).reciprocal())
-            .into_iter(),
-    )
-}
-
-/// The hazard factors by rating, 1 to 7.
+/// The hazard factors by rating, 1 to 7, which both editions have.
 pub fn hazards() -> Vec<u64> {
-    outward((1..=7).map(|rating: u64| {
-        let factor = at_ten_thousandths(HAZARD_STEP * rating.abs_diff(HAZARD_BASE));
-        if rating < HAZARD_BASE {
-            factor.reciprocal()
-        } else {
-            factor
-        }
-    }))
+    let segment = &FIRST_EDITION.segment;
+    outward((1..=7).map(|rating| hazard(segment, rating, EXPONENTIAL_DEPTH)))
 }
 
 /// The under-estimate of each exponential at depth 20, rounded down.

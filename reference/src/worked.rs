@@ -1,7 +1,9 @@
-//! Worked figures: what each number of document 01's model makes of a site,
+//! Worked figures: what each number of an edition's model makes of a site,
 //! worked out by hand from the text of document 01 as document 02 amends it,
 //! and so apart from any table of the engine or of the reference. The working
-//! stands beside each figure.
+//! stands beside each figure. Quotations without a document are from document
+//! 01, and for edition 2 from document 02's sixth request. What both editions
+//! have is worked once and asked of both.
 //!
 //! A test hands in what a model makes of a site and gets the names of the
 //! figures that differ. Most figures are the ratio of two sites that differ in
@@ -15,8 +17,8 @@ use crate::project::Header;
 use crate::rational::Rational;
 use crate::record::Site;
 use crate::rules::{
-    Field, EDITION, FOUR_LEG_SIGNAL, FOUR_LEG_STOP, KIND_NAMES, MOST_CALIBRATION, MOST_YEARS,
-    SEGMENT, THREE_LEG_STOP, TRAFFIC_FIELDS,
+    Field, EDITIONS, EDITION_ONE, FOUR_LEG_SIGNAL, FOUR_LEG_STOP, KIND_NAMES, MOST_CALIBRATION,
+    MOST_YEARS, SEGMENT, THREE_LEG_STOP, TRAFFIC_FIELDS,
 };
 
 /// What is found may be as wide as the figure over this.
@@ -47,7 +49,30 @@ pub struct Figure {
     worked: &'static str,
 }
 
+/// The name of an edition's figure: the first edition's alone does not say its
+/// edition.
+pub fn named(edition: u8, name: &str) -> String {
+    if edition == EDITION_ONE {
+        name.to_string()
+    } else {
+        format!("edition {edition} {name}")
+    }
+}
+
 impl Figure {
+    /// The figure as one of an edition.
+    fn in_edition(mut self, edition: u8) -> Figure {
+        let cases = match &mut self.measure {
+            Measure::Predicted(case) | Measure::Overdispersion(case) => vec![case],
+            Measure::Ratio(case, base) => vec![case, base],
+        };
+        cases
+            .into_iter()
+            .for_each(|case| case.header.edition = edition);
+        self.name = named(edition, &self.name);
+        self
+    }
+
     /// The ends of what a model gives for the figure.
     fn found(&self, model: &impl Fn(&Header, &Site) -> SiteEstimates) -> Estimates {
         let of = |case: &Case| model(&case.header, &case.site);
@@ -139,9 +164,10 @@ fn distance(one: &Estimates, other: &Estimates) -> Estimates {
     }
 }
 
+/// A header whose edition `in_edition` sets.
 fn header(years: u8, segment_calibration: u16, crossing_calibration: u16) -> Header {
     Header {
-        edition: EDITION,
+        edition: EDITION_ONE,
         years,
         segment_calibration,
         crossing_calibration,
@@ -150,6 +176,23 @@ fn header(years: u8, segment_calibration: u16, crossing_calibration: u16) -> Hea
 
 /// A value of a field and the figure worked for it.
 type Row = (u16, &'static str);
+
+/// The figures of what the editions have otherwise, in the editions' order.
+type Each = [&'static str; EDITIONS.len()];
+
+/// A value of a field and the figures worked for it.
+type EachRow = (u16, Each);
+
+/// An edition's figure.
+fn own(edition: u8, each: Each) -> &'static str {
+    each[usize::from(edition - EDITION_ONE)]
+}
+
+/// An edition's rows.
+fn own_rows(edition: u8, rows: &[EachRow]) -> Vec<Row> {
+    let row = |(value, each): &EachRow| (*value, own(edition, *each));
+    rows.iter().map(row).collect()
+}
 
 /// The ratio of two sites.
 fn ratio(name: String, site: Site, base: Site, worked: &'static str) -> Figure {
@@ -193,68 +236,92 @@ fn of_field(name: &str, base: Site, field: Field, rows: &[Row]) -> Vec<Figure> {
 }
 
 /// 20 miles, straight and level, with every field at its default: lanes of 12
-/// feet, paved shoulders of 6, 5 driveways, rating 3. Every factor is 1.
+/// feet, paved shoulders of 6, 5 driveways, rating 3. Every factor is 1. Both
+/// editions have the same segments.
 fn road(traffic: u16) -> Site {
-    Site::plain(SEGMENT, traffic, 20_000)
+    Site::plain(EDITION_ONE, SEGMENT, traffic, 20_000)
 }
 
-/// A busy crossing without skew, turn lanes or limited sight.
-fn crossing(kind: u8) -> Site {
-    Site::plain(kind, 10_000, 10_000)
+/// A busy crossing of an edition without skew, turn lanes or limited sight.
+fn crossing(edition: u8, kind: u8) -> Site {
+    Site::plain(edition, kind, 10_000, 10_000)
 }
 
-/// "Lane": r by traffic, and 1 + 0.35(r - 1). A lane of 12 feet has 1.
-const LANES: [(u16, &[Row]); 5] = [
+/// "Lane": r by traffic, and 1 + 0.35(r - 1); "0.574 in place of 0.35": 1 +
+/// 0.574(r - 1). A lane of 12 feet has 1.
+const LANES: [(u16, &[EachRow]); 5] = [
     // Below 400: 1.05, 1.02, 1.01, 1.00; 8 feet is "9 or less".
     (
         399,
         &[
-            (8, "1.0175"),
-            (9, "1.0175"),
-            (10, "1.007"),
-            (11, "1.0035"),
-            (13, "1"),
-            (14, "1"),
+            (8, ["1.0175", "1.0287"]),
+            (9, ["1.0175", "1.0287"]),
+            (10, ["1.007", "1.01148"]),
+            (11, ["1.0035", "1.00574"]),
+            (13, ["1", "1"]),
+            (14, ["1", "1"]),
         ],
     ),
     // Nothing is added yet.
-    (400, &[(9, "1.0175"), (10, "1.007"), (11, "1.0035")]),
+    (
+        400,
+        &[
+            (9, ["1.0175", "1.0287"]),
+            (10, ["1.007", "1.01148"]),
+            (11, ["1.0035", "1.00574"]),
+        ],
+    ),
     // 600 times 0.000281, 0.000175 and 0.000025 added: 1.2186, 1.125, 1.025.
-    (1_000, &[(9, "1.07651"), (10, "1.04375"), (11, "1.00875")]),
+    (
+        1_000,
+        &[
+            (9, ["1.07651", "1.1254764"]),
+            (10, ["1.04375", "1.07175"]),
+            (11, ["1.00875", "1.01435"]),
+        ],
+    ),
     // 1,600 times: 1.4996, 1.30, 1.05.
-    (2_000, &[(9, "1.17486"), (10, "1.105"), (11, "1.0175")]),
+    (
+        2_000,
+        &[
+            (9, ["1.17486", "1.2867704"]),
+            (10, ["1.105", "1.1722"]),
+            (11, ["1.0175", "1.0287"]),
+        ],
+    ),
     // Above 2,000: 1.50, 1.30, 1.05, 1.00.
     (
         2_001,
         &[
-            (8, "1.175"),
-            (9, "1.175"),
-            (10, "1.105"),
-            (11, "1.0175"),
-            (13, "1"),
-            (14, "1"),
+            (8, ["1.175", "1.287"]),
+            (9, ["1.175", "1.287"]),
+            (10, ["1.105", "1.1722"]),
+            (11, ["1.0175", "1.0287"]),
+            (13, ["1", "1"]),
+            (14, ["1", "1"]),
         ],
     ),
 ];
 
 /// A paved shoulder below 400: 1.10, 1.07, 1.02, 1.00, 0.98; between them 1.085,
 /// 1.045, 1.01, 0.99.
-const LIGHT_SHOULDERS: [Row; 9] = [
-    (0, "1.035"),
-    (1, "1.02975"),
-    (2, "1.0245"),
-    (3, "1.01575"),
-    (4, "1.007"),
-    (5, "1.0035"),
-    (7, "0.9965"),
-    (8, "0.993"),
-    (9, "0.993"),
+const LIGHT_SHOULDERS: [EachRow; 9] = [
+    (0, ["1.035", "1.0574"]),
+    (1, ["1.02975", "1.04879"]),
+    (2, ["1.0245", "1.04018"]),
+    (3, ["1.01575", "1.02583"]),
+    (4, ["1.007", "1.01148"]),
+    (5, ["1.0035", "1.00574"]),
+    (7, ["0.9965", "0.99426"]),
+    (8, ["0.993", "0.98852"]),
+    (9, ["0.993", "0.98852"]),
 ];
 
 /// "Shoulder": a paved shoulder's width value by traffic, and 1 + 0.35(value -
-/// 1). A paved shoulder of 6 feet has 1. Document 02, request 2: "a width of 1,
-/// 3, 5 or 7 feet takes the mean of its two neighbours"; 8 feet is "8 or more".
-const SHOULDERS: [(u16, &[Row]); 5] = [
+/// 1), in edition 2 1 + 0.574(value - 1). A paved shoulder of 6 feet has 1.
+/// Document 02, request 2: "a width of 1, 3, 5 or 7 feet takes the mean of its
+/// two neighbours"; 8 feet is "8 or more".
+const SHOULDERS: [(u16, &[EachRow]); 5] = [
     (399, &LIGHT_SHOULDERS),
     // Nothing is added yet.
     (400, &LIGHT_SHOULDERS),
@@ -264,15 +331,15 @@ const SHOULDERS: [(u16, &[Row]); 5] = [
     (
         1_000,
         &[
-            (0, "1.0875"),
-            (1, "1.071015"),
-            (2, "1.05453"),
-            (3, "1.03929625"),
-            (4, "1.0240625"),
-            (5, "1.01203125"),
-            (7, "0.98928125"),
-            (8, "0.9785625"),
-            (9, "0.9785625"),
+            (0, ["1.0875", "1.1435"]),
+            (1, ["1.071015", "1.1164646"]),
+            (2, ["1.05453", "1.0894292"]),
+            (3, ["1.03929625", "1.06444585"]),
+            (4, ["1.0240625", "1.0394625"]),
+            (5, ["1.01203125", "1.01973125"]),
+            (7, ["0.98928125", "0.98242125"]),
+            (8, ["0.9785625", "0.9648425"]),
+            (9, ["0.9785625", "0.9648425"]),
         ],
     ),
     // 1,600 times: 1.50, 1.2988, 1.15, 0.87; between them 1.3994, 1.2244,
@@ -280,15 +347,15 @@ const SHOULDERS: [(u16, &[Row]); 5] = [
     (
         2_000,
         &[
-            (0, "1.175"),
-            (1, "1.13979"),
-            (2, "1.10458"),
-            (3, "1.07854"),
-            (4, "1.0525"),
-            (5, "1.02625"),
-            (7, "0.97725"),
-            (8, "0.9545"),
-            (9, "0.9545"),
+            (0, ["1.175", "1.287"]),
+            (1, ["1.13979", "1.2292556"]),
+            (2, ["1.10458", "1.1715112"]),
+            (3, ["1.07854", "1.1288056"]),
+            (4, ["1.0525", "1.0861"]),
+            (5, ["1.02625", "1.04305"]),
+            (7, ["0.97725", "0.96269"]),
+            (8, ["0.9545", "0.92538"]),
+            (9, ["0.9545", "0.92538"]),
         ],
     ),
     // Above 2,000: 1.50, 1.30, 1.15, 1.00, 0.87; between them 1.40, 1.225,
@@ -296,40 +363,49 @@ const SHOULDERS: [(u16, &[Row]); 5] = [
     (
         2_001,
         &[
-            (0, "1.175"),
-            (1, "1.14"),
-            (2, "1.105"),
-            (3, "1.07875"),
-            (4, "1.0525"),
-            (5, "1.02625"),
-            (7, "0.97725"),
-            (8, "0.9545"),
-            (9, "0.9545"),
-            (10, "0.9545"),
+            (0, ["1.175", "1.287"]),
+            (1, ["1.14", "1.2296"]),
+            (2, ["1.105", "1.1722"]),
+            (3, ["1.07875", "1.12915"]),
+            (4, ["1.0525", "1.0861"]),
+            (5, ["1.02625", "1.04305"]),
+            (7, ["0.97725", "0.96269"]),
+            (8, ["0.9545", "0.92538"]),
+            (9, ["0.9545", "0.92538"]),
+            (10, ["0.9545", "0.92538"]),
         ],
     ),
 ];
 
 /// A width's factors at each traffic.
-fn widths(name: &str, field: Field, rows: &[(u16, &[Row])]) -> Vec<Figure> {
-    let of_traffic = |(traffic, rows): &(u16, &[Row])| {
+fn widths(edition: u8, name: &str, field: Field, rows: &[(u16, &[EachRow])]) -> Vec<Figure> {
+    let of_traffic = |(traffic, rows): &(u16, &[EachRow])| {
         let name = format!("{name} at {traffic}, feet");
-        of_field(&name, road(*traffic), field, rows)
+        of_field(&name, road(*traffic), field, &own_rows(edition, rows))
     };
     rows.iter().flat_map(of_traffic).collect()
 }
 
 /// "Type multiplier at the same five widths", 0, 2, 4, 6 and 8 feet, with the
 /// means at 1, 3, 5 and 7 and the last column at 9, above 2,000 vehicles: 1 +
-/// 0.35(width value times type value - 1), where the width values are 1.50, 1.40,
-/// 1.30, 1.225, 1.15, 1.075, 1.00, 0.935 and twice 0.87.
-const SHOULDER_TYPES: [(&str, [&str; 10]); 4] = [
+/// 0.35(width value times type value - 1), in edition 2 with 0.574, where the
+/// width values are 1.50, 1.40, 1.30, 1.225, 1.15, 1.075, 1.00, 0.935 and twice
+/// 0.87.
+const SHOULDER_TYPES: [(&str, [Each; 10]); 4] = [
     // All 1.00: the width values.
     (
         "paved",
         [
-            "1.175", "1.14", "1.105", "1.07875", "1.0525", "1.02625", "1", "0.97725", "0.9545",
-            "0.9545",
+            ["1.175", "1.287"],
+            ["1.14", "1.2296"],
+            ["1.105", "1.1722"],
+            ["1.07875", "1.12915"],
+            ["1.0525", "1.0861"],
+            ["1.02625", "1.04305"],
+            ["1", "1"],
+            ["0.97725", "0.96269"],
+            ["0.9545", "0.92538"],
+            ["0.9545", "0.92538"],
         ],
     ),
     // 1.00, 1.005, 1.01, 1.01, 1.01, 1.015, 1.02, 1.02, 1.02: 1.5, 1.407,
@@ -337,16 +413,16 @@ const SHOULDER_TYPES: [(&str, [&str; 10]); 4] = [
     (
         "gravel",
         [
-            "1.175",
-            "1.14245",
-            "1.10955",
-            "1.0830375",
-            "1.056525",
-            "1.03189375",
-            "1.007",
-            "0.983795",
-            "0.96059",
-            "0.96059",
+            ["1.175", "1.287"],
+            ["1.14245", "1.233618"],
+            ["1.10955", "1.179662"],
+            ["1.0830375", "1.1361815"],
+            ["1.056525", "1.092701"],
+            ["1.03189375", "1.05230575"],
+            ["1.007", "1.01148"],
+            ["0.983795", "0.9734238"],
+            ["0.96059", "0.9353676"],
+            ["0.96059", "0.9353676"],
         ],
     ),
     // 1.00, 1.01, 1.02, 1.025, 1.03, 1.035, 1.04, 1.05, 1.06: 1.5, 1.414,
@@ -354,16 +430,16 @@ const SHOULDER_TYPES: [(&str, [&str; 10]); 4] = [
     (
         "composite",
         [
-            "1.175",
-            "1.1449",
-            "1.1141",
-            "1.08946875",
-            "1.064575",
-            "1.03941875",
-            "1.014",
-            "0.9936125",
-            "0.97277",
-            "0.97277",
+            ["1.175", "1.287"],
+            ["1.1449", "1.237636"],
+            ["1.1141", "1.187124"],
+            ["1.08946875", "1.14672875"],
+            ["1.064575", "1.105903"],
+            ["1.03941875", "1.06464675"],
+            ["1.014", "1.02296"],
+            ["0.9936125", "0.9895245"],
+            ["0.97277", "0.9553428"],
+            ["0.97277", "0.9553428"],
         ],
     ),
     // 1.00, 1.015, 1.03, 1.04, 1.05, 1.065, 1.08, 1.095, 1.11: 1.5, 1.421,
@@ -371,16 +447,16 @@ const SHOULDER_TYPES: [(&str, [&str; 10]); 4] = [
     (
         "turf",
         [
-            "1.175",
-            "1.14735",
-            "1.11865",
-            "1.0959",
-            "1.072625",
-            "1.05070625",
-            "1.028",
-            "1.00833875",
-            "0.987995",
-            "0.987995",
+            ["1.175", "1.287"],
+            ["1.14735", "1.241654"],
+            ["1.11865", "1.194586"],
+            ["1.0959", "1.157276"],
+            ["1.072625", "1.119105"],
+            ["1.05070625", "1.08315825"],
+            ["1.028", "1.04592"],
+            ["1.00833875", "1.01367555"],
+            ["0.987995", "0.9803118"],
+            ["0.987995", "0.9803118"],
         ],
     ),
 ];
@@ -393,11 +469,12 @@ fn shoulder(name: String, traffic: u16, feet: u16, material: u16, worked: &'stat
     ratio(name, site, road(traffic), worked)
 }
 
-fn shoulder_types() -> Vec<Figure> {
+fn shoulder_types(edition: u8) -> Vec<Figure> {
     let mut figures = Vec::new();
     for (material, (name, row)) in (0..).zip(SHOULDER_TYPES) {
         for (feet, worked) in (0..).zip(row) {
             let name = format!("shoulder type {name}, feet {feet}");
+            let worked = own(edition, worked);
             figures.push(shoulder(name, 2_001, feet, material, worked));
         }
     }
@@ -406,20 +483,20 @@ fn shoulder_types() -> Vec<Figure> {
 
 /// 3 feet at 1,200 vehicles. The neighbours' widths are 1.07 + 0.000143 x 800 =
 /// 1.1844 and 1.02 + 0.00008125 x 800 = 1.085, their mean 1.1347.
-const MIDDLE_SHOULDERS: [(&str, u16, &str); 3] = [
+const MIDDLE_SHOULDERS: [(&str, u16, Each); 3] = [
     // Types 1.01 and 1.01: 1.1347 x 1.01 = 1.146047.
-    ("gravel", 1, "1.05111645"),
+    ("gravel", 1, ["1.05111645", "1.083830978"]),
     // Types 1.02 and 1.03: 1.1347 x 1.025 = 1.1630675.
-    ("composite", 2, "1.057073625"),
+    ("composite", 2, ["1.057073625", "1.093600745"]),
     // Types 1.03 and 1.05: 1.1347 x 1.04 = 1.180088. (The mean of the two
     // products, 1.219932 and 1.13925, would be 1.179591.)
-    ("turf", 3, "1.0630308"),
+    ("turf", 3, ["1.0630308", "1.103370512"]),
 ];
 
-fn middle_shoulders() -> Vec<Figure> {
+fn middle_shoulders(edition: u8) -> Vec<Figure> {
     let figure = |(name, material, worked)| {
         let name = format!("shoulder type {name} at 1200, feet 3");
-        shoulder(name, 1_200, 3, material, worked)
+        shoulder(name, 1_200, 3, material, own(edition, worked))
     };
     MIDDLE_SHOULDERS.into_iter().map(figure).collect()
 }
@@ -451,8 +528,28 @@ fn curves() -> Vec<Figure> {
     CURVES.into_iter().map(figure).collect()
 }
 
+/// An edition's factors of grades, to the power G and by steps.
+const GRADES: [&[Row]; EDITIONS.len()] = [
+    // 1.016 to the power G.
+    &[
+        (1, "1.016"),
+        (2, "1.032256"),
+        (6, "1.0999229093.."),
+        (12, "1.2098304065.."),
+    ],
+    // "1 up to 3 percent, 1.10 up to 6, and 1.16 above".
+    &[
+        (1, "1"),
+        (3, "1"),
+        (4, "1.10"),
+        (6, "1.10"),
+        (7, "1.16"),
+        (12, "1.16"),
+    ],
+];
+
 /// Superelevation, grade and passing.
-fn segment_factors() -> Vec<Figure> {
+fn segment_factors(edition: u8) -> Vec<Figure> {
     let plain = road(5_000);
     let bent = plain.with_curve(100, 1_000);
     // In thousandths: under 10, 1; to 20, 1 + 0.006 for each above 10; above,
@@ -465,22 +562,17 @@ fn segment_factors() -> Vec<Figure> {
         (21, "1.063"),
         (100, "1.3"),
     ];
-    // 1.016 to the power G.
-    let grades = [
-        (1, "1.016"),
-        (2, "1.032256"),
-        (6, "1.0999229093.."),
-        (12, "1.2098304065.."),
-    ];
+    let grades = GRADES[usize::from(edition - EDITION_ONE)];
     let mut figures = of_field("deficiency", bent, Field::Deficiency, &deficiencies);
-    figures.extend(of_field("grade", plain, Field::Grade, &grades));
+    figures.extend(of_field("grade", plain, Field::Grade, grades));
     let passing = [(1, "0.75"), (2, "0.65")];
     figures.extend(of_field("passing", plain, Field::Passing, &passing));
     figures
 }
 
 /// "Two-way lane present and DD at least 5": 1 - 0.35 P, P = Q/(1.199 + Q),
-/// Q = 0.0047 DD + 0.0024 DD^2; else 1.
+/// Q = 0.0047 DD + 0.0024 DD^2; else 1. Edition 2 has its 0.574 "in the lane and
+/// shoulder factors only".
 const TWO_WAY_LANES: [Row; 4] = [
     (4, "1"),
     // Q = 0.0235 + 0.06 = 0.0835: (1.2825 - 0.029225)/1.2825.
@@ -502,7 +594,7 @@ fn two_way_lanes() -> Vec<Figure> {
 }
 
 /// Hazard rating and driveways, which are no exact factors.
-fn segment_parts() -> Vec<Figure> {
+fn segment_parts(edition: u8) -> Vec<Figure> {
     // e^(0.0668(RHR - 3)).
     let ratings = [
         (1, "0.8749399706.."), // e^-0.1336
@@ -513,56 +605,110 @@ fn segment_parts() -> Vec<Figure> {
         (7, "1.3063016805.."), // e^0.2672
     ];
     let mut figures = of_field("hazard rating", road(5_000), Field::HazardRating, &ratings);
-    // (0.2 + c DD)/(0.2 + 5c), c = 0.05 - 0.005 ln A. At 5 driveways it is 1.
-    let rows: [(u16, &[Row]); 3] = [
-        // ln 1 is 0 and c is 0.05: over 0.45.
-        (1, &[(0, "4/9"), (4, "8/9"), (10, "14/9"), (50, "6")]),
-        // ln 400 = 5.9914645471 and c = 0.0200426773: over 0.3002133864.
-        (400, &[(0, "0.6661928118.."), (50, "4.0042646930..")]),
-        // ln 20,000 = 9.9034875525 and c = 0.0004825622: over 0.2024128112.
-        (20_000, &[(0, "0.9880797506.."), (50, "1.1072822443..")]),
-    ];
-    for (traffic, rows) in rows {
+    for (traffic, rows) in DRIVEWAYS {
         let name = format!("driveways at {traffic}, count");
-        figures.extend(of_field(&name, road(traffic), Field::Driveways, rows));
+        let rows = own_rows(edition, rows);
+        figures.extend(of_field(&name, road(traffic), Field::Driveways, &rows));
     }
     figures
 }
 
-/// Ratios of crossings that differ in one field.
-fn of_kinds(name: &str, field: Field, kinds: &[(u8, &[Row])]) -> Vec<Figure> {
-    let of_kind = |(kind, rows): &(u8, &[Row])| {
-        let name = format!("{} {name}", kind_name(*kind));
-        of_field(&name, crossing(*kind), field, rows)
-    };
-    kinds.iter().flat_map(of_kind).collect()
+/// (0.2 + c DD)/(0.2 + 5c), c = 0.05 - 0.005 ln A. At 5 driveways it is 1.
+/// Edition 2 has "0.322 in place of 0.2", "with fewer than 5 driveways giving 1".
+const DRIVEWAYS: [(u16, &[EachRow]); 3] = [
+    // ln 1 is 0 and c is 0.05: over 0.45 and over 0.572.
+    (
+        1,
+        &[
+            (0, ["4/9", "1"]),
+            (4, ["8/9", "1"]),
+            (6, ["10/9", "622/572"]),
+            (10, ["14/9", "822/572"]),
+            (50, ["6", "2822/572"]),
+        ],
+    ),
+    // ln 400 = 5.9914645471 and c = 0.0200426773: over 0.3002133864 and over
+    // 0.4222133864.
+    (
+        400,
+        &[
+            (0, ["0.6661928118..", "1"]),
+            (50, ["4.0042646930..", "3.1361721492.."]),
+        ],
+    ),
+    // ln 20,000 = 9.9034875525 and c = 0.0004825622: over 0.2024128112 and over
+    // 0.3244128112.
+    (
+        20_000,
+        &[
+            (0, ["0.9880797506..", "1"]),
+            (4, ["0.9976159501..", "1"]),
+            (50, ["1.1072822443..", "1.0669372476.."]),
+        ],
+    ),
+];
+
+/// Ratios of a kind's crossings that differ in one field.
+fn of_kind(edition: u8, kind: u8, name: &str, field: Field, rows: &[Row]) -> Vec<Figure> {
+    let name = format!("{} {name}", kind_name(kind));
+    of_field(&name, crossing(edition, kind), field, rows)
 }
 
+/// A kind with the figures of its turn lanes, one and two.
+type Turns = (u8, &'static [EachRow]);
+
 /// "Factors of a crossing".
-fn crossing_factors() -> Vec<Figure> {
-    let left = [
-        (THREE_LEG_STOP, &[(1, "0.78")][..]),
-        (FOUR_LEG_STOP, &[(1, "0.76"), (2, "0.58")]),
-        (FOUR_LEG_SIGNAL, &[(1, "0.82"), (2, "0.67")]),
-    ];
-    let right = [
-        (THREE_LEG_STOP, &[(1, "0.95")][..]),
-        (FOUR_LEG_STOP, &[(1, "0.95"), (2, "0.90")]),
-        (FOUR_LEG_SIGNAL, &[(1, "0.975"), (2, "0.95")]),
-    ];
-    // 1 + 0.05 for each quadrant.
-    let sight = [
-        (THREE_LEG_STOP, &[(1, "1.05"), (2, "1.10")][..]),
-        (FOUR_LEG_STOP, &[(1, "1.05"), (2, "1.10"), (4, "1.20")]),
-    ];
-    let mut figures = of_kinds("left-turn lanes", Field::LeftTurnLanes, &left);
-    figures.extend(of_kinds("right-turn lanes", Field::RightTurnLanes, &right));
-    figures.extend(of_kinds("sight", Field::LimitedQuadrants, &sight));
+const LEFT_TURNS: [Turns; 3] = [
+    (THREE_LEG_STOP, &[(1, ["0.78", "0.56"])]),
+    (
+        FOUR_LEG_STOP,
+        &[(1, ["0.76", "0.72"]), (2, ["0.58", "0.52"])],
+    ),
+    (
+        FOUR_LEG_SIGNAL,
+        &[(1, ["0.82", "0.82"]), (2, ["0.67", "0.67"])],
+    ),
+];
+const RIGHT_TURNS: [Turns; 3] = [
+    (THREE_LEG_STOP, &[(1, ["0.95", "0.86"])]),
+    (
+        FOUR_LEG_STOP,
+        &[(1, ["0.95", "0.86"]), (2, ["0.90", "0.74"])],
+    ),
+    (
+        FOUR_LEG_SIGNAL,
+        &[(1, ["0.975", "0.96"]), (2, ["0.95", "0.92"])],
+    ),
+];
+
+/// 1 + 0.05 for each quadrant with limited sight, which edition 2 has not.
+const SIGHT: [(u8, &[Row]); 2] = [
+    (THREE_LEG_STOP, &[(1, "1.05"), (2, "1.10")]),
+    (FOUR_LEG_STOP, &[(1, "1.05"), (2, "1.10"), (4, "1.20")]),
+];
+
+fn crossing_factors(edition: u8) -> Vec<Figure> {
+    let mut figures = Vec::new();
+    for (name, field, kinds) in [
+        ("left-turn lanes", Field::LeftTurnLanes, LEFT_TURNS),
+        ("right-turn lanes", Field::RightTurnLanes, RIGHT_TURNS),
+    ] {
+        for (kind, rows) in kinds {
+            let rows = own_rows(edition, rows);
+            figures.extend(of_kind(edition, kind, name, field, &rows));
+        }
+    }
+    if edition == EDITION_ONE {
+        for (kind, rows) in SIGHT {
+            let field = Field::LimitedQuadrants;
+            figures.extend(of_kind(edition, kind, "sight", field, rows));
+        }
+    }
     figures
 }
 
 /// A crossing's skew and the powers of its two traffics.
-fn crossing_parts() -> Vec<Figure> {
+fn crossing_parts(edition: u8) -> Vec<Figure> {
     // e^(0.0040 skew): e^0.0040, e^0.12 and e^0.24.
     let three = [
         (1, "1.0040080106.."),
@@ -575,8 +721,10 @@ fn crossing_parts() -> Vec<Figure> {
         (30, "1.1758602413.."),
         (60, "1.3826473071.."),
     ];
-    let skews: [(u8, &[Row]); 2] = [(THREE_LEG_STOP, &three), (FOUR_LEG_STOP, &four)];
-    let mut figures = of_kinds("skew", Field::Skew, &skews);
+    let mut figures = Vec::new();
+    for (kind, rows) in [(THREE_LEG_STOP, three), (FOUR_LEG_STOP, four)] {
+        figures.extend(of_kind(edition, kind, "skew", Field::Skew, &rows));
+    }
     // From 100 to 10,000 vehicles a power rises by 100^p, which is 10^(2p):
     // for the major road and for the minor.
     for (kind, major, minor) in [
@@ -587,7 +735,7 @@ fn crossing_parts() -> Vec<Figure> {
         // 0.60 and 0.20: 10^1.20 and 10^0.40.
         (FOUR_LEG_SIGNAL, "15.8489319246..", "2.5118864315.."),
     ] {
-        let busy = crossing(kind);
+        let busy = crossing(edition, kind);
         for (road, field, worked) in [
             ("major", Field::Traffic, major),
             ("minor", Field::MinorTraffic, minor),
@@ -604,31 +752,78 @@ fn kind_name(kind: u8) -> &'static str {
 }
 
 /// N of each kind with every factor 1, over 10 years with calibration 1.000. A
-/// segment's lane and shoulder have 1 at every traffic.
-fn bases() -> Vec<Figure> {
-    let rows = [
-        // 10 x 10,000 x 20 x 0.000365 is 730: 730 e^-0.4865.
-        ("segment base", road(10_000), "448.7852705960.."),
-        // 29.127 e^-0.4865, 73 e^-0.4865, 146 e^-0.4865.
-        ("segment base at 399", road(399), "17.9065322967.."),
-        ("segment base at 1000", road(1_000), "44.8785270596.."),
-        ("segment base at 2000", road(2_000), "89.7570541192.."),
-        // 10 x 10^(4 x 0.79) x 10^(4 x 0.49) is 10^6.12: 10^6.12 e^-10.9.
-        ("3st base", crossing(THREE_LEG_STOP), "24.3326913467.."),
-        // 10 x 10^(4 x 0.60) x 10^(4 x 0.61) is 10^5.84: 10^5.84 e^-9.34.
-        ("4st base", crossing(FOUR_LEG_STOP), "60.7700423529.."),
-        // 10 x 10^(4 x 0.60) x 10^(4 x 0.20) is 10^4.20: 10^4.20 e^-5.73.
-        ("4sg base", crossing(FOUR_LEG_SIGNAL), "51.4627060294.."),
-    ];
-    let figure = |row| predicted(header(10, 1_000, 1_000), row);
-    rows.into_iter().map(figure).collect()
+/// segment's lane and shoulder have 1 at every traffic. The name, the kind, the
+/// traffic, which a crossing has on both roads, and the figures.
+const BASES: [(&str, u8, u16, Each); 7] = [
+    // 10 x 10,000 x 20 x 0.000365 is 730: 730 e^-0.4865 and 730 e^-0.312.
+    (
+        "segment base",
+        SEGMENT,
+        10_000,
+        ["448.7852705960..", "534.3465156066.."],
+    ),
+    // The same with 29.127, 73 and 146 for 730.
+    (
+        "segment base at 399",
+        SEGMENT,
+        399,
+        ["17.9065322967..", "21.3204259727.."],
+    ),
+    (
+        "segment base at 1000",
+        SEGMENT,
+        1_000,
+        ["44.8785270596..", "53.4346515606.."],
+    ),
+    (
+        "segment base at 2000",
+        SEGMENT,
+        2_000,
+        ["89.7570541192..", "106.8693031213.."],
+    ),
+    // 10 x 10^(4 x 0.79) x 10^(4 x 0.49) is 10^6.12: 10^6.12 e^-10.9 and
+    // 10^6.12 e^-9.86.
+    (
+        "3st base",
+        THREE_LEG_STOP,
+        10_000,
+        ["24.3326913467..", "68.8424643632.."],
+    ),
+    // 10 x 10^(4 x 0.60) x 10^(4 x 0.61) is 10^5.84: 10^5.84 e^-9.34 and
+    // 10^5.84 e^-8.56.
+    (
+        "4st base",
+        FOUR_LEG_STOP,
+        10_000,
+        ["60.7700423529..", "132.5681619660.."],
+    ),
+    // 10 x 10^(4 x 0.60) x 10^(4 x 0.20) is 10^4.20: 10^4.20 e^-5.73 and
+    // 10^4.20 e^-5.13.
+    (
+        "4sg base",
+        FOUR_LEG_SIGNAL,
+        10_000,
+        ["51.4627060294..", "93.7711641752.."],
+    ),
+];
+
+fn bases(edition: u8) -> Vec<Figure> {
+    let figure = |(name, kind, traffic, each): (&str, u8, u16, Each)| {
+        let site = if kind == SEGMENT {
+            road(traffic)
+        } else {
+            Site::plain(edition, kind, traffic, traffic)
+        };
+        predicted(header(10, 1_000, 1_000), (name, site, own(edition, each)))
+    };
+    BASES.into_iter().map(figure).collect()
 }
 
 /// "Y x calibration x A x L": each kind has its own calibration, and neither
 /// that of the other.
-fn headers() -> Vec<Figure> {
+fn headers(edition: u8) -> Vec<Figure> {
     let one = header(1, 1_000, 1_000);
-    let (segment, signal) = (road(10_000), crossing(FOUR_LEG_SIGNAL));
+    let (segment, signal) = (road(10_000), crossing(edition, FOUR_LEG_SIGNAL));
     let double = segment.with(Field::Traffic, 20_000);
     let half = segment.with(Field::Length, 10_000);
     let rows = [
@@ -668,12 +863,15 @@ fn headers() -> Vec<Figure> {
     rows.into_iter().map(figure).collect()
 }
 
+/// k of a road of 20 miles: 0.31, and 236 / 20,000.
+const LONG_ROAD_K: Each = ["0.31", "0.0118"];
+
 /// "k is 0.31 segment, 0.54 3ST, 0.24 4ST, 0.11 4SG": with many crashes
 /// observed where few are predicted, and with none where some are. From the
 /// formula, k is (N - E)/(N(E - O)).
-fn overdispersions() -> Vec<Figure> {
+fn overdispersions(edition: u8) -> Vec<Figure> {
     let rows = [
-        (SEGMENT, "0.31"),
+        (SEGMENT, own(edition, LONG_ROAD_K)),
         (THREE_LEG_STOP, "0.54"),
         (FOUR_LEG_STOP, "0.24"),
         (FOUR_LEG_SIGNAL, "0.11"),
@@ -682,7 +880,7 @@ fn overdispersions() -> Vec<Figure> {
         let plain = if kind == SEGMENT {
             road(500)
         } else {
-            crossing(kind)
+            crossing(edition, kind)
         };
         Figure {
             name: format!("{} k at observed {observed}", kind_name(kind)),
@@ -697,120 +895,168 @@ fn overdispersions() -> Vec<Figure> {
     rows.into_iter().flat_map(both).collect()
 }
 
+/// "A segment's k is 236 divided by its length in thousandths of a mile": the
+/// lengths 1, 59, 236, 1,000 and 1,180.
+const LENGTHS_K: [EachRow; 5] = [
+    (1, ["0.31", "236"]),
+    (59, ["0.31", "4"]),
+    (236, ["0.31", "1"]),
+    (1_000, ["0.31", "0.236"]),
+    (1_180, ["0.31", "0.2"]),
+];
+
+fn overdispersions_by_length(edition: u8) -> Vec<Figure> {
+    let figure = |(length, worked)| Figure {
+        name: format!("segment k at length {length}"),
+        measure: Measure::Overdispersion(Case {
+            header: header(MOST_YEARS, MOST_CALIBRATION, 1),
+            site: road(20_000)
+                .with(Field::Length, length)
+                .with(Field::Observed, 500),
+        }),
+        worked,
+    };
+    let rows = own_rows(edition, &LENGTHS_K);
+    rows.into_iter().map(figure).collect()
+}
+
 /// N of sites of the demo corridor, which has 5 years and the calibrations
-/// 1.100 and 0.950.
-const WHOLE_SITES: [(&str, &str, &str); 7] = [
+/// 1.100 and 0.950: the name, the site's line, what only edition 1 has of it, and
+/// the figures. Edition 2's working has its own exponents and factors in the same
+/// places: lanes and shoulders with 0.574, 1.10 for a grade of 5.
+const WHOLE_SITES: [(&str, &str, &str, Each); 7] = [
     // 5 x 1.1 x 3,900 x 0.640 x 0.000365 e^-0.4865 x 1.105 x 1.10955 x
-    // (0.279 + 80.2/820 - 0.012)/0.279 x 1.075 x 1.016^5 x e^0.1336.
+    // (0.279 + 80.2/820 - 0.012)/0.279 x 1.075 x 1.016^5 x e^0.1336; e^-0.312,
+    // 1.1722, 1.179662 and 1.10.
     (
         "the bends below the pass",
         "segment traffic 3900 length 640 lane 10 shoulder 2 shoulder-type 1 curve-length 180 \
          radius 820 spiral-ends 2 deficiency 25 grade 5 hazard-rating 5",
-        "6.5687117692..",
+        "",
+        ["6.5687117692..", "8.9627006077.."],
     ),
     // 5 x 1.1 x 3,900 x 0.420 x 0.000365 e^-0.4865 x
     // (1 + 0.35((1.30 + 1.15)/2 x (1.03 + 1.05)/2 - 1)) x
-    // (0.14725 + 80.2/1,400)/0.14725 x e^0.2004.
+    // (0.14725 + 80.2/1,400)/0.14725 x e^0.2004; e^-0.312 and 0.574.
     (
         "the bend on the pass",
         "segment traffic 3900 length 420 shoulder 3 shoulder-type 3 curve-length 95 radius 1400 \
          hazard-rating 6",
-        "3.7601275340..",
+        "",
+        ["3.7601275340..", "4.7277334409.."],
     ),
     // 5 x 1.1 x 7,600 x 0.900 x 0.000365 e^-0.4865 x 0.97277 x
     // (1 - 0.35 x 1.4952/2.6942) x (0.2 + 24c)/(0.2 + 5c), where
-    // c = 0.05 - 0.005 ln 7,600 = 0.0053204824.
+    // c = 0.05 - 0.005 ln 7,600 = 0.0053204824; e^-0.312, 0.9553428 and 0.322.
     (
         "the village",
         "segment traffic 7600 length 900 shoulder 8 shoulder-type 2 driveways 24 two-way-lane 1",
-        "9.5685095534..",
+        "",
+        ["9.5685095534..", "9.9807083099.."],
     ),
     // 1.1 x 1.250 x 0.000365 e^-0.4865 x e^0.2672 x
     // (2 x 350 x 1.0175 x 1.035 + 3 x 700 x 1.047005 x 1.06125): lane and
-    // shoulder of 1.05 and 1.10, and from the third year of 1.1343 and 1.175.
+    // shoulder of 1.05 and 1.10, and from the third year of 1.1343 and 1.175;
+    // e^-0.312, 1.0287 x 1.0574 and 1.0770882 x 1.10045.
     (
         "the back road along the river",
         "segment traffic 350,350,700,700,700 length 1250 lane 9 shoulder 0 hazard-rating 7",
-        "1.2375775107..",
+        "",
+        ["1.2375775107..", "1.5598804381.."],
     ),
-    // 5 x 0.95 e^-10.9 x 728.3949722 x 16.6252135 x 0.78 x e^0.1.
+    // 5 x 0.95 e^-10.9 x 728.3949722 x 16.6252135 x 0.78 x e^0.1; e^-9.86 and
+    // 0.56.
     (
         "the farm road",
         "3st traffic 4200 minor-traffic 310 skew 25 left-turn-lanes 1",
-        "0.9152547198..",
+        "",
+        ["0.9152547198..", "1.8590953416.."],
     ),
     // 5 x 0.95 e^-9.34 x 167.7034920 x 62.5366237 x 0.76 x 0.95 x 1.1 x
-    // e^0.054.
+    // e^0.054; e^-8.56, 0.72, 0.86 and no 1.1.
     (
         "the mill crossing",
-        "4st traffic 5100 minor-traffic 880 skew 10 left-turn-lanes 1 right-turn-lanes 1 \
-         limited-quadrants 2",
-        "3.6681025519..",
+        "4st traffic 5100 minor-traffic 880 skew 10 left-turn-lanes 1 right-turn-lanes 1",
+        " limited-quadrants 2",
+        ["3.6681025519..", "6.2386731036.."],
     ),
-    // 5 x 0.95 e^-5.73 x 213.0532460 x 4.9258320 x 0.67 x 0.975.
+    // 5 x 0.95 e^-5.73 x 213.0532460 x 4.9258320 x 0.67 x 0.975; e^-5.13, 0.67
+    // and 0.96.
     (
         "the village signal",
         "4sg traffic 7600 minor-traffic 2900 left-turn-lanes 2 right-turn-lanes 1",
-        "10.5738562433..",
+        "",
+        ["10.5738562433..", "18.9704096035.."],
     ),
 ];
 
-fn whole_sites() -> Vec<Figure> {
-    let figure = |(name, line, worked)| {
-        let site = lines::site(5, line).expect("a site's line");
-        predicted(header(5, 1_100, 950), (name, site, worked))
+fn whole_sites(edition: u8) -> Vec<Figure> {
+    let figure = |(name, line, of_the_first, worked): (&str, &str, &str, Each)| {
+        let more = if edition == EDITION_ONE {
+            of_the_first
+        } else {
+            ""
+        };
+        let site = lines::site(edition, 5, &format!("{line}{more}"));
+        let site = site.expect("a site's line");
+        predicted(header(5, 1_100, 950), (name, site, own(edition, worked)))
     };
     WHOLE_SITES.into_iter().map(figure).collect()
 }
 
 /// The years of a segment with traffic year by year, each figure over as many
 /// years of the same road with 1,000 vehicles and every factor 1.
-fn yearly_factors() -> Vec<Figure> {
-    let rows: [(&str, Field, u16, &[u16], &str); 4] = [
-        // (2 x 1 + 8 x 2)/10.
-        (
-            "doubled in the third year",
-            Field::LaneWidth,
-            12,
-            &[
-                1_000, 1_000, 2_000, 2_000, 2_000, 2_000, 2_000, 2_000, 2_000, 2_000,
-            ],
-            "1.8",
-        ),
-        // (399 x 1.0175 + 1,000 x 1.07651 + 2,001 x 1.175)/3,000.
-        (
-            "lane",
-            Field::LaneWidth,
-            9,
-            &[399, 1_000, 2_001],
-            "38336675/30000000",
-        ),
-        // (400 x 1.035 + 1,000 x 1.0875 + 2,000 x 1.175)/3,000.
-        (
-            "shoulder",
-            Field::ShoulderWidth,
-            0,
-            &[400, 1_000, 2_000],
-            "38515/30000",
-        ),
-        // (1 x 6 + 400 x 4.0042646930 + 20,000 x 1.1072822444)/3,000.
-        (
-            "driveways",
-            Field::Driveways,
-            50,
-            &[1, 400, 20_000],
-            "7.9177835884..",
-        ),
-    ];
+const YEARLY_FACTORS: [(&str, Field, u16, &[u16], Each); 4] = [
+    // (2 x 1 + 8 x 2)/10.
+    (
+        "doubled in the third year",
+        Field::LaneWidth,
+        12,
+        &[
+            1_000, 1_000, 2_000, 2_000, 2_000, 2_000, 2_000, 2_000, 2_000, 2_000,
+        ],
+        ["1.8", "1.8"],
+    ),
+    // (399 x 1.0175 + 1,000 x 1.07651 + 2,001 x 1.175)/3,000, and
+    // (399 x 1.0287 + 1,000 x 1.1254764 + 2,001 x 1.287)/3,000.
+    (
+        "lane",
+        Field::LaneWidth,
+        9,
+        &[399, 1_000, 2_001],
+        ["38336675/30000000", "41112147/30000000"],
+    ),
+    // (400 x 1.035 + 1,000 x 1.0875 + 2,000 x 1.175)/3,000, and
+    // (400 x 1.0574 + 1,000 x 1.1435 + 2,000 x 1.287)/3,000.
+    (
+        "shoulder",
+        Field::ShoulderWidth,
+        0,
+        &[400, 1_000, 2_000],
+        ["38515/30000", "414046/300000"],
+    ),
+    // (1 x 6 + 400 x 4.0042646930 + 20,000 x 1.1072822444)/3,000, and
+    // (1 x 2,822/572 + 400 x 3.1361721492 + 20,000 x 1.0669372476)/3,000.
+    (
+        "driveways",
+        Field::Driveways,
+        50,
+        &[1, 400, 20_000],
+        ["7.9177835884..", "7.5327157929.."],
+    ),
+];
+
+fn yearly_factors(edition: u8) -> Vec<Figure> {
     let figure = |(name, field, value, traffic, worked): (&str, Field, u16, &[u16], _)| {
         let site = road(1)
             .with(field, value)
             .with_years(Field::Traffic, traffic);
         let years = traffic.len() as u8;
         let cases = [site, road(1_000)].map(|site| (years, site));
-        ratio_over(format!("yearly segment, {name}"), cases, worked)
+        let name = format!("yearly segment, {name}");
+        ratio_over(name, cases, own(edition, worked))
     };
-    rows.into_iter().map(figure).collect()
+    YEARLY_FACTORS.into_iter().map(figure).collect()
 }
 
 /// "The sum of its Y one-year predictions": with 1,000 vehicles in the first
@@ -829,7 +1075,7 @@ fn yearly_sums() -> Vec<Figure> {
 /// The most years of a crossing with traffic year by year, over as many with
 /// 10,000 vehicles on both roads. A power of 100 vehicles is that of 10,000 over
 /// 10^(2p).
-fn yearly_crossings() -> Vec<Figure> {
+fn yearly_crossings(edition: u8) -> Vec<Figure> {
     const BUSY: [u16; 10] = [10_000; 10];
     // 100 vehicles in the first five years, and in the last five.
     const LATE: [u16; 10] = [
@@ -863,11 +1109,12 @@ fn yearly_crossings() -> Vec<Figure> {
             ("major road late, minor early", [LATE, EARLY], both),
         ] {
             let site = TRAFFIC_FIELDS.iter().zip(years);
-            let site = site.fold(crossing(kind), |site, (field, traffic)| {
+            let busy = crossing(edition, kind);
+            let site = site.fold(busy, |site, (field, traffic)| {
                 site.with_years(*field, &traffic)
             });
             let name = format!("yearly {}, {name}", kind_name(kind));
-            figures.push(ratio(name, site, crossing(kind), worked));
+            figures.push(ratio(name, site, busy, worked));
         }
     }
     figures
@@ -875,7 +1122,7 @@ fn yearly_crossings() -> Vec<Figure> {
 
 /// Traffic year by year that is the same every year, and "the history still
 /// covers the whole period": k at the sum over the years.
-fn yearly_histories() -> Vec<Figure> {
+fn yearly_histories(edition: u8) -> Vec<Figure> {
     let name = "yearly segment, the same every year".to_string();
     let same = road(5_000).with_years(Field::Traffic, &[5_000; 10]);
     let rising: Vec<u16> = (1..=10).map(|year| 100 * year).collect();
@@ -887,34 +1134,41 @@ fn yearly_histories() -> Vec<Figure> {
                 .with_years(Field::Traffic, &rising)
                 .with(Field::Observed, observed),
         }),
-        worked: "0.31",
+        worked: own(edition, LONG_ROAD_K),
     });
     let mut figures = vec![ratio(name, same, road(5_000), "1")];
     figures.extend(histories);
     figures
 }
 
+/// Every worked figure of an edition.
+fn of_edition(edition: u8) -> Vec<Figure> {
+    let groups = [
+        widths(edition, "lane", Field::LaneWidth, &LANES),
+        widths(edition, "shoulder", Field::ShoulderWidth, &SHOULDERS),
+        shoulder_types(edition),
+        middle_shoulders(edition),
+        curves(),
+        segment_factors(edition),
+        two_way_lanes(),
+        segment_parts(edition),
+        crossing_factors(edition),
+        crossing_parts(edition),
+        bases(edition),
+        headers(edition),
+        overdispersions(edition),
+        overdispersions_by_length(edition),
+        whole_sites(edition),
+        yearly_factors(edition),
+        yearly_sums(),
+        yearly_crossings(edition),
+        yearly_histories(edition),
+    ];
+    let figures = groups.into_iter().flatten();
+    figures.map(|figure| figure.in_edition(edition)).collect()
+}
+
 /// Every worked figure.
 pub fn figures() -> Vec<Figure> {
-    let groups = [
-        widths("lane", Field::LaneWidth, &LANES),
-        widths("shoulder", Field::ShoulderWidth, &SHOULDERS),
-        shoulder_types(),
-        middle_shoulders(),
-        curves(),
-        segment_factors(),
-        two_way_lanes(),
-        segment_parts(),
-        crossing_factors(),
-        crossing_parts(),
-        bases(),
-        headers(),
-        overdispersions(),
-        whole_sites(),
-        yearly_factors(),
-        yearly_sums(),
-        yearly_crossings(),
-        yearly_histories(),
-    ];
-    groups.into_iter().flatten().collect()
+    EDITIONS.into_iter().flat_map(of_edition).collect()
 }

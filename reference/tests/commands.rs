@@ -1,6 +1,6 @@
 //! The commands, run as a user runs them.
 
-use reference::rules::MOST_SITES;
+use reference::rules::{EDITIONS, MOST_SITES};
 use std::fs;
 use std::io::Write;
 use std::path::PathBuf;
@@ -68,6 +68,39 @@ fn dump_and_make_are_inverse() {
     assert!(text(&lines).contains("4sg traffic 10000 observed 5 minor-traffic 1000"));
     let made = run(&["make"], &lines.stdout);
     assert_eq!(made.stdout, SIGNAL);
+    let limited = run(&["dump", "-"], &LIMITED);
+    assert!(text(&limited).contains("limited-quadrants 2"));
+    assert_eq!(run(&["make"], &limited.stdout).stdout, LIMITED);
+}
+
+/// The signal as a file of an edition.
+fn signal_in(edition: u8) -> Vec<u8> {
+    [&[edition], &SIGNAL[1..]].concat()
+}
+
+/// The same bytes after the edition's are another edition's project, with its
+/// own lines, estimates and report.
+#[test]
+fn each_edition_has_its_own_figures() {
+    let printed = |arguments: &[&str]| EDITIONS.map(|e| text(&run(arguments, &signal_in(e))));
+    let [one, two] = printed(&["dump", "-"]);
+    assert!(one.starts_with("edition 1\nyears 5\n") && two.starts_with("edition 2\nyears 5\n"));
+    assert_eq!(
+        one.lines().skip(1).collect::<Vec<_>>(),
+        two.lines().skip(1).collect::<Vec<_>>()
+    );
+    assert_eq!(run(&["make"], two.as_bytes()).stdout, signal_in(2));
+    // e^-5.13 is 1.8221 times e^-5.73.
+    let predicted = printed(&["estimate", "-", "6"]).map(|text| {
+        let words: Vec<&str> = text.split(' ').collect();
+        words[3].parse::<f64>().expect("a decimal")
+    });
+    assert!(
+        (predicted[1] / predicted[0] - 0.6f64.exp()).abs() < 1e-5,
+        "{predicted:?}"
+    );
+    let [one, two] = printed(&["report"]);
+    assert_ne!(one, two);
 }
 
 /// A signal whose traffic doubled in the second of two years.
@@ -101,6 +134,11 @@ fn refusal(arguments: &[&str], input: &[u8]) -> String {
 /// The commands that take a project file or lines.
 const OF_EITHER: [&[&str]; 2] = [&["dump", "-"], &["estimate", "-", "2"]];
 
+/// A stop crossing with limited sight, which edition 1 takes.
+const LIMITED: [u8; 17] = [
+    1, 5, 3, 0xE8, 3, 0xE8, 0, 1, 2, 0, 0x43, 0x27, 0x10, 3, 0xE8, 0, 2,
+];
+
 /// Document 01's causes, each in a file.
 fn refused_files() -> Vec<(u8, usize, Vec<u8>)> {
     let changed = |file: &[u8], at: usize, byte: u8| {
@@ -112,17 +150,20 @@ fn refused_files() -> Vec<(u8, usize, Vec<u8>)> {
     let yearly_with = |at: usize, byte: u8| changed(&YEARLY_SIGNAL, at, byte);
     let mut spelled = with(10, 0x17);
     spelled.extend([0, 0]);
+    let limited_in = |edition: u8| changed(&LIMITED, 0, edition);
     vec![
         (1, 0, vec![]),
         (1, 8, SIGNAL[..9].to_vec()),
         (2, 17, [&SIGNAL[..], &[0]].concat()),
-        (3, 0, with(0, 2)),
+        (3, 0, with(0, 0)),
+        (3, 0, with(0, 3)),
         (3, 0, with(0, b'#')),
         (3, 0, with(0, b'e')),
         (3, 0, with(0, b'\n')),
         (4, 0, with(1, 11)),
         (5, 8, with(8, 4)),
         (6, 8, with(10, 15)),
+        (6, 8, limited_in(2)),
         (7, 8, with(10, 5)),
         (8, 8, with(11, 0xFF)),
         (7, 8, yearly_with(1, 1)),
@@ -134,6 +175,11 @@ fn refused_files() -> Vec<(u8, usize, Vec<u8>)> {
 
 #[test]
 fn a_file_is_refused_as_the_reader_refuses_it() {
+    let told = |file: &[u8]| refusal(&["dump", "-"], file);
+    assert_eq!(
+        told(&signal_in(3)),
+        "refused 3 at byte 0: the edition is neither 1 nor 2"
+    );
     for (number, place, file) in refused_files() {
         let wanted = format!("refused {number} at byte {place}: ");
         for command in OF_EITHER {
@@ -263,6 +309,16 @@ fn lines_are_refused_with_line_site_field_value_and_range() {
         let lines = format!("{HEAD}# A note.\n\n3st traffic 5 minor-traffic 6\n{line}\n");
         assert_refused(&lines, &format!("line 8, site 2: {what}"));
     }
+    // What edition 1 has and edition 2 has not.
+    for kind in ["3st", "4st"] {
+        let manual = HEAD.replace("edition 1", "edition 2");
+        let line = format!("{kind} traffic 5 minor-traffic 6 limited-quadrants 0");
+        let what = format!("limited-quadrants is 0; a {kind} has no such field in edition 2");
+        assert_refused(
+            &format!("{manual}{line}\n"),
+            &format!("line 5, site 1: {what}"),
+        );
+    }
     let site = MOST_SITES + 1;
     let line = HEAD.lines().count() + site;
     let wanted = format!("line {line}, site {site}: there may be {MOST_SITES} sites at most");
@@ -274,8 +330,8 @@ fn header_lines_are_refused_with_line_name_value_and_range() {
     for (from, to, wanted) in [
         (
             "edition 1",
-            "edition 2",
-            "line 1: edition is 2; it must be 1",
+            "edition 3",
+            "line 1: edition is 3; it must be from 1 to 2",
         ),
         (
             "years 2",
@@ -392,6 +448,7 @@ fn wrong_use_fails_and_says_how() {
         &["estimate"][..],
         &["tally"],
         &["stored", "roots"],
+        &["stored", "bases"],
         &none,
         &[],
     ] {

@@ -9,7 +9,7 @@ use reference::prediction::expected_pair;
 use reference::project::{parse_project, read_project};
 use reference::rational::Rational;
 use reference::record::{Refusal, Site};
-use reference::rules::{Field, FOUR_LEG_SIGNAL};
+use reference::rules::{Field, EDITION_ONE, FOUR_LEG_SIGNAL};
 
 const MODEL: &Model = &FIRST_EDITION;
 
@@ -56,7 +56,7 @@ fn two_way_lane_at_ten_driveways() {
 
 #[test]
 fn signal_with_five_observed() {
-    let site = Site::plain(FOUR_LEG_SIGNAL, 1, 1).with(Field::Observed, 5);
+    let site = Site::plain(EDITION_ONE, FOUR_LEG_SIGNAL, 1, 1).with(Field::Observed, 5);
     let (low, high) = expected_pair(MODEL, &site, 2_000_000, 2_000_000);
     assert_eq!(low.to_u64(), Some(2_540_983));
     assert_eq!(high.to_u64(), Some(2_540_984));
@@ -95,7 +95,7 @@ fn the_signal_is_accepted_and_its_spelled_default_is_not() {
     let head = file.len();
     file.extend([0x03, 0x00, 0x07, 0x27, 0x10, 0x03, 0xE8, 0x00, 0x05]);
     let project = parse_project(&file).expect("document 01 accepts it");
-    let wanted = Site::plain(FOUR_LEG_SIGNAL, 10_000, 1_000).with(Field::Observed, 5);
+    let wanted = Site::plain(EDITION_ONE, FOUR_LEG_SIGNAL, 10_000, 1_000).with(Field::Observed, 5);
     assert_eq!(project.sites, [wanted]);
     file[head + 2] = 0x17;
     file.extend([0, 0]);
@@ -105,7 +105,7 @@ fn the_signal_is_accepted_and_its_spelled_default_is_not() {
 #[test]
 fn tempting_errors_are_not_made() {
     // A history of none pulls the expected crashes down; no history does not.
-    let site = Site::plain(FOUR_LEG_SIGNAL, 10_000, 1_000);
+    let site = Site::plain(EDITION_ONE, FOUR_LEG_SIGNAL, 10_000, 1_000);
     let without = expected_pair(MODEL, &site, 2_000_000, 2_000_000);
     assert_eq!(without.0.to_u64(), Some(2_000_000));
     let none = site.with(Field::Observed, 0);

@@ -19,7 +19,7 @@ use reference::project::Header;
 use reference::published::{self, Example};
 use reference::rational::Rational;
 use reference::record::Site;
-use reference::rules::Field;
+use reference::rules::{Field, EDITION_ONE};
 use reference::sum::exact_sum;
 
 const MODEL: &Model = &FIRST_EDITION;
@@ -28,7 +28,7 @@ const DEPTH: u32 = 6;
 /// So many years with one calibration for both kinds, in thousandths.
 fn period(years: u8, calibration: u16, site: &Site) -> Estimates {
     let header = Header {
-        edition: 1,
+        edition: EDITION_ONE,
         years,
         segment_calibration: calibration,
         crossing_calibration: calibration,
@@ -91,6 +91,7 @@ fn tables_24_25_and_27_predicted_with_traffic_year_by_year() {
 /// The same segment without its curve.
 fn straight(site: &Site) -> Site {
     Site::plain(
+        EDITION_ONE,
         site.kind,
         site.get(Field::Traffic).unwrap_or(0),
         site.get(Field::Length).unwrap_or(0),
@@ -131,7 +132,8 @@ fn tables_24_and_25_leave_a_narrow_common_factor() {
 fn tables_24_25_and_27_expected_before_period() {
     for example in published::examples() {
         for (predicted, observed, printed) in example.expected {
-            let site = Site::plain(example.site.kind, 1, 1).with(Field::Observed, observed);
+            let site =
+                Site::plain(EDITION_ONE, example.site.kind, 1, 1).with(Field::Observed, observed);
             let millionths = 1_000 * predicted;
             let (low, high) = expected_pair(MODEL, &site, millionths, millionths);
             let found = Estimates {

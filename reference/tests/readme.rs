@@ -1,6 +1,7 @@
-//! The README's table of fields is that of the rules.
+//! The README's table of fields is that of edition 1's rules, and edition 2 has
+//! no field beside them.
 
-use reference::rules::{rules, Presence, Rule, KIND_NAMES};
+use reference::rules::{rules, Presence, Rule, EDITION_ONE, EDITION_TWO, KIND_NAMES};
 use std::fs;
 use std::path::Path;
 
@@ -17,8 +18,8 @@ fn default(rule: &Rule) -> String {
     }
 }
 
-/// Field, bit, range, default and kind, as the README has them.
-fn of_rules() -> Vec<[String; 5]> {
+/// Field, bit, range, default and kind of an edition, as the README has them.
+fn of_rules(edition: u8) -> Vec<[String; 5]> {
     let row = |kind: u8, rule: &Rule| {
         [
             format!("`{}`", rule.field.name()),
@@ -30,7 +31,7 @@ fn of_rules() -> Vec<[String; 5]> {
     };
     KINDS
         .flat_map(|kind| {
-            rules(kind)
+            rules(edition, kind)
                 .unwrap_or(&[])
                 .iter()
                 .map(move |rule| row(kind, rule))
@@ -63,9 +64,12 @@ fn of_readme() -> Vec<[String; 5]> {
 
 #[test]
 fn fields_of_the_readme() {
-    let (mut wanted, mut found) = (of_rules(), of_readme());
+    let (mut wanted, mut found) = (of_rules(EDITION_ONE), of_readme());
     wanted.sort();
     found.sort();
     assert_eq!(found.len(), 34);
     assert_eq!(found, wanted);
+    let of_edition_two = of_rules(EDITION_TWO);
+    assert_eq!(of_edition_two.len(), 32);
+    assert!(of_edition_two.iter().all(|row| found.contains(row)));
 }

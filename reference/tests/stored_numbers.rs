@@ -1,6 +1,7 @@
 //! The numbers in the engine's sources and stored output are those that the
 //! estimates give.
 
+use reference::model::{FIRST_EDITION, SECOND_EDITION};
 use reference::{figures, stored};
 
 /// A file of the engine's crates.
@@ -42,7 +43,12 @@ fn logarithms() {
 #[test]
 fn base_and_hazard_factors() {
     let source = "prediction/src/stored.rt";
-    assert_eq!(array_in(source, "BASES"), stored::bases());
+    for (name, model) in [
+        ("BASES_ONE", &FIRST_EDITION),
+        ("BASES_TWO", &SECOND_EDITION),
+    ] {
+        assert_eq!(array_in(source, name), stored::bases(model), "{name}");
+    }
     assert_eq!(array_in(source, "HAZARDS"), stored::hazards());
 }
 

@@ -1,21 +1,21 @@
-//! The worked figures of `reference::worked` against the reference's model, and
-//! against models in which one number is changed: each is noticed by a figure
-//! that is named after it.
+//! The worked figures of `reference::worked` against the reference's models, and
+//! against models in which one number is changed: each is noticed by a figure of
+//! its edition that is named after it.
 
 use reference::estimates::Estimates;
-use reference::model::{CrossingModel, Model, FIRST_EDITION};
+use reference::model::{CrossingModel, Grade, Model, SegmentOverdispersion};
 use reference::prediction::{site_estimates, SiteEstimates};
 use reference::project::Header;
 use reference::rational::Rational;
 use reference::record::Site;
-use reference::rules::Field;
-use reference::worked::{faults, figures};
+use reference::rules::{Field, EDITIONS, EDITION_ONE, EDITION_TWO};
+use reference::worked::{self, faults, figures};
 use std::collections::HashSet;
 
 const DEPTH: u32 = 9;
 
 fn of_site(header: &Header, site: &Site) -> SiteEstimates {
-    site_estimates(&FIRST_EDITION, header, site, DEPTH)
+    site_estimates(header.model(), header, site, DEPTH)
 }
 
 fn faults_of(model: &Model, start: &str) -> Vec<String> {
@@ -25,16 +25,61 @@ fn faults_of(model: &Model, start: &str) -> Vec<String> {
 }
 
 #[test]
-fn of_the_first_edition() {
-    let faults = faults_of(&FIRST_EDITION, "");
+fn of_both_editions() {
+    let faults = faults("", of_site);
     assert!(faults.is_empty(), "{faults:#?}");
+}
+
+/// A model taken for the other edition's is noticed by that edition's figures of
+/// each number that differs.
+#[test]
+fn notice_the_other_editions_model() {
+    let own = [
+        "lane at 399, feet 9",
+        "shoulder at 1000, feet 4",
+        "shoulder type turf, feet 8",
+        "grade 1",
+        "grade 12",
+        "driveways at 1, count 0",
+        "driveways at 1, count 50",
+        "3st left-turn lanes 1",
+        "4st left-turn lanes 2",
+        "3st right-turn lanes 1",
+        "4st right-turn lanes 2",
+        "4sg right-turn lanes 1",
+        "segment base",
+        "3st base",
+        "4st base",
+        "4sg base",
+        "segment k at observed 0",
+        "segment k at length 236",
+        "the mill crossing",
+    ];
+    let shared = [
+        "curve",
+        "deficiency",
+        "two-way lane",
+        "hazard rating",
+        "4sg left-turn lanes",
+    ];
+    for (edition, other) in [(EDITION_ONE, EDITION_TWO), (EDITION_TWO, EDITION_ONE)] {
+        let model = Model::of_edition(other);
+        for name in own {
+            let name = worked::named(edition, name);
+            assert!(!faults_of(model, &name).is_empty(), "{name}");
+        }
+        for name in shared {
+            let faults = faults_of(model, &worked::named(edition, name));
+            assert!(faults.is_empty(), "{faults:?}");
+        }
+    }
 }
 
 #[test]
 fn have_names_of_their_own() {
     let figures = figures();
     let names: HashSet<_> = figures.iter().map(|figure| &figure.name).collect();
-    assert_eq!((figures.len(), names.len()), (230, 230));
+    assert_eq!((figures.len(), names.len()), (471, 471));
 }
 
 /// A site's estimates where its shoulder is so many feet wide.
@@ -52,6 +97,12 @@ fn mean(one: SiteEstimates, other: SiteEstimates) -> SiteEstimates {
     }
 }
 
+/// Whether something is so of a figure of each edition.
+fn in_each_edition(name: &str, is_so: impl Fn(&str) -> bool) -> bool {
+    let mut editions = EDITIONS.into_iter();
+    editions.all(|edition| is_so(&worked::named(edition, name)))
+}
+
 /// What the figures of odd shoulders rest on: the column below, the one above
 /// and a mean taken after the product are noticed, and so is a shoulder of 9 feet
 /// with a column that is not the last.
@@ -62,7 +113,7 @@ fn notice_an_odd_shoulder_taken_otherwise() {
             Some(feet) if feet % 2 == 1 => rule(header, site, feet),
             _ => of_site(header, site),
         };
-        !faults(name, model).is_empty()
+        in_each_edition(name, |name| !faults(name, model).is_empty())
     };
     let below = |header: &Header, site: &Site, feet| at_width(header, site, feet - 1);
     let above = |header: &Header, site: &Site, feet| at_width(header, site, feet + 1);
@@ -95,7 +146,7 @@ fn notice_traffic_year_by_year_taken_otherwise() {
             true => rule(header, site),
             false => of_site(header, site),
         };
-        !faults(name, model).is_empty()
+        in_each_edition(name, |name| !faults(name, model).is_empty())
     };
     let first_year_throughout: Rule = |header, site| of_site(header, &site.in_year(1));
     let last_year_left_out: Rule = |header, site| {
@@ -253,7 +304,6 @@ fn changes_of_segments() -> Vec<Noticed> {
         noticed("deficiency 100", |m| {
             m.segment.superelevation.second_slope += 1
         }),
-        noticed("grade 1", |m| m.segment.grade.0 += 1),
         noticed("two-way lane", |m| m.segment.two_way_linear.0 += 1),
         noticed("two-way lane", |m| m.segment.two_way_square.0 += 1),
         noticed("two-way lane", |m| m.segment.two_way_offset.0 += 1),
@@ -274,11 +324,55 @@ fn changes_of_segments() -> Vec<Noticed> {
         noticed("driveways at 1,", |m| m.segment.driveway_slope.0 += 1),
         noticed("driveways at 400,", |m| m.segment.driveway_log_slope.0 -= 1),
         noticed("segment base", |m| m.segment.driveway_base += 1),
-        noticed("segment k at observed 0", |m| {
-            m.segment.overdispersion.0 += 1
+        noticed("segment k at observed 0", larger_overdispersion),
+        noticed("segment k at observed 500", larger_overdispersion),
+    ]
+}
+
+fn larger_overdispersion(model: &mut Model) {
+    match &mut model.segment.overdispersion {
+        SegmentOverdispersion::Constant(k) => k.0 += 1,
+        SegmentOverdispersion::OverLength(over) => *over += 1,
+    }
+}
+
+/// The numbers of edition 1's grade, and its driveways without a fewest.
+fn changes_of_edition_one() -> Vec<Noticed> {
+    vec![
+        noticed("grade 1", |m| match &mut m.segment.grade {
+            Grade::Power(base) => base.0 += 1,
+            Grade::Steps { .. } => panic!("edition 1 has a power"),
         }),
-        noticed("segment k at observed 500", |m| {
-            m.segment.overdispersion.0 += 1
+        noticed("driveways at 1, count 0", |m| {
+            m.segment.driveway_fewest += 1
+        }),
+    ]
+}
+
+/// A change of a grade's steps and factors.
+fn steps(change: fn(&mut [u64; 2], &mut [u64; 3])) -> impl Fn(&mut Model) {
+    move |model| match &mut model.segment.grade {
+        Grade::Steps { most, factors } => change(most, factors),
+        Grade::Power(_) => panic!("edition 2 has steps"),
+    }
+}
+
+/// The numbers of edition 2's grade, and its fewest driveways: 6 would do as
+/// well as 5, since 5 driveways have 1.
+fn changes_of_edition_two() -> Vec<Noticed> {
+    vec![
+        noticed("segment base", steps(|_, factors| factors[0] += 1)),
+        noticed("grade 4", steps(|_, factors| factors[1] += 1)),
+        noticed("grade 12", steps(|_, factors| factors[2] += 1)),
+        noticed("grade 4", steps(|most, _| most[0] += 1)),
+        noticed("grade 3", steps(|most, _| most[0] -= 1)),
+        noticed("grade 7", steps(|most, _| most[1] += 1)),
+        noticed("grade 6", steps(|most, _| most[1] -= 1)),
+        noticed("driveways at 1, count 4", |m| {
+            m.segment.driveway_fewest -= 1
+        }),
+        noticed("driveways at 1, count 6", |m| {
+            m.segment.driveway_fewest += 2
         }),
     ]
 }
@@ -312,26 +406,40 @@ fn changes_of_crossing(name: &str, of: fn(&mut Model) -> &mut CrossingModel) -> 
         ]);
     }
     if name != "4sg" {
-        changes.extend([
-            noticed(named("sight 1"), move |m| of(m).sight_step.0 += 1),
-            noticed(named("skew 1"), move |m| {
-                of(m).skew_slope.as_mut().expect("a slope").0 += 1
-            }),
-        ]);
+        changes.push(noticed(named("skew 1"), move |m| {
+            of(m).skew_slope.as_mut().expect("a slope").0 += 1
+        }));
     }
     changes
 }
 
+/// Limited sight, which edition 1 alone has.
+fn changes_of_sight() -> Vec<Noticed> {
+    vec![
+        noticed("3st sight 1", |m| m.three_leg_stop.sight_step.0 += 1),
+        noticed("4st sight 1", |m| m.four_leg_stop.sight_step.0 += 1),
+    ]
+}
+
 #[test]
-fn notice_every_number_of_the_model() {
-    let mut changes = changes_of_widths();
-    changes.extend(changes_of_segments());
-    changes.extend(changes_of_crossing("3st", |m| &mut m.three_leg_stop));
-    changes.extend(changes_of_crossing("4st", |m| &mut m.four_leg_stop));
-    changes.extend(changes_of_crossing("4sg", |m| &mut m.four_leg_signal));
-    for (start, change) in changes {
-        let mut model = FIRST_EDITION;
-        change(&mut model);
-        assert!(!faults_of(&model, &start).is_empty(), "{start}");
+fn notice_every_number_of_each_model() {
+    for edition in EDITIONS {
+        let mut changes = changes_of_widths();
+        changes.extend(changes_of_segments());
+        changes.extend(changes_of_crossing("3st", |m| &mut m.three_leg_stop));
+        changes.extend(changes_of_crossing("4st", |m| &mut m.four_leg_stop));
+        changes.extend(changes_of_crossing("4sg", |m| &mut m.four_leg_signal));
+        if edition == EDITION_ONE {
+            changes.extend(changes_of_sight());
+            changes.extend(changes_of_edition_one());
+        } else {
+            changes.extend(changes_of_edition_two());
+        }
+        for (start, change) in changes {
+            let mut model = *Model::of_edition(edition);
+            change(&mut model);
+            let start = worked::named(edition, &start);
+            assert!(!faults_of(&model, &start).is_empty(), "{start}");
+        }
     }
 }

@@ -8,7 +8,7 @@ use lib.ListN.{length, take, drop}
 use lib.Seq.{length-sets, take-at, take-all}
 use lib.Dec.{leb}
 use borrow.Author.Tests.{le-leb, leb-true, leb-false}
-use Rattle.header.specs.Header.{headerLength, mostSites}
+use Rattle.header.specs.Header.{headerLength, editionIn, mostSites}
 use Rattle.project.specs.declared.ScanAnswer.{ScanAnswer}
 use Rattle.project.specs.declared.ScanAnswer.the-variants as scan
 use Rattle.site.specs.Theorems.{longest, read-length}
@@ -116,7 +116,7 @@ refusal-printed s text out room place {answer} {number} {at} l e refused p = by 
 -- an accepted file is no longer than the longest
 starts-near : {s : List ℕ} {i p : ℕ} → Starts s i p → p ≤ headerLength + i * longest
 starts-near first = omega arith
-starts-near {s} (next {i} {p} {n} {value} r e) = omega (arith, starts-near r, read-length (yearsIn s) (drop p s) value n e .at-most)
+starts-near {s} (next {i} {p} {n} {value} r e) = omega (arith, starts-near r, read-length (editionIn s) (yearsIn s) (drop p s) value n e .at-most)
 
 accepted-short : (s : List ℕ) (n : ℕ) → scanFile s ≡ scan.Accepted n → length s ≤ longestFile
 accepted-short s n e = omega (arith, accepted-sites s n e .few, starts-near (accepted-exactly s n .0 e .ends))

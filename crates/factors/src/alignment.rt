@@ -3,7 +3,7 @@ ghost use mathlib.Core.Path.{_≡_};
 ghost use Prim.Native.Nat.{_≤_};
 ghost use Rattle.estimate.specs.Fraction.{_//_, _^ᶠ_};
 ghost use Rattle.model.specs.Alignment as alignment;
-ghost use Rattle.model.specs.Coefficients.{editionOne};
+ghost use Rattle.model.specs.Coefficients.{editionOne, editionTwo, coefficientsOf};
 ghost use Rattle.bracket.specs.Ratio.{coded};
 use bracket::Ratio;
 
@@ -77,7 +77,7 @@ fn grade_power(exponent: u64) -> Ratio
 }
 
 // Edition 1's factor of a grade, for up to 6 percent: the whole would not fit 64 bits.
-pub fn grade(percent: u64) -> Ratio
+fn power_to_six(percent: u64) -> Ratio
     ensures { λ r. ⌜ r ≡ coded (editionOne .grade percent) ⌝ }
 {
     if percent < 6 {
@@ -87,7 +87,7 @@ pub fn grade(percent: u64) -> Ratio
 }
 
 // And for what is above 6.
-pub fn steep_grade(percent: u64) -> Ratio
+fn power_above_six(percent: u64) -> Ratio
     requires { ⌜ percent ≤ 12 ⌝ }
     ensures { λ r. ⌜ r ≡ coded (editionOne .steep-grade percent) ⌝ }
 {
@@ -95,4 +95,38 @@ pub fn steep_grade(percent: u64) -> Ratio
         return grade_power(0);
     }
     grade_power(percent - 6)
+}
+
+// Edition 2's factor of a grade: level, moderate or steep.
+fn grade_class(percent: u64) -> Ratio
+    ensures { λ r. ⌜ r ≡ coded (editionTwo .grade percent) ⌝ }
+{
+    if percent <= 3 {
+        return Ratio { num: 100, den: 100 };
+    }
+    if percent <= 6 {
+        return Ratio { num: 110, den: 100 };
+    }
+    Ratio { num: 116, den: 100 }
+}
+
+// The factor of a grade, in edition 1 for up to 6 percent.
+pub fn grade(edition: u64, percent: u64) -> Ratio
+    ensures { λ r. ⌜ r ≡ coded (coefficientsOf edition .grade percent) ⌝ }
+{
+    if edition <= 1 {
+        return power_to_six(percent);
+    }
+    grade_class(percent)
+}
+
+// And in edition 1 for what is above 6.
+pub fn steep_grade(edition: u64, percent: u64) -> Ratio
+    requires { ⌜ percent ≤ 12 ⌝ }
+    ensures { λ r. ⌜ r ≡ coded (coefficientsOf edition .steep-grade percent) ⌝ }
+{
+    if edition <= 1 {
+        return power_above_six(percent);
+    }
+    Ratio { num: 1, den: 1 }
 }

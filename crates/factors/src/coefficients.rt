@@ -1,8 +1,8 @@
-// The numbers of edition 1, each once: constants, and a table by kind (0 segment, 1 3ST, 2 4ST, 3 4SG). The base factors are
+// The numbers of an edition, each once: constants, and a table by kind (0 segment, 1 3ST, 2 4ST, 3 4SG). The base factors are
 // stored in `prediction`.
 ghost use mathlib.Core.Path.{_≡_};
 ghost use Prim.Native.Nat.{_≤_};
-ghost use Rattle.model.specs.Coefficients.{editionOne};
+ghost use Rattle.model.specs.Coefficients.{dispersionByKind, coefficientsOf};
 ghost use Rattle.bracket.specs.Ratio.{coded};
 ghost use Rattle.factors.specs.Edition.{Held};
 use bracket::Ratio;
@@ -20,24 +20,48 @@ pub struct Coefficients {
 // Overdispersion k, in hundredths.
 const OVERDISPERSIONS: [u64; 4] = [31, 54, 24, 11];
 
-// Edition 1's numbers that are the same for every kind.
-pub fn edition_one() -> Coefficients
-    ensures { λ r. ⌜ Held editionOne r ⌝ }
+// The numbers that are the same for every kind, of edition 1 and of edition 2.
+pub fn coefficients_of(edition: u64) -> Coefficients
+    ensures { λ r. ⌜ Held (coefficientsOf edition) r ⌝ }
 {
+    if edition <= 1 {
+        return Coefficients {
+            related_share: 350,
+            driveway_constant: 200,
+            fewest_driveways: 0,
+        };
+    }
     Coefficients {
-        related_share: 350,
-        driveway_constant: 200,
-        fewest_driveways: 0,
+        related_share: 574,
+        driveway_constant: 322,
+        fewest_driveways: 5,
     }
 }
 
-// A kind's overdispersion, by which its history is weighed; no length bears on it in edition 1.
-pub fn overdispersion(kind: u8, length: u64) -> Ratio
+// Overdispersion by kind alone.
+fn dispersion_by_kind(kind: u8) -> Ratio
     requires { ⌜ kind ≤ 3 ⌝ }
-    ensures { λ r. ⌜ r ≡ coded (editionOne .overdispersion kind length) ⌝ }
+    ensures { λ r. ⌜ r ≡ coded (dispersionByKind kind) ⌝ }
 {
     Ratio {
         num: OVERDISPERSIONS[kind as usize],
         den: 100,
     }
+}
+
+// A site's overdispersion, by which its history is weighed: in edition 2 a segment's goes by its length.
+pub fn overdispersion(edition: u64, kind: u8, length: u64) -> Ratio
+    requires { ⌜ (kind ≤ 3) × (kind ≡ 0 → 1 ≤ length) ⌝ }
+    ensures { λ r. ⌜ r ≡ coded (coefficientsOf edition .overdispersion kind length) ⌝ }
+{
+    if edition <= 1 {
+        return dispersion_by_kind(kind);
+    }
+    if kind == 0 {
+        return Ratio {
+            num: 236,
+            den: length,
+        };
+    }
+    dispersion_by_kind(kind)
 }

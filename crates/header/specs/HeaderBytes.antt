@@ -11,9 +11,10 @@ use Rattle.site.specs.Writing.{twoBytes}
 use Rattle.site.specs.Digits.{Bytes, two-bytes, bytes-of-word}
 use Rattle.site.specs.Bytes.{bytes-cons, bytes-append, two-bytes-of}
 use Rattle.header.specs.declared.Header.{Header}
-use Rattle.header.specs.Header.{headerLength, headerIn, countIn, firstEdition, admits, headerBytes}
+use Rattle.site.specs.Rules.{editionKnown}
+use Rattle.header.specs.Header.{headerLength, headerIn, countIn, admits, headerBytes}
 use Rattle.header.specs.Causes.{HeaderAccepted}
-use Rattle.header.specs.HeaderLaws.{admitted}
+use Rattle.header.specs.HeaderLaws.{admitted, edition-few}
 
 -- what a list says of its header
 pub record HeaderRead (header : Header) (sites : ℕ) (s : List ℕ) : Type 0 where
@@ -21,7 +22,7 @@ pub record HeaderRead (header : Header) (sites : ℕ) (s : List ℕ) : Type 0 wh
   pub count-is : countIn s ≡ sites
   pub accepted : HeaderAccepted s
 
-module _ (header : Header) (sites : ℕ) (e : admits header sites ≡ true) where
+module _ (header : Header) (sites : ℕ) (known : editionKnown (header .edition) ≡ true) (e : admits header sites ≡ true) where
   -- values within their limits are read as they were written, whatever follows them
   pub written-header : (rest : List ℕ) → HeaderRead header sites (headerBytes header sites ++ rest)
   written-header rest =
@@ -31,7 +32,7 @@ module _ (header : Header) (sites : ℕ) (e : admits header sites ≡ true) wher
       record {
         header-is = header-same;
         count-is = count-same;
-        accepted = record { long = omega arith; edition = refl; limits = rw header-same (a .limits); few = omega (arith, count-same, a .few) };
+        accepted = record { long = omega arith; edition = known; limits = rw header-same (a .limits); few = omega (arith, count-same, a .few) };
       }
 
   -- they fit their bytes
@@ -45,7 +46,7 @@ module _ (header : Header) (sites : ℕ) (e : admits header sites ≡ true) wher
       let later = bytes-append crossings (twoBytes sites) fits′ (two-bytes-of sites (omega (arith, a .few))) in
       let words = bytes-append segments (crossings ++ twoBytes sites) fits later in
       let years = bytes-cons (header .years) (segments ++ crossings ++ twoBytes sites) (omega (arith, a .within)) words in
-      bytes-cons firstEdition (header .years ∷ (segments ++ crossings ++ twoBytes sites)) (omega arith) years
+      bytes-cons (header .edition) (header .years ∷ (segments ++ crossings ++ twoBytes sites)) (omega (arith, edition-few (header .edition) known)) years
 
 -- an accepted header is written back as the same bytes
 pub header-again : (s : List ℕ) → Bytes s → HeaderAccepted s → headerBytes (headerIn s) (countIn s) ≡ take headerLength s
@@ -53,7 +54,6 @@ header-again [] bytes a = let z : ⊥ = omega arith in absurd z
 header-again (edition ∷ []) bytes a = let z : ⊥ = omega arith in absurd z
 header-again (edition ∷ years ∷ s) bytes a =
     rw (
-      a .edition,
       take-add 2 4 s,
       take-add 2 2 (drop 2 s),
       drop-drop 2 2 s,

@@ -5,14 +5,19 @@ use mathlib.Core.List.{List}
 use Prim.Native.Nat.{ℕ, _≤_}
 use native.Mathlib.Omega.{arith}
 use lib.ListN.{length}
-use lib.Dec.{ltb, leb, eqb}
-use borrow.Author.Tests.{ltb-true, ltb-false, lt-ltb, le-ltb, eqb-true, eqb-false, eq-eqb, ne-eqb, leb-true, le-leb}
+use lib.Dec.{ltb, leb}
+use borrow.Author.Tests.{ltb-true, ltb-false, lt-ltb, le-ltb, leb-true, le-leb}
 use Rattle.laws.specs.Truth.{and-left, and-right, passed, never-so}
-use Rattle.site.specs.Rules.{inside, mostYears, yearsKnown}
+use Rattle.site.specs.Rules.{inside, lastEdition, editionKnown, mostYears, yearsKnown}
+use Rattle.site.specs.Tested.{unknown-neither, neither-unknown}
 use Rattle.header.specs.declared.Header.{Header}
-use Rattle.header.specs.Header.{headerLength, editionIn, headerIn, countIn, firstEdition, mostCalibration, mostSites}
+use Rattle.header.specs.Header.{headerLength, editionIn, headerIn, countIn, mostCalibration, mostSites}
 use Rattle.header.specs.Header.{inLimits, admits, headerNumber}
 use Rattle.header.specs.Causes.{HeaderCause, header-cut, header-edition, header-limits, HeaderAccepted}
+
+-- a known edition fits a byte
+pub edition-few : (edition : ℕ) → editionKnown edition ≡ true → edition ≤ lastEdition
+edition-few edition e = leb-true edition lastEdition (and-right (leb 1 edition) _ e)
 
 -- THE LIMITS of a header's values
 pub record HeaderWithin (header : Header) : Type 0 where
@@ -69,29 +74,30 @@ module _ (header : Header) (sites : ℕ) where
 
 module _ (s : List ℕ) where
   -- A NUMBER by the causes
-  by-tests : (short known admit : Bool) → ltb (length s) headerLength ≡ short → eqb (editionIn s) firstEdition ≡ known
+  by-tests : (short known admit : Bool) → ltb (length s) headerLength ≡ short → editionKnown (editionIn s) ≡ known
       → admits (headerIn s) (countIn s) ≡ admit → (headerNumber s ≡ 0 → ⊥) → HeaderCause s (headerNumber s)
   unfolding headerNumber
   by-tests true known admit a b c ne = rw a (header-cut (ltb-true (length s) headerLength a))
   by-tests false false admit a b c ne =
       let l = ltb-false (length s) headerLength a in
-      rw (a, b) (header-edition l (record { place-is = refl; there = omega arith; other = eqb-false (editionIn s) firstEdition b }))
+      let neither = unknown-neither (editionIn s) b in
+      rw (a, b) (header-edition l (record { place-is = refl; there = omega arith; not-one = neither .0; not-two = neither .1 }))
   by-tests false true false a b c ne =
       let l = ltb-false (length s) headerLength a in
-      rw (a, b, c) (header-limits (eqb-true (editionIn s) firstEdition b)
+      rw (a, b, c) (header-limits b
       (record { place-is = refl; there = l; outside = λ h. true≢false (sym (admits-both (headerIn s) (countIn s) h) ∙ c) }))
   by-tests false true true a b c ne = absurd (ne (rw (a, b, c)))
 
   pub header-cause : (headerNumber s ≡ 0 → ⊥) → HeaderCause s (headerNumber s)
-  header-cause = by-tests (ltb (length s) headerLength) (eqb (editionIn s) firstEdition) (admits (headerIn s) (countIn s)) refl refl refl
+  header-cause = by-tests (ltb (length s) headerLength) (editionKnown (editionIn s)) (admits (headerIn s) (countIn s)) refl refl refl
 
   pub cause-header : {number : ℕ} → HeaderCause s number → headerNumber s ≡ number
   unfolding headerNumber
   cause-header (header-cut h) = rw (lt-ltb (length s) headerLength h)
-  cause-header (header-edition l h) = rw (le-ltb (length s) headerLength l, ne-eqb (editionIn s) firstEdition (h .other))
+  cause-header (header-edition l h) = rw (le-ltb (length s) headerLength l, neither-unknown (editionIn s) (h .not-one) (h .not-two))
   cause-header (header-limits e h) =
       let refused = never-so (admits (headerIn s) (countIn s)) (λ t. let a = admitted (headerIn s) (countIn s) t in h .outside (a .limits, a .few)) in
-      rw (le-ltb (length s) headerLength (h .there), eq-eqb (editionIn s) firstEdition e, refused)
+      rw (le-ltb (length s) headerLength (h .there), e, refused)
 
   pub header-not-zero : {number : ℕ} → HeaderCause s number → number ≡ 0 → ⊥
   header-not-zero (header-cut h) e = omega arith
@@ -102,13 +108,13 @@ module _ (s : List ℕ) where
   pub header-accepted : headerNumber s ≡ 0 → HeaderAccepted s
   unfolding headerNumber
   header-accepted e =
-      by (eqb (editionIn s) firstEdition) (admits (headerIn s) (countIn s)) refl refl (passed (ltb (length s) headerLength) 0 _ e)
+      by (editionKnown (editionIn s)) (admits (headerIn s) (countIn s)) refl refl (passed (ltb (length s) headerLength) 0 _ e)
     where
-      by : (a b : Bool) → eqb (editionIn s) firstEdition ≡ a → admits (headerIn s) (countIn s) ≡ b
+      by : (a b : Bool) → editionKnown (editionIn s) ≡ a → admits (headerIn s) (countIn s) ≡ b
           → (ltb (length s) headerLength ≡ false) × (_≡_ {A = ℕ} (cond a (cond b 0 4) 3) 0) → HeaderAccepted s
       by true true p q h =
           let a = admitted (headerIn s) (countIn s) q in
-          record { long = ltb-false (length s) headerLength (h .0); edition = eqb-true (editionIn s) firstEdition p; limits = a .limits; few = a .few }
+          record { long = ltb-false (length s) headerLength (h .0); edition = p; limits = a .limits; few = a .few }
       by true false p q h = let z : ⊥ = omega arith in absurd z
       by false b p q h = let z : ⊥ = omega arith in absurd z
 
@@ -116,4 +122,4 @@ module _ (s : List ℕ) where
   unfolding headerNumber
   accepted-header h =
       let both = admits-both (headerIn s) (countIn s) (h .limits, h .few) in
-      rw (le-ltb (length s) headerLength (h .long), eq-eqb (editionIn s) firstEdition (h .edition), both)
+      rw (le-ltb (length s) headerLength (h .long), h .edition, both)

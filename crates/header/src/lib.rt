@@ -4,22 +4,22 @@ ghost use Prim.Native.Nat.{_≤_};
 ghost use mathlib.Core.Bool.{true};
 ghost use lib.ListN.{length};
 ghost use lib.Seq.{sets};
-ghost use Rattle.site.specs.Rules.{inside};
+ghost use Rattle.site.specs.Rules.{inside, editionKnown};
 ghost use Rattle.header.specs.Header.{headerLength, headerIn, countIn, inLimits, admits, headerBytes, headerNumber};
 use site::rules::are_years_known;
+use site::rules::is_edition_known;
 use site::words::put_word;
 use site::words::word_at;
 
-// What holds for every site: the years, and the calibrations in thousandths.
+// What holds for every site: the edition, the years, and the calibrations in thousandths.
 pub struct Header {
+    pub edition: u64,
     pub years: u64,
     pub segments: u64,
     pub crossings: u64,
 }
 
 pub const HEADER_LENGTH: usize = 8;
-
-const EDITION: u8 = 1;
 
 const MOST_CALIBRATION: u64 = 9999;
 
@@ -32,15 +32,17 @@ fn wide(byte: u8) -> u64
     byte as u64
 }
 
-// The years and calibrations of a file that is long enough for a header.
+// The edition, years and calibrations of a file that is long enough for a header.
 pub fn header_in(file: &[u8]) -> Header
     requires { ⌜ headerLength ≤ length (now file) ⌝ }
     ensures { λ r. ⌜ r ≡ headerIn (now (file .entry)) ⌝ }
 {
+    let edition = wide(file[0]);
     let years = wide(file[1]);
     let segments = word_at(file, 2) as u64;
     let crossings = word_at(file, 4) as u64;
     Header {
+        edition,
         years,
         segments,
         crossings,
@@ -85,12 +87,12 @@ pub fn does_admit(header: Header, sites: usize) -> bool
     sites <= MOST_SITES
 }
 
-// Writes a header within its limits at the start of a buffer that has space for it.
+// Writes a header of a known edition, within its limits, at the start of a buffer that has space for it.
 pub fn put_header(header: Header, sites: usize, buffer: &mut [u8])
-    requires { ⌜ (admits header sites ≡ true) × (headerLength ≤ length (now buffer)) ⌝ }
+    requires { ⌜ (editionKnown (header .edition) ≡ true) × (admits header sites ≡ true) × (headerLength ≤ length (now buffer)) ⌝ }
     ensures { λ r. ⌜ now (buffer .exit) ≡ sets (now (buffer .entry)) 0 (headerBytes header sites) ⌝ }
 {
-    buffer[0] = EDITION;
+    buffer[0] = header.edition as u8;
     buffer[1] = header.years as u8;
     put_word(header.segments as u16, buffer, 2);
     put_word(header.crossings as u16, buffer, 4);
@@ -104,10 +106,11 @@ pub fn header_number(file: &[u8]) -> u8
     if file.len() < HEADER_LENGTH {
         return 1;
     }
-    if file[0] != EDITION {
+    let header = header_in(file);
+    if !is_edition_known(header.edition) {
         return 3;
     }
-    if !does_admit(header_in(file), count_in(file)) {
+    if !does_admit(header, count_in(file)) {
         return 4;
     }
     0

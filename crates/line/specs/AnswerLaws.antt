@@ -1,14 +1,15 @@
--- The answer of the public call: a line exactly where header and site are within their ranges, and it stands; otherwise the
--- first refusal.
+-- The answer of the public call: a line exactly where the edition is known and header and site are within their ranges, and it
+-- stands; otherwise the first refusal.
 use mathlib.Core.Path.{_≡_, refl}
 use mathlib.Core.Bool.{true, false}
 use Rattle.site.specs.declared.values.Site.{Site}
+use Rattle.site.specs.Rules.{editionKnown}
 use Rattle.site.specs.Writing.{sound}
 use Rattle.header.specs.declared.Header.{Header}
 use Rattle.header.specs.Header.{inLimits}
 use Rattle.model.specs.Coefficients.{Coefficients}
 use Rattle.line.specs.declared.LineAnswer.{LineAnswer}
-use Rattle.line.specs.declared.LineAnswer.the-variants.{Made, OutsideLimits, OutsideRange}
+use Rattle.line.specs.declared.LineAnswer.the-variants.{Made, EditionUnknown, OutsideLimits, OutsideRange}
 use Rattle.line.specs.Line.{siteLine, lineNumber, lineRefusal, lineAnswer}
 use Rattle.line.specs.Stands.{LineStands, AnswerStands}
 
@@ -17,15 +18,22 @@ module _ (c : Coefficients) (header : Header) (site : Site) where
   abbrev Answered : LineAnswer → Type 0
   Answered r = (r ≡ lineAnswer c header site) × ((lineNumber r ≡ lineRefusal header site) × AnswerStands c header site r)
 
-  -- each way of answering, by the two tests
-  pub header-outside : inLimits header ≡ false → Answered OutsideLimits
+  -- each way of answering, by the three tests
+  pub edition-unknown : editionKnown (header .edition) ≡ false → Answered EditionUnknown
   unfolding lineAnswer lineRefusal
-  header-outside out = (rw out refl, (rw out refl, out))
+  edition-unknown out = (rw out refl, (rw out refl, out))
 
-  pub site-outside : inLimits header ≡ true → sound (header .years) site ≡ false → Answered OutsideRange
-  unfolding lineAnswer lineRefusal
-  site-outside within out = (rw (within, out) refl, (rw (within, out) refl, (within, out)))
+  module _ (known : editionKnown (header .edition) ≡ true) where
+    pub header-outside : inLimits header ≡ false → Answered OutsideLimits
+    unfolding lineAnswer lineRefusal
+    header-outside out = (rw (known, out) refl, (rw (known, out) refl, (known, out)))
 
-  pub both-inside : inLimits header ≡ true → sound (header .years) site ≡ true → LineStands c header site (siteLine c header site) → Answered (Made (siteLine c header site))
-  unfolding lineAnswer lineRefusal
-  both-inside within valid stands = (rw (within, valid) refl, (rw (within, valid) refl, stands))
+    module _ (within : inLimits header ≡ true) where
+      pub site-outside : sound (header .edition) (header .years) site ≡ false → Answered OutsideRange
+      unfolding lineAnswer lineRefusal
+      site-outside out = (rw (known, within, out) refl, (rw (known, within, out) refl, (known, within, out)))
+
+      pub all-inside : sound (header .edition) (header .years) site ≡ true → LineStands c header site (siteLine c header site)
+          → Answered (Made (siteLine c header site))
+      unfolding lineAnswer lineRefusal
+      all-inside valid stands = (rw (known, within, valid) refl, (rw (known, within, valid) refl, stands))

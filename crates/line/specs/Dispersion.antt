@@ -1,13 +1,20 @@
--- WHAT IS NEEDED of an edition's overdispersions, and that edition 1 has it.
+-- WHAT IS NEEDED of an edition's overdispersions, and that each edition has it.
 use Prim.Native.Nat.{ℕ, zero, suc, _+_, _*_, _≤_, _<_}
-use native.Mathlib.Nat.{mul-le-mul-right}
+use mathlib.Core.Path.{_≡_, refl}
+use mathlib.Core.Bool.{Bool, true, false, cond}
+use native.Mathlib.Nat.{mul-le-mul-left, mul-le-mul-right, le-of-mul-le-mul-right}
 use native.Mathlib.Omega.{arith}
-use lib.Dec.{lit<, lit≤}
-use Rattle.estimate.specs.Fraction.{fraction, _//_}
+use lib.Dec.{eqb, lit<, lit≤}
+use borrow.Author.Tests.{eqb-true}
+use Rattle.estimate.specs.Fraction.{Fraction, _≤ᶠ_, fraction, _//_, whole, _+ᶠ_}
+use Rattle.estimate.specs.FractionLaws.{//-num, //-den}
+use Rattle.wide.specs.Scaling.{ceiling}
+use Rattle.wide.specs.Rounding.{ceiling-ge}
 use Rattle.site.specs.declared.values.Site.{Site}
 use Rattle.site.specs.Writing.{Valid}
-use Rattle.model.specs.Coefficients.{Coefficients, byKind, editionOne}
-use Rattle.site.specs.Numbers.{number}
+use Rattle.site.specs.Numbers.{number, site-traffic, segment-sizes}
+use Rattle.model.specs.Coefficients.{Coefficients, byKind, dispersionByKind, dispersionByLength, editionOne, editionTwo, coefficientsOf}
+use Rattle.model.specs.Editions.{by-edition}
 use Rattle.model.specs.Expected.{overdispersionOf}
 use Rattle.model.specs.StatedWidths.{predictedEach, expectedEach, sitesCounted, observedWeight}
 use Rattle.model.specs.TermLaws.{by-count}
@@ -23,15 +30,27 @@ pub record Weighs (kn kd O n weight : ℕ) : Type 0 where
   pub some : 1 ≤ n
   pub enough : predictedEach * n * (kd + kn * O) + 2 * kd ≤ expectedEach * (n + weight) * kd
 
+-- a crash counts for at least k
 pub record Dispersed (c : Coefficients) : Type 0 where
-  pub sizes : (years : ℕ) (site : Site) → Valid years site → let k = overdispersionOf c site in Overdispersed (k .num) (k .den)
-  pub weighs : (years : ℕ) (site : Site) → Valid years site → 1 ≤ years → let k = overdispersionOf c site in
-      Weighs (k .num) (k .den) (number (site .observed)) (sitesCounted years site) (observedWeight c years site)
+  pub sizes : (edition years : ℕ) (site : Site) → Valid edition years site → let k = overdispersionOf c site in Overdispersed (k .num) (k .den)
+  pub counted : (kind length : ℕ) → c .overdispersion kind length ≤ᶠ c .crash-count kind length
 
--- where k is at most 1 the crashes themselves are enough
-once-enough : (kn kd O n : ℕ) → kn ≤ kd → 1 ≤ n → Weighs kn kd O n (n * O)
-once-enough kn kd O n h some = record { some = some; enough = omega (arith, mul-le-mul-right (n * O) h, mul-le-mul-right kd some) }
+-- crashes that count for k each, rounded up, are enough
+count-enough : (k count : Fraction) (O n : ℕ) → k ≤ᶠ count → 1 ≤ n → Weighs (k .num) (k .den) O n (ceiling (n * O) (count .num) (count .den))
+count-enough k count O n h some =
+    let weight = ceiling (n * O) (count .num) (count .den) in
+    let up = ceiling-ge (n * O) (count .num) (count .den) (count .pos) in
+    let enough : n * O * k .num ≤ weight * k .den =
+    le-of-mul-le-mul-right {k = count .den} (omega (arith, mul-le-mul-left (n * O) (h .cross), mul-le-mul-right (k .den) up)) (count .pos) in
+    record { some = some; enough = omega (arith, mul-le-mul-right (k .den) some) }
 
+pub weighs : {c : Coefficients} → Dispersed c → (years : ℕ) (site : Site) → 1 ≤ years → let k = overdispersionOf c site in
+    Weighs (k .num) (k .den) (number (site .observed)) (sitesCounted years site) (observedWeight c years site)
+weighs {c} dispersed years site some =
+    count-enough (overdispersionOf c site) _ (number (site .observed)) (sitesCounted years site) (dispersed .counted _ _)
+    (by-count (λ n. 1 ≤ n) years site some (lit≤ tt))
+
+-- K BY KIND ALONE is at most 1
 most-of-kind : (kind : ℕ) → byKind 31 54 24 11 kind ≤ 54
 most-of-kind zero = lit≤ tt
 most-of-kind (suc zero) = lit≤ tt
@@ -39,10 +58,51 @@ most-of-kind (suc (suc zero)) = lit≤ tt
 most-of-kind (suc (suc (suc zero))) = lit≤ tt
 most-of-kind (suc (suc (suc (suc kind)))) = lit≤ tt
 
-pub edition-one-dispersed : Dispersed editionOne
-unfolding editionOne _//_ fraction
-edition-one-dispersed = record {
-  sizes = λ years site valid. record { kn-most = omega (arith, most-of-kind (site .kind)); kd-least = lit< tt; kd-most = lit≤ tt };
-  weighs = λ years site valid some.
-      once-enough _ _ (number (site .observed)) _ (omega (arith, most-of-kind (site .kind))) (by-count (λ n. 1 ≤ n) years site some (lit≤ tt));
-}
+kind-sizes : (kind : ℕ) → Overdispersed (dispersionByKind kind .num) (dispersionByKind kind .den)
+unfolding _//_ fraction
+kind-sizes kind = record { kn-most = omega (arith, most-of-kind kind); kd-least = lit< tt; kd-most = lit≤ tt }
+
+kind-counted : (kind : ℕ) → dispersionByKind kind ≤ᶠ whole 1
+unfolding _//_ whole fraction
+kind-counted kind = record { cross = omega (arith, most-of-kind kind) }
+
+-- K BY LENGTH, from a thousandth of a mile to twenty miles
+length-sizes : (length : ℕ) → 1 ≤ length → length ≤ 20000 → Overdispersed (dispersionByLength length .num) (dispersionByLength length .den)
+length-sizes length least most =
+    rw (//-num 236 length, //-den 236 length least) (record { kn-most = lit≤ tt; kd-least = least; kd-most = most })
+
+length-counted : (length : ℕ) → dispersionByLength length ≤ᶠ whole 1 +ᶠ dispersionByLength length
+unfolding _+ᶠ_ whole fraction
+length-counted length = record { cross = omega arith }
+
+-- EDITION 1
+edition-one-dispersed : Dispersed editionOne
+unfolding editionOne
+edition-one-dispersed = record { sizes = λ edition years site valid. kind-sizes (site .kind); counted = λ kind length. kind-counted kind }
+
+-- EDITION 2: a segment by its length
+edition-two-sizes : (edition years : ℕ) (site : Site) → Valid edition years site
+    → let k = overdispersionOf editionTwo site in Overdispersed (k .num) (k .den)
+unfolding editionTwo
+edition-two-sizes edition years site valid = by (eqb (site .kind) 0) refl
+  where
+    by : (b : Bool) → eqb (site .kind) 0 ≡ b
+        → let k = cond b (dispersionByLength (number (site .length))) (dispersionByKind (site .kind)) in Overdispersed (k .num) (k .den)
+    by true e =
+        let s = segment-sizes edition years site valid (eqb-true (site .kind) 0 e) _ (site-traffic edition years site valid) in
+        length-sizes (number (site .length)) (s .length-least) (s .length-most)
+    by false e = kind-sizes (site .kind)
+
+edition-two-counted : (kind length : ℕ) → editionTwo .overdispersion kind length ≤ᶠ editionTwo .crash-count kind length
+unfolding editionTwo
+edition-two-counted kind length = by (eqb kind 0)
+  where
+    by : (b : Bool) → cond b (dispersionByLength length) (dispersionByKind kind) ≤ᶠ cond b (whole 1 +ᶠ dispersionByLength length) (whole 1)
+    by true = length-counted length
+    by false = kind-counted kind
+
+edition-two-dispersed : Dispersed editionTwo
+edition-two-dispersed = record { sizes = edition-two-sizes; counted = edition-two-counted }
+
+pub edition-dispersed : (edition : ℕ) → Dispersed (coefficientsOf edition)
+edition-dispersed = by-edition Dispersed edition-one-dispersed edition-two-dispersed

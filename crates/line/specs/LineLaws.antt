@@ -12,7 +12,7 @@ use Rattle.site.specs.declared.values.Slot.the-variants.{Absent, Number}
 use Rattle.site.specs.Writing.{Valid}
 use Rattle.header.specs.declared.Header.{Header}
 use Rattle.header.specs.HeaderLaws.{HeaderWithin}
-use Rattle.model.specs.Coefficients.{Coefficients, editionOne}
+use Rattle.model.specs.Coefficients.{Coefficients, coefficientsOf}
 use Rattle.site.specs.Numbers.{number}
 use Rattle.model.specs.Expected.{withHistory, expectedLow, expectedHigh, overdispersionOf, expectedUnder, expectedOver}
 use Rattle.model.specs.ExpectedLaws.{expected-low-right, expected-high-right, expected-in-order, expected-width}
@@ -22,11 +22,11 @@ use Rattle.model.specs.StatedWidths.{widthParts, predictedEach, expectedEach, s
 use Rattle.prediction.specs.declared.Pair.{Pair}
 use Rattle.prediction.specs.Pair.{predictedPair}
 use Rattle.prediction.specs.Kept.{Rated}
-use Rattle.prediction.specs.EditionOne.{edition-one-rated}
+use Rattle.prediction.specs.Editions.{edition-rated}
 use Rattle.prediction.specs.PredictedLaws.{PairStands, predicted-stands}
 use Rattle.line.specs.Line.{expectedPair, siteLine}
 use Rattle.line.specs.Stands.{Amid, LineStands}
-use Rattle.line.specs.Dispersion.{Weighs, Dispersed, edition-one-dispersed}
+use Rattle.line.specs.Dispersion.{Weighs, Dispersed, weighs, edition-dispersed}
 
 -- the expected numbers lie between the prediction and the history
 module _ (k : Fraction) (O n : ℕ) where
@@ -88,15 +88,15 @@ expected-stands k (Number m) n weight enough under over p s = record {
 
 -- THE THEOREM, for any edition whose numbers are within bounds
 module _ (c : Coefficients) (rated : Rated c) (dispersed : Dispersed c) (header : Header) (limits : HeaderWithin header)
-    (site : Site) (valid : Valid (header .years) site) where
+    (site : Site) (valid : Valid (header .edition) (header .years) site) where
   pub line-stands : LineStands c header site (siteLine c header site)
   unfolding siteLine expectedUnder expectedOver
   line-stands =
       let p = predicted-stands c rated header limits site valid in
       let k = overdispersionOf c site in
       let n = sitesCounted (header .years) site in
-      let weighs = dispersed .weighs (header .years) site valid (limits .years-least) in
-      let e = expected-stands k (site .observed) n (observedWeight c (header .years) site) weighs _ _ (predictedPair c header site) p in
+      let enough = weighs dispersed (header .years) site (limits .years-least) in
+      let e = expected-stands k (site .observed) n (observedWeight c (header .years) site) enough _ _ (predictedPair c header site) p in
       record {
         predicted-between = record { low-right = p .low-right; high-right = p .high-right };
         expected-between = e .between;
@@ -108,6 +108,6 @@ module _ (c : Coefficients) (rated : Rated c) (dispersed : Dispersed c) (header 
         high-amid = e .high-amid;
       }
 
-pub edition-one-line : (header : Header) → HeaderWithin header → (site : Site) → Valid (header .years) site
-    → LineStands editionOne header site (siteLine editionOne header site)
-edition-one-line = line-stands editionOne edition-one-rated edition-one-dispersed
+pub edition-line : (edition : ℕ) (header : Header) → HeaderWithin header → (site : Site) → Valid (header .edition) (header .years) site
+    → LineStands (coefficientsOf edition) header site (siteLine (coefficientsOf edition) header site)
+edition-line edition = line-stands (coefficientsOf edition) (edition-rated edition) (edition-dispersed edition)

@@ -7,6 +7,7 @@ use Rattle.estimate.specs.Standing.{Between}
 use Rattle.wide.specs.Rounding.{Narrow}
 use Rattle.site.specs.declared.values.Site.{Site}
 use Rattle.site.specs.declared.values.Slot.the-variants.{Number}
+use Rattle.site.specs.Rules.{editionKnown}
 use Rattle.site.specs.Writing.{sound}
 use Rattle.header.specs.declared.Header.{Header}
 use Rattle.header.specs.Header.{inLimits}
@@ -16,7 +17,7 @@ use Rattle.model.specs.Expected.{expectedUnder, expectedOver}
 use Rattle.model.specs.StatedWidths.{widthParts, predictedEach, expectedEach, sitesCounted, observedWeight}
 use Rattle.line.specs.declared.Line.{Line}
 use Rattle.line.specs.declared.LineAnswer.{LineAnswer}
-use Rattle.line.specs.declared.LineAnswer.the-variants.{Made, OutsideLimits, OutsideRange}
+use Rattle.line.specs.declared.LineAnswer.the-variants.{Made, EditionUnknown, OutsideLimits, OutsideRange}
 
 -- a number lies from the lesser to the greater of two
 pub record Amid (x y n : ℕ) : Type 0 where
@@ -32,7 +33,7 @@ pub record LineStands (c : Coefficients) (header : Header) (site : Site) (line :
   -- "No low passes its high"
   pub predicted-in-order : line .«predicted_low» ≤ line .«predicted_high»
   pub expected-in-order : line .«expected_low» ≤ line .«expected_high»
-  -- a site that counts as n: at most 4 n and a millionth of the high apart; with O crashes, 8 (n + n O) and a millionth
+  -- a site that counts as n: at most 4 n and a millionth of the high apart; with crashes of a weight, 8 (n + weight) and a millionth
   pub predicted-narrow : Narrow widthParts (predictedEach * sitesCounted (header .years) site) 1 (line .«predicted_low») (line .«predicted_high»)
   pub expected-narrow : Narrow widthParts (expectedEach * (sitesCounted (header .years) site + observedWeight c (header .years) site)) 1
       (line .«expected_low») (line .«expected_high»)
@@ -40,9 +41,11 @@ pub record LineStands (c : Coefficients) (header : Header) (site : Site) (line :
   pub low-amid : (observed : ℕ) → site .observed ≡ Number observed → Amid (line .«predicted_low») (observed * 1000000) (line .«expected_low»)
   pub high-amid : (observed : ℕ) → site .observed ≡ Number observed → Amid (line .«predicted_high») (observed * 1000000) (line .«expected_high»)
 
--- an answer: its line stands; the header is refused only where it is outside its limits, and the site only where it is outside
--- its range and the header is not
+-- an answer: its line stands; the edition is refused only where there is none such, the header only where it is outside its limits
+-- and the edition is known, and the site only where it is outside its range and the header is not
 abbrev pub AnswerStands : Coefficients → Header → Site → LineAnswer → Type 0
 AnswerStands c header site (Made line) = LineStands c header site line
-AnswerStands c header site OutsideLimits = inLimits header ≡ false
-AnswerStands c header site OutsideRange = (inLimits header ≡ true) × (sound (header .years) site ≡ false)
+AnswerStands c header site EditionUnknown = editionKnown (header .edition) ≡ false
+AnswerStands c header site OutsideLimits = (editionKnown (header .edition) ≡ true) × (inLimits header ≡ false)
+AnswerStands c header site OutsideRange =
+    (editionKnown (header .edition) ≡ true) × (inLimits header ≡ true) × (sound (header .edition) (header .years) site ≡ false)

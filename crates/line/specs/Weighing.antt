@@ -107,7 +107,7 @@ record PairSmall (e : Pair) : Type 0 where
   high : e .high ≤ mostPredicted
 
 module _ (c : Coefficients) (rated : Rated c) (header : Header) (limits : HeaderWithin header) (site : Site)
-    (valid : Valid (header .years) site) where
+    (valid : Valid (header .edition) (header .years) site) where
   abbrev p : Pair
   p = predictedPair c header site
 
@@ -122,7 +122,11 @@ module _ (c : Coefficients) (rated : Rated c) (header : Header) (limits : Header
     SizesAt n = let k = overdispersionOf c site in Sizes (k .num) (k .den) (number (site .observed)) n
 
     sizes : (n : ℕ) → n ≤ mostPredicted → SizesAt n
-    sizes n h = record { overdispersed = dispersed .sizes (header .years) site valid; history-most = observed-most (header .years) site valid; prediction-most = h }
+    sizes n h = record {
+      overdispersed = dispersed .sizes (header .edition) (header .years) site valid;
+      history-most = observed-most (header .edition) (header .years) site valid;
+      prediction-most = h;
+    }
 
     pub both-sizes : SizesAt (p .low) × SizesAt (p .high)
     both-sizes = (sizes (p .low) (omega (arith, stands .in-order, small)), sizes (p .high) (omega (arith, small)))
@@ -137,7 +141,7 @@ module _ (c : Coefficients) (rated : Rated c) (header : Header) (limits : Header
   pub line-small : LineAtMost mostPredicted (siteLine c header site)
   unfolding siteLine
   line-small =
-      let e = expected-small (overdispersionOf c site) (site .observed) (observed-most (header .years) site valid) in
+      let e = expected-small (overdispersionOf c site) (site .observed) (observed-most (header .edition) (header .years) site valid) in
       record {
         predicted-low = omega (arith, stands .in-order, small);
         predicted-high = omega (arith, small);

@@ -7,7 +7,7 @@ ghost use Rattle.logarithm.specs.Stored.{StoredLogarithms};
 ghost use Rattle.power.specs.Stored.{StoredPowers};
 ghost use Rattle.site.specs.Writing.{Valid};
 ghost use Rattle.header.specs.HeaderLaws.{HeaderWithin};
-ghost use Rattle.model.specs.Coefficients.{editionOne};
+ghost use Rattle.model.specs.Coefficients.{coefficientsOf};
 ghost use Rattle.line.specs.Line.{siteLine, lineAnswer, lineNumber, lineRefusal};
 ghost use Rattle.line.specs.Stands.{AnswerStands};
 use crate::expected::weigh;
@@ -19,6 +19,7 @@ use logarithm::stored::stored_logarithms;
 use power::stored::stored_powers;
 use prediction::predicted_with;
 use site::numbers::number;
+use site::rules::is_edition_known;
 use site::values::Site;
 use site_writer::is_sound;
 
@@ -30,9 +31,11 @@ pub struct Line {
     pub expected_high: u64,
 }
 
-// A site's line, or that a header value is outside its limits, or that the site is outside its range.
+// A site's line, or that there is no such edition, that a header value is outside its limits, or that the site is outside its
+// range.
 pub enum LineAnswer {
     Made(Line),
+    EditionUnknown,
     OutsideLimits,
     OutsideRange,
 }
@@ -46,13 +49,13 @@ pub fn line_with(
     site: Site,
 ) -> Line
     requires { ⌜ StoredPowers (now powers) × StoredLogarithms (now logarithms) × StoredExponentials (now exponentials) × HeaderWithin header
-        × Valid (header .years) site ⌝ }
-    ensures { λ r. ⌜ r ≡ siteLine editionOne header site ⌝ }
+        × Valid (header .edition) (header .years) site ⌝ }
+    ensures { λ r. ⌜ r ≡ siteLine (coefficientsOf (header .edition)) header site ⌝ }
 {
     let kind = site.kind;
     let observed = site.observed;
     let length = site.length;
-    let k = overdispersion(kind, number(length));
+    let k = overdispersion(header.edition, kind, number(length));
     let predicted = predicted_with(powers, logarithms, exponentials, header, site);
     let expected = weigh(k, observed, predicted);
     Line {
@@ -63,16 +66,19 @@ pub fn line_with(
     }
 }
 
-// The line of a site, or the first refusal: a header value outside its limits, tried before the site outside its range.
+// The line of a site, or the first refusal: the edition, then a header value outside its limits, then the site outside its range.
 pub fn line_of(header: Header, site: Site) -> LineAnswer
-    ensures { λ r. ⌜ r ≡ lineAnswer editionOne header site ⌝ }
+    ensures { λ r. ⌜ r ≡ lineAnswer (coefficientsOf (header .edition)) header site ⌝ }
     ensures number { λ r. ⌜ lineNumber r ≡ lineRefusal header site ⌝ }
-    ensures stands { λ r. ⌜ AnswerStands editionOne header site r ⌝ }
+    ensures stands { λ r. ⌜ AnswerStands (coefficientsOf (header .edition)) header site r ⌝ }
 {
+    if !is_edition_known(header.edition) {
+        return LineAnswer::EditionUnknown;
+    }
     if !is_in_limits(header) {
         return LineAnswer::OutsideLimits;
     }
-    if !is_sound(header.years, site) {
+    if !is_sound(header.edition, header.years, site) {
         return LineAnswer::OutsideRange;
     }
     let powers = stored_powers();

@@ -12,7 +12,7 @@ use borrow.Author.Tests.{leb-true}
 use Rattle.estimate.specs.Fraction.{Fraction, _≤ᶠ_, fraction, _//_, whole, _^ᶠ_, leᶠ}
 use Rattle.estimate.specs.FractionLaws.{//-num, //-den, ≤ᶠ-refl, leᶠ-sound}
 use Rattle.laws.specs.Table.{both, both-left, both-right, allOf, entry-of, allBelow, all-below}
-use Rattle.model.specs.Coefficients.{Coefficients, editionOne, leftTurnOne, rightTurnOne}
+use Rattle.model.specs.Coefficients.{Coefficients, atLanes, editionOne, leftTurnOne, rightTurnOne, editionTwo, leftTurnTwo, rightTurnTwo}
 use Rattle.model.specs.Widths.{Column, none, atTraffic, widthUnit, laneColumns, laneColumn, laneValue, ofRelated, lane}
 use Rattle.model.specs.Widths.{shoulderColumns, widthAt, typeAt, shoulderValue, typeValue, shoulderUnit, shoulder}
 use Rattle.model.specs.Neighbours.{columns-few}
@@ -223,7 +223,7 @@ superelevation-within deficiency h =
     (λ e. quotient-within (940 + 6 * deficiency) 1000 13 10 (lit< tt) (lit< tt) (omega arith) (omega (arith, leb-true deficiency 20 e)))
     (λ _. quotient-within (1000 + 3 * deficiency) 1000 13 10 (lit< tt) (lit< tt) (omega arith) (omega arith)))
 
--- edition 1's grade up to 12 percent, by one test for each of its two factors
+-- an edition's grade up to 12 percent, by one test for each of its two factors
 gradeWithin : (ℕ → Fraction) → ℕ → Bool
 gradeWithin grade percent = both (leᶠ (grade percent) (grade 12)) (ltb 0 (grade percent .num))
 
@@ -235,14 +235,6 @@ grade-by-test grade tested percent h =
       at-most = leᶠ-sound _ _ (both-left (leᶠ (grade percent) (grade 12)) _ t);
       positive = ltb→lt _ _ (both-right (leᶠ (grade percent) (grade 12)) _ t);
     }
-
-grade-within : (percent : ℕ) → percent ≤ 12 → Capped (editionOne .grade 12) (editionOne .grade percent)
-unfolding allBelow gradeWithin leᶠ editionOne _^ᶠ_ _//_ fraction
-grade-within = grade-by-test (editionOne .grade) tt
-
-steep-grade-within : (percent : ℕ) → percent ≤ 12 → Capped (editionOne .steep-grade 12) (editionOne .steep-grade percent)
-unfolding allBelow gradeWithin leᶠ editionOne _^ᶠ_ _//_ fraction
-steep-grade-within = grade-by-test (editionOne .steep-grade) tt
 
 -- ACCESS AND CROSSINGS
 
@@ -270,19 +262,10 @@ unfolding passing isPart allOf
 passing-within kind = part-within 100 _ (entry-of (isPart 100) 100 tt (100 ∷ 75 ∷ 65 ∷ []) tt kind)
 
 -- a table of thousandths by kind and count of lanes
-turn-within : (table : List (List ℕ)) → T (allOf (allOf (isPart 1000)) table) → (kind lanes : ℕ)
-    → Capped (whole 1) (getD (getD table kind []) lanes 1000 // 1000)
+turn-within : (table : List (List ℕ)) → T (allOf (allOf (isPart 1000)) table) → (kind lanes : ℕ) → Capped (whole 1) (atLanes table kind lanes // 1000)
 unfolding isPart allOf
 turn-within table t kind lanes =
     part-within 1000 _ (entry-of (isPart 1000) 1000 tt (getD table kind []) (entry-of (allOf (isPart 1000)) [] tt table t kind) lanes)
-
-left-turn-within : (kind lanes : ℕ) → Capped (whole 1) (leftTurn editionOne kind lanes)
-unfolding leftTurn editionOne isPart allOf
-left-turn-within kind lanes = turn-within leftTurnOne tt kind lanes
-
-right-turn-within : (kind lanes : ℕ) → Capped (whole 1) (rightTurn editionOne kind lanes)
-unfolding rightTurn editionOne isPart allOf
-right-turn-within kind lanes = turn-within rightTurnOne tt kind lanes
 
 sight-within : (quadrants : ℕ) → quadrants ≤ 4 → Capped (6 // 5) (sight quadrants)
 unfolding sight
@@ -326,14 +309,28 @@ pub record Bounded (k : Coefficients) : Type 0 where
   pub left-turn : (kind lanes : ℕ) → Capped (whole 1) (leftTurn k kind lanes)
   pub right-turn : (kind lanes : ℕ) → Capped (whole 1) (rightTurn k kind lanes)
 
+-- by tests of its numbers and tables
+module _ (k : Coefficients) (share : T (leb (k .related-share) 1000))
+    (grades : T (allBelow (gradeWithin (k .grade)) 13)) (steep-grades : T (allBelow (gradeWithin (k .steep-grade)) 13))
+    (left right : List (List ℕ)) (left-is : k .left-turn ≡ atLanes left) (right-is : k .right-turn ≡ atLanes right)
+    (lefts : T (allOf (allOf (isPart 1000)) left)) (rights : T (allOf (allOf (isPart 1000)) right)) where
+  bounded-by-tests : Bounded k
+  unfolding leftTurn rightTurn
+  bounded-by-tests = record {
+    share-most = leb→le _ _ share;
+    grade = grade-by-test (k .grade) grades;
+    steep-grade = grade-by-test (k .steep-grade) steep-grades;
+    left-turn = λ kind lanes. rw left-is (turn-within left lefts kind lanes);
+    right-turn = λ kind lanes. rw right-is (turn-within right rights kind lanes);
+  }
+
 pub edition-one-bounded : Bounded editionOne
-edition-one-bounded = record {
-  share-most = unfold editionOne in lit≤ tt;
-  grade = grade-within;
-  steep-grade = steep-grade-within;
-  left-turn = left-turn-within;
-  right-turn = right-turn-within;
-}
+unfolding allBelow gradeWithin leᶠ isPart allOf editionOne whole _^ᶠ_ _//_ fraction
+edition-one-bounded = bounded-by-tests editionOne tt tt tt leftTurnOne rightTurnOne refl refl tt tt
+
+pub edition-two-bounded : Bounded editionTwo
+unfolding allBelow gradeWithin leᶠ isPart allOf editionTwo whole _^ᶠ_ _//_ fraction
+edition-two-bounded = bounded-by-tests editionTwo tt tt tt leftTurnTwo rightTurnTwo refl refl tt tt
 
 pub capped : (k : Coefficients) → Bounded k → (factor : ExactFactor) → ExactSized factor → Capped (capOf k factor) (exactValue k factor)
 capped k b (Lane feet traffic) s = lane-within k feet traffic (b .share-most)

@@ -10,6 +10,8 @@ pub mod Parts
 pub mod Predicted
 pub mod Expected
 pub mod StatedWidths
+pub mod Editions
+pub mod CrashCounts
 pub mod Grade
 pub mod TermLaws
 pub mod SameTraffic
@@ -17,5 +19,6 @@ pub mod ExpectedLaws
 pub mod Truncation
 pub mod Neighbours
 pub mod KnownFigures
+pub mod ManualFigures
 pub mod Tempting
 pub mod FactorBounds

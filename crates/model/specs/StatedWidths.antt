@@ -2,6 +2,7 @@
 -- each observed crash.
 use Prim.Native.Nat.{ℕ, _*_}
 use mathlib.Core.Bool.{cond}
+use Rattle.wide.specs.Scaling.{ceiling}
 use Rattle.site.specs.declared.values.Site.{Site}
 use Rattle.site.specs.Yearly.{yearly}
 use Rattle.site.specs.Numbers.{number}
@@ -23,6 +24,9 @@ expectedEach = 8
 unfoldable pub sitesCounted : (years : ℕ) → Site → ℕ
 sitesCounted years site = cond (yearly site) years 1
 
--- "and each of its observed crashes as Y"; each crash of a site with one traffic counts once
+-- "and each of its observed crashes as Y"; request 6: "in edition 2, an observed crash on a segment counts 1 + k times, rounded up",
+-- once for all the crashes of a site
 abbrev pub observedWeight : Coefficients → (years : ℕ) → Site → ℕ
-observedWeight c years site = sitesCounted years site * number (site .observed)
+observedWeight c years site =
+    let count = c .crash-count (site .kind) (number (site .length)) in
+    ceiling (sitesCounted years site * number (site .observed)) (count .num) (count .den)

@@ -78,13 +78,13 @@ module _ (k : Coefficients) (rated : Rated k) where
   product-positive d (factor ∷ factors) s = times _ _ (factor-positive d factor (s .0)) (product-positive d factors (s .1))
 
   -- A TERM of a site
-  module _ (header : Header) (limits : HeaderWithin header) (site : Site) (valid : Valid (header .years) site) (d : ℕ) where
+  module _ (header : Header) (limits : HeaderWithin header) (site : Site) (valid : Valid (header .edition) (header .years) site) (d : ℕ) where
     module _ (term : Term) (sizes : TermSizes site term) where
       segment-positive : site .kind ≡ 0 → 0 < productUnder d (segmentParts k (header .segments) site term) .num
       unfolding segmentParts productUnder
       segment-positive e =
           let v = segmentOf (term .traffic) site in
-          let s = segment-sizes (header .years) site valid e _ (sizes .traffic) in
+          let s = segment-sizes (header .edition) (header .years) site valid e _ (sizes .traffic) in
           let years = mul-pos (sizes .years-least) (limits .segments-least) in
           times (segmentStart (header .segments) site term) (productUnder d (map (partOf k) (segmentFactors v)))
           (quotient _ _ (mul-pos (mul-pos (mul-pos years (s .traffic .least)) (s .length-least)) (lit< tt)))
@@ -94,7 +94,7 @@ module _ (k : Coefficients) (rated : Rated k) where
       unfolding crossingParts productUnder
       crossing-positive from =
           let v = crossingOf (term .traffic) (term .minor) site in
-          let s = crossing-sizes (header .years) site valid from _ _ (sizes .traffic) (sizes .minor from) in
+          let s = crossing-sizes (header .edition) (header .years) site valid from _ _ (sizes .traffic) (sizes .minor from) in
           times (crossingStart (header .crossings) term) (productUnder d (map (partOf k) (crossingFactors v)))
           (quotient _ _ (mul-pos (sizes .years-least) (limits .crossings-least))) (product-positive d (crossingFactors v) (crossing-sized v s))
 

@@ -94,7 +94,7 @@ crossing-shares : (k : Coefficients) (v : Crossing) → widthParts * relativePar
 unfolding crossingFactors powerWidth exponentialWidth storedWidth
 crossing-shares k v = lit≤ tt
 
-module _ (k : Coefficients) (rated : Rated k) (years : ℕ) (site : Site) (valid : Valid years site) (term : Term) (sizes : TermSizes site term)
+module _ (k : Coefficients) (rated : Rated k) (edition years : ℕ) (site : Site) (valid : Valid edition years site) (term : Term) (sizes : TermSizes site term)
     (calibration : ℕ) (most : calibration ≤ mostCalibration) where
   segment-stands : site .kind ≡ 0
       → PairStands 1 (λ d. productUnder d (segmentParts k calibration site term)) (λ d. productOver d (segmentParts k calibration site term))
@@ -102,7 +102,7 @@ module _ (k : Coefficients) (rated : Rated k) (years : ℕ) (site : Site) (valid
   unfolding segmentParts segmentPair
   segment-stands e =
       let v = segmentOf (term .traffic) site in
-      let s = segment-sizes years site valid e (term .traffic) (sizes .traffic) in
+      let s = segment-sizes edition years site valid e (term .traffic) (sizes .traffic) in
       carried-stands k rated (segmentStart calibration site term) (segmentUnits (term .years) calibration v) segmentMost
       (unfold _//_ fraction in omega arith)
       (mul-le-mul-right 73 (mul-le-mul (mul-le-mul (mul-le-mul (sizes .years-most) most) (sizes .traffic .most)) (s .length-most)))
@@ -114,7 +114,7 @@ module _ (k : Coefficients) (rated : Rated k) (years : ℕ) (site : Site) (valid
   unfolding crossingParts crossingPair
   crossing-stands from =
       let v = crossingOf (term .traffic) (term .minor) site in
-      let s = crossing-sizes years site valid from (term .traffic) (term .minor) (sizes .traffic) (sizes .minor from) in
+      let s = crossing-sizes edition years site valid from (term .traffic) (term .minor) (sizes .traffic) (sizes .minor from) in
       carried-stands k rated (crossingStart calibration term) (crossingUnits (term .years) calibration) crossingMost
       (unfold _//_ fraction in omega arith)
       (mul-le-mul-right 200000000 (mul-le-mul (sizes .years-most) most))
@@ -148,7 +148,7 @@ both-stand {m} {f} {g} {u} {v} {x} {y} h k = record {
 
 -- A TERM OF ANY KIND
 module _ (k : Coefficients) (rated : Rated k) (header : Header) (limits : HeaderWithin header) (site : Site)
-    (valid : Valid (header .years) site) where
+    (valid : Valid (header .edition) (header .years) site) where
   term-stands : (term : Term) → TermSizes site term
       → PairStands 1 (λ d. productUnder d (partsOf k (header .segments) (header .crossings) site term))
       (λ d. productOver d (partsOf k (header .segments) (header .crossings) site term)) (termPair k header site term)
@@ -160,8 +160,10 @@ module _ (k : Coefficients) (rated : Rated k) (header : Header) (limits : Header
           (λ d. productOver d (cond b (segmentParts k (header .segments) site term) (crossingParts k (header .crossings) site term)))
           (cond b (segmentPair k (term .years) (header .segments) (segmentOf (term .traffic) site))
           (crossingPair k (term .years) (header .crossings) (crossingOf (term .traffic) (term .minor) site)))
-      by true e = segment-stands k rated (header .years) site valid term sizes (header .segments) (limits .segments-most) (eqb-true (site .kind) 0 e)
-      by false e = crossing-stands k rated (header .years) site valid term sizes (header .crossings) (limits .crossings-most) (pos-of-ne-zero (eqb-false (site .kind) 0 e))
+      by true e = segment-stands k rated (header .edition) (header .years) site valid term sizes (header .segments) (limits .segments-most) (eqb-true (site .kind) 0 e)
+      by false e =
+          crossing-stands k rated (header .edition) (header .years) site valid term sizes (header .crossings) (limits .crossings-most)
+          (pos-of-ne-zero (eqb-false (site .kind) 0 e))
 
   -- THE SUM OVER A SITE'S TERMS
   terms-stand : (terms : List Term) → AllTerms site terms

@@ -10,7 +10,7 @@ use Rattle.estimate.specs.Exponential.{expUnder, expOver, expNegUnder, expNegOv
 use Rattle.laws.specs.Table.{allBelow, agree-below}
 use Rattle.bracket.specs.declared.Bracket.{Bracket}
 use Rattle.bracket.specs.Rounded.{roundedOutward}
-use Rattle.model.specs.Coefficients.{editionOne}
+use Rattle.model.specs.Coefficients.{Coefficients}
 use Rattle.model.specs.Parts.{Part, Base, partOf, hazard}
 
 -- a power of ten, by which a division is cheap
@@ -39,9 +39,9 @@ pub record StoredParts (n : ℕ) (part : ℕ → Part) (table : List ℕ) : Type
   pub low : (i : ℕ) → i < n → getD table (2 * i) 0 ≡ storedBracket (part i) .«low_num»
   pub high : (i : ℕ) → i < n → getD table (2 * i + 1) 0 ≡ storedBracket (part i) .«high_num»
 
--- the base factors of edition 1, by kind
-abbrev pub StoredBases : List ℕ → Type 0
-StoredBases = StoredParts 4 (λ kind. partOf editionOne (Base kind))
+-- the base factors of an edition, by kind
+abbrev pub StoredBases : Coefficients → List ℕ → Type 0
+StoredBases k = StoredParts 4 (λ kind. partOf k (Base kind))
 
 -- the hazard factors, by rating from 1 on
 abbrev pub StoredHazards : List ℕ → Type 0

@@ -29,13 +29,13 @@ abbrev pub AllTerms : Site → List Term → Type 0
 AllTerms site [] = Unit
 AllTerms site (term ∷ terms) = TermSizes site term × AllTerms site terms
 
-module _ (header : Header) (limits : HeaderWithin header) (site : Site) (valid : Valid (header .years) site) where
+module _ (header : Header) (limits : HeaderWithin header) (site : Site) (valid : Valid (header .edition) (header .years) site) where
   pub first-sized : (years : ℕ) → 1 ≤ years → years ≤ mostYears → TermSizes site (termOf years site)
   first-sized years least most = record {
     years-least = least;
     years-most = most;
-    traffic = site-traffic (header .years) site valid;
-    minor = crossing-minor (header .years) site valid;
+    traffic = site-traffic (header .edition) (header .years) site valid;
+    minor = crossing-minor (header .edition) (header .years) site valid;
   }
 
   -- a later year of a site that has them
@@ -44,8 +44,8 @@ module _ (header : Header) (limits : HeaderWithin header) (site : Site) (valid :
     year-sized i h = record {
       years-least = lit≤ tt;
       years-most = lit≤ tt;
-      traffic = later-traffic-sizes (header .years) site valid each i h;
-      minor = λ from. later-minor-sizes (header .years) site valid each from i h;
+      traffic = later-traffic-sizes (header .edition) (header .years) site valid each i h;
+      minor = λ from. later-minor-sizes (header .edition) (header .years) site valid each from i h;
     }
 
     later-sized : (i count : ℕ) → i + count < header .years → AllTerms site (laterTerms site i count)

@@ -8,7 +8,7 @@ ghost use Rattle.bracket.specs.Carry.{carried};
 ghost use Rattle.site.specs.Rules.{mostYears};
 ghost use Rattle.site.specs.Numbers.{CrossingSizes};
 ghost use Rattle.header.specs.Header.{mostCalibration};
-ghost use Rattle.model.specs.Coefficients.{editionOne};
+ghost use Rattle.model.specs.Coefficients.{coefficientsOf};
 ghost use Rattle.model.specs.Crossings.{skewExponent};
 ghost use Rattle.model.specs.Parts.{crossingFactors};
 ghost use Rattle.prediction.specs.Factors.{bracketsOf};
@@ -70,12 +70,13 @@ fn skew_factor(exponentials: &[u64; 15], v: Crossing) -> Bracket
 pub fn carry_crossing(
     powers: &[u64; 2560],
     exponentials: &[u64; 15],
+    edition: u64,
     years: u64,
     calibration: u64,
     v: Crossing,
 ) -> CarryAnswer
     requires { ⌜ StoredPowers (now powers) × StoredExponentials (now exponentials) × (years ≤ mostYears) × (calibration ≤ mostCalibration) × CrossingSizes v ⌝ }
-    ensures { λ r. ⌜ r ≡ carried (crossingUnits years calibration) (crossingUnits years calibration) (bracketsOf editionOne (crossingFactors v)) ⌝ }
+    ensures { λ r. ⌜ r ≡ carried (crossingUnits years calibration) (crossingUnits years calibration) (bracketsOf (coefficientsOf edition) (crossingFactors v)) ⌝ }
 {
     let start = years * calibration * 200_000_000;
     let ends = CarryAnswer::Carried(start, start);
@@ -83,9 +84,9 @@ pub fn carry_crossing(
     let after_major = through(ends, major);
     let minor = power_with(powers, v.minor, minor_place(v.kind));
     let after_minor = through(after_major, minor);
-    let after_left = through_exact(after_minor, left_turn(v.kind, v.left_lanes));
-    let after_right = through_exact(after_left, right_turn(v.kind, v.right_lanes));
+    let after_left = through_exact(after_minor, left_turn(edition, v.kind, v.left_lanes));
+    let after_right = through_exact(after_left, right_turn(edition, v.kind, v.right_lanes));
     let after_sight = through_exact(after_right, sight(v.limited_sight));
     let after_skew = through(after_sight, skew_factor(exponentials, v));
-    through(after_skew, base_factor(v.kind))
+    through(after_skew, base_factor(edition, v.kind))
 }

@@ -13,7 +13,7 @@ ghost use Rattle.logarithm.specs.Stored.{StoredLogarithms};
 ghost use Rattle.power.specs.Stored.{StoredPowers};
 ghost use Rattle.site.specs.Writing.{Valid};
 ghost use Rattle.header.specs.HeaderLaws.{HeaderWithin};
-ghost use Rattle.model.specs.Coefficients.{editionOne};
+ghost use Rattle.model.specs.Coefficients.{coefficientsOf};
 ghost use Rattle.prediction.specs.Pair.{predictedPair};
 use crate::term::term_pair;
 use crate::yearly::add_pair;
@@ -30,7 +30,8 @@ pub struct Pair {
     pub high: u64,
 }
 
-// The pair of a valid site over a header's years and calibrations: the sum over its terms, one of all the years or one for each.
+// The pair of a valid site in a header's edition, over its years and calibrations: the sum over its terms, one of all the years or
+// one for each.
 pub fn predicted_with(
     powers: &[u64; 2560],
     logarithms: &[u64; 256],
@@ -39,8 +40,8 @@ pub fn predicted_with(
     site: Site,
 ) -> Pair
     requires { ⌜ StoredPowers (now powers) × StoredLogarithms (now logarithms) × StoredExponentials (now exponentials) × HeaderWithin header
-        × Valid (header .years) site ⌝ }
-    ensures { λ r. ⌜ r ≡ predictedPair editionOne header site ⌝ }
+        × Valid (header .edition) (header .years) site ⌝ }
+    ensures { λ r. ⌜ r ≡ predictedPair (coefficientsOf (header .edition)) header site ⌝ }
 {
     let traffic = site.traffic;
     let minor = site.minor_traffic;

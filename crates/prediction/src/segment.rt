@@ -6,7 +6,7 @@ ghost use Rattle.bracket.specs.Carry.{carried, carriedOn};
 ghost use Rattle.site.specs.Rules.{mostYears};
 ghost use Rattle.site.specs.Numbers.{SegmentSizes, CurveSizes};
 ghost use Rattle.header.specs.Header.{mostCalibration};
-ghost use Rattle.model.specs.Coefficients.{editionOne};
+ghost use Rattle.model.specs.Coefficients.{Coefficients, coefficientsOf};
 ghost use Rattle.model.specs.Parts.{straightFactors, curveFactors, segmentFactors};
 ghost use Rattle.prediction.specs.Factors.{bracketsOf};
 ghost use Rattle.prediction.specs.Pair.{segmentUnits};
@@ -22,7 +22,7 @@ use factors::alignment::curve;
 use factors::alignment::grade;
 use factors::alignment::steep_grade;
 use factors::alignment::superelevation;
-use factors::coefficients::edition_one;
+use factors::coefficients::coefficients_of;
 use factors::widths::lane;
 use factors::widths::shoulder;
 use site::numbers::Segment;
@@ -36,13 +36,13 @@ fn segment_start(years: u64, calibration: u64, v: Segment) -> u64
 }
 
 // The start through the factors of every road.
-fn carry_straight(logarithms: &[u64; 256], start: u64, v: Segment) -> CarryAnswer
+fn carry_straight(logarithms: &[u64; 256], edition: u64, start: u64, v: Segment) -> CarryAnswer
     requires { ⌜ StoredLogarithms (now logarithms) × SegmentSizes v ⌝ }
-    ensures { λ r. ⌜ r ≡ carried start start (bracketsOf editionOne (straightFactors v)) ⌝ }
+    ensures { λ r. ⌜ r ≡ carried start start (bracketsOf (coefficientsOf edition) (straightFactors v)) ⌝ }
 {
-    let k = edition_one();
+    let k = coefficients_of(edition);
     let ends = CarryAnswer::Carried(start, start);
-    let after_base = through(ends, base_factor(0));
+    let after_base = through(ends, base_factor(edition, 0));
     let lane_factor = lane(k.related_share, v.lane_width, v.traffic);
     let after_lane = through_exact(after_base, lane_factor);
     let shoulder_factor = shoulder(
@@ -52,8 +52,8 @@ fn carry_straight(logarithms: &[u64; 256], start: u64, v: Segment) -> CarryAnswe
         v.traffic,
     );
     let after_shoulder = through_exact(after_lane, shoulder_factor);
-    let after_grade = through_exact(after_shoulder, grade(v.grade));
-    let after_steep_grade = through_exact(after_grade, steep_grade(v.grade));
+    let after_grade = through_exact(after_shoulder, grade(edition, v.grade));
+    let after_steep_grade = through_exact(after_grade, steep_grade(edition, v.grade));
     let after_two_way = through_exact(after_steep_grade, two_way_lane(v.two_way_lane, v.driveways));
     let after_passing = through_exact(after_two_way, passing(v.passing));
     let after_hazard = through(after_passing, hazard_factor(v.hazard_rating));
@@ -67,10 +67,10 @@ fn carry_straight(logarithms: &[u64; 256], start: u64, v: Segment) -> CarryAnswe
     through(after_hazard, driveway_factor)
 }
 
-// A straight road's answer through the curve's two factors.
+// A straight road's answer through the curve's two factors, which are the same in every edition.
 fn carry_curve(straight: CarryAnswer, v: Segment) -> CarryAnswer
     requires { ⌜ CurveSizes v ⌝ }
-    ensures { λ r. ⌜ r ≡ carriedOn straight (bracketsOf editionOne (curveFactors v)) ⌝ }
+    ensures { λ r. ⌜ ((k : Coefficients) → r ≡ carriedOn straight (bracketsOf k (curveFactors v))) ⌝ }
 {
     let after_curve = through_exact(straight, curve(v.curve_length, v.radius, v.spiral_ends));
     through_exact(after_curve, superelevation(v.deficiency))
@@ -79,15 +79,16 @@ fn carry_curve(straight: CarryAnswer, v: Segment) -> CarryAnswer
 // The start through the factors of every road and then the curve's.
 pub fn carry_segment(
     logarithms: &[u64; 256],
+    edition: u64,
     years: u64,
     calibration: u64,
     v: Segment,
 ) -> CarryAnswer
     requires { ⌜ StoredLogarithms (now logarithms) × (years ≤ mostYears) × (calibration ≤ mostCalibration) × SegmentSizes v ⌝ }
-    ensures { λ r. ⌜ r ≡ carried (segmentUnits years calibration v) (segmentUnits years calibration v) (bracketsOf editionOne (segmentFactors v)) ⌝ }
+    ensures { λ r. ⌜ r ≡ carried (segmentUnits years calibration v) (segmentUnits years calibration v) (bracketsOf (coefficientsOf edition) (segmentFactors v)) ⌝ }
 {
     let start = segment_start(years, calibration, v);
-    let straight = carry_straight(logarithms, start, v);
+    let straight = carry_straight(logarithms, edition, start, v);
     if v.curved {
         return carry_curve(straight, v);
     }

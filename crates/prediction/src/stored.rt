@@ -2,17 +2,17 @@
 // outward.
 ghost use mathlib.Core.Path.{_≡_};
 ghost use Prim.Native.Nat.{_≤_};
-ghost use Rattle.model.specs.Coefficients.{editionOne};
-ghost use Rattle.model.specs.Parts.{Base, Hazard};
-ghost use Rattle.prediction.specs.Stored.{StoredBases, StoredHazards, overScale};
+ghost use Rattle.model.specs.Coefficients.{coefficientsOf};
+ghost use Rattle.model.specs.Parts.{Base, hazard};
+ghost use Rattle.prediction.specs.Stored.{storedBracket, StoredBases, StoredHazards, overScale};
 ghost use Rattle.prediction.specs.Factors.{bracketOf};
 use bracket::Bracket;
 
 // What a stored number is over.
 const SCALE: u64 = 10_000_000_000_000;
 
-// By kind, the low and the high of e^(-0.4865), e^(-10.9), e^(-9.34) and e^(-5.73).
-const BASES: [u64; 8] = [
+// By kind, the low and the high of edition 1's e^(-0.4865), e^(-10.9), e^(-9.34) and e^(-5.73).
+const BASES_ONE: [u64; 8] = [
     6147743432822,
     6147743432823,
     184582339,
@@ -21,6 +21,18 @@ const BASES: [u64; 8] = [
     878394361,
     32470772336,
     32470772337,
+];
+
+// Of edition 2's e^(-0.312), e^(-9.86), e^(-8.56) and e^(-5.13).
+const BASES_TWO: [u64; 8] = [
+    7319815282283,
+    7319815282284,
+    522223496,
+    522223497,
+    1916192936,
+    1916192937,
+    59165604736,
+    59165604737,
 ];
 
 // By hazard rating from 1 to 7, the low and the high of e^(0.0668 (rating - 3)).
@@ -41,10 +53,13 @@ const HAZARDS: [u64; 14] = [
     13063016805425,
 ];
 
-fn stored_bases() -> [u64; 8]
-    ensures { λ r. ⌜ StoredBases r ⌝ }
+fn stored_bases(edition: u64) -> [u64; 8]
+    ensures { λ r. ⌜ StoredBases (coefficientsOf edition) r ⌝ }
 {
-    BASES
+    if edition <= 1 {
+        return BASES_ONE;
+    }
+    BASES_TWO
 }
 
 fn stored_hazards() -> [u64; 14]
@@ -65,12 +80,12 @@ fn over_scale(low: u64, high: u64) -> Bracket
     }
 }
 
-// The base factor of a kind, e^(-0.4865) for a segment.
-pub fn base_factor(kind: u8) -> Bracket
+// The base factor of a kind, e^(-0.4865) for a segment of edition 1.
+pub fn base_factor(edition: u64, kind: u8) -> Bracket
     requires { ⌜ kind ≤ 3 ⌝ }
-    ensures { λ r. ⌜ r ≡ bracketOf editionOne (Base kind) ⌝ }
+    ensures { λ r. ⌜ r ≡ bracketOf (coefficientsOf edition) (Base kind) ⌝ }
 {
-    let ends = stored_bases();
+    let ends = stored_bases(edition);
     let at = 2 * (kind as usize);
     over_scale(ends[at], ends[at + 1])
 }
@@ -78,7 +93,7 @@ pub fn base_factor(kind: u8) -> Bracket
 // e^(0.0668 (rating - 3)).
 pub fn hazard_factor(rating: u64) -> Bracket
     requires { ⌜ (1 ≤ rating) × (rating ≤ 7) ⌝ }
-    ensures { λ r. ⌜ r ≡ bracketOf editionOne (Hazard rating) ⌝ }
+    ensures { λ r. ⌜ r ≡ storedBracket (hazard rating) ⌝ }
 {
     let ends = stored_hazards();
     let at = 2 * ((rating - 1) as usize);

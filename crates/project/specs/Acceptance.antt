@@ -9,9 +9,10 @@ use lib.ListN.{length, drop}
 use lib.Dec.{ltb}
 use borrow.Author.Tests.{ltb-true, ltb-false}
 use Rattle.laws.specs.Truth.{not-both}
-use Rattle.site.specs.RecordCauses.{RecordCause, years-outside, map-past, kind-above, bit-lacked, bit-missing, field-past, field-outside}
+use Rattle.site.specs.Tested.{neither-unknown}
+use Rattle.site.specs.RecordCauses.{RecordCause, edition-neither, years-outside, map-past, kind-above, bit-lacked, bit-missing, field-past, field-outside}
 use Rattle.site.specs.RecordCauses.{field-spelled, cause-number, cause-not-zero}
-use Rattle.header.specs.Header.{countIn}
+use Rattle.header.specs.Header.{editionIn, countIn}
 use Rattle.header.specs.Causes.{HeaderCause, header-cut, header-edition, header-limits, HeaderAccepted}
 use Rattle.project.specs.declared.ScanAnswer.{ScanAnswer}
 use Rattle.project.specs.declared.ScanAnswer.the-variants.{Accepted, Refused}
@@ -31,10 +32,12 @@ module _ (s : List ℕ) (room : ℕ) where
   header-none none (header-edition l h) = none .edition-right 0 h
   header-none none (header-limits e h) = none .limits-kept 0 h
 
-  record-none : NoCause s room → HeaderAccepted s → (p : ℕ) {number : ℕ} → RecordCause (yearsIn s) (drop p s) number → RecordNumber s number p → ⊥
-  record-none none header p (years-outside y) r = not-both _ (years-known s header) y
-  record-none none header p (map-past y h) r = none .none-past p (record-past r)
-  record-none none header p (kind-above y h k) r = none .kinds-known p r
+  record-none : NoCause s room → HeaderAccepted s → (p : ℕ) {number : ℕ} → RecordCause (editionIn s) (yearsIn s) (drop p s) number → RecordNumber s number p
+      → ⊥
+  record-none none header p (edition-neither one two) r = not-both _ (header .edition) (neither-unknown (editionIn s) one two)
+  record-none none header p (years-outside x y) r = not-both _ (years-known s header) y
+  record-none none header p (map-past x y h) r = none .none-past p (record-past r)
+  record-none none header p (kind-above x y h k) r = none .kinds-known p r
   record-none none header p (bit-lacked h b t l) r = none .none-lacked p r
   record-none none header p (bit-missing h l m) r = none .none-missing p r
   record-none none header p (field-past m h) r = none .none-past p (record-past r)
@@ -49,7 +52,8 @@ module _ (s : List ℕ) (room : ℕ) where
   -- no row of the table holds of a whole file whose report suffices
   module _ (w : Whole s (countIn s)) where
     record-free : (number p : ℕ) → RecordNumber s number p → ⊥
-    record-free number p r = cause-not-zero (r .cause) (sym (cause-number (yearsIn s) (drop p s) (r .cause)) ∙ earlier s (w .ends) (r .starts) (r .counted))
+    record-free number p r =
+        cause-not-zero (r .cause) (sym (cause-number (editionIn s) (yearsIn s) (drop p s) (r .cause)) ∙ earlier s (w .ends) (r .starts) (r .counted))
 
     past-free : {p : ℕ} → RunsPast s p → ⊥
     past-free (header-past h) = let l = w .header .long in omega arith
@@ -60,7 +64,7 @@ module _ (s : List ℕ) (room : ℕ) where
         record {
           none-past = λ p r. past-free r;
           none-after = λ p r. let e = same-place s (r .starts) (w .ends) in let m = r .more in omega arith;
-          edition-right = λ p r. r .other (w .header .edition);
+          edition-right = λ p r. not-both _ (w .header .edition) (neither-unknown (editionIn s) (r .not-one) (r .not-two));
           limits-kept = λ p r. r .outside (w .header .limits, w .header .few);
           kinds-known = λ p r. record-free 5 p r;
           none-lacked = λ p r. record-free 6 p r;

@@ -7,21 +7,21 @@ use Rattle.site.specs.declared.values.Site.{Site}
 use Rattle.site.specs.declared.values.SiteAnswer.the-variants as site
 use Rattle.site.specs.Record.{readSite}
 use Rattle.site.specs.RecordCauses.{RecordCause}
-use Rattle.header.specs.Header.{headerLength, countIn}
+use Rattle.header.specs.Header.{editionIn, headerLength, countIn}
 use Rattle.header.specs.Causes.{EditionNot, OutsideLimits, HeaderCause, HeaderAccepted}
 use Rattle.project.specs.File.{yearsIn}
 
 -- the record with an index starts at a place: the first after the header, each other after a record that can be read
 pub data Starts (s : List ℕ) : ℕ → ℕ → Type 0 where
   first : Starts s zero headerLength
-  next : {i p n : ℕ} {value : Site} → Starts s i p → readSite (yearsIn s) (drop p s) ≡ site.Read value n → Starts s (suc i) (p + n)
+  next : {i p n : ℕ} {value : Site} → Starts s i p → readSite (editionIn s) (yearsIn s) (drop p s) ≡ site.Read value n → Starts s (suc i) (p + n)
 
 -- a record that the header counts starts at a place, and the number's cause is the first in the bytes from there
 pub record RecordNumber (s : List ℕ) (number p : ℕ) : Type 0 where
   pub index : ℕ
   pub counted : index < countIn s
   pub starts : Starts s index p
-  pub cause : RecordCause (yearsIn s) (drop p s) number
+  pub cause : RecordCause (editionIn s) (yearsIn s) (drop p s) number
 
 -- "header, kind, map or field runs past the end": 1, at 0 for the header. A year's traffic too: "a missing value is 1"
 pub data RunsPast (s : List ℕ) : ℕ → Type 0 where

@@ -14,7 +14,7 @@ use Rattle.site.specs.declared.values.SiteAnswer.the-variants as site
 use Rattle.site.specs.Record.{word, readSite}
 use Rattle.site.specs.BytesRead.{bears, past-nothing}
 use Rattle.site.specs.Theorems.{longest, bears-most, read-length}
-use Rattle.header.specs.Header.{headerLength, countIn, mostSites, headerNumber}
+use Rattle.header.specs.Header.{editionIn, headerLength, countIn, mostSites, headerNumber}
 use Rattle.header.specs.HeaderLaws.{header-accepted}
 use Rattle.project.specs.declared.ScanAnswer.the-variants.{Refused}
 use Rattle.project.specs.File.{yearsIn, afterRecord, scanRecords, scanFile}
@@ -26,32 +26,32 @@ longestFile = headerLength + mostSites * longest
 
 -- two files that share their first bytes, one of which goes on
 module _ (s t : List ℕ) (full : longestFile < length s) where
-  same-record : (years i at : ℕ) → i < mostSites → at ≤ headerLength + i * longest
-      → readSite years (drop at (s ++ t)) ≡ readSite years (drop at s)
-  same-record years i at h w =
+  same-record : (edition years i at : ℕ) → i < mostSites → at ≤ headerLength + i * longest
+      → readSite edition years (drop at (s ++ t)) ≡ readSite edition years (drop at s)
+  same-record edition years i at h w =
       let a : at ≤ length s = omega arith in
       let l : longest ≤ length (drop at s) = omega (arith, length-drop at s) in
-      let b : bears years (drop at s) ≤ length (drop at s) = omega (arith, bears-most years (drop at s)) in
-      ap (readSite years) (drop-append-le at s t a) ∙ past-nothing years (drop at s) t b
+      let b : bears edition years (drop at s) ≤ length (drop at s) = omega (arith, bears-most edition years (drop at s)) in
+      ap (readSite edition years) (drop-append-le at s t a) ∙ past-nothing edition years (drop at s) t b
 
-  same-step : (years sites left at : ℕ) (answer : SiteAnswer)
-      → ((value : Site) (n : ℕ) → answer ≡ site.Read value n → scanRecords years sites left (at + n) (s ++ t) ≡ scanRecords years sites left (at + n) s)
-      → afterRecord at answer (λ next. scanRecords years sites left next (s ++ t)) ≡ afterRecord at answer (λ next. scanRecords years sites left next s)
-  same-step years sites left at (site.Refused number) later = refl
-  same-step years sites left at (site.Read value n) later = later value n refl
+  same-step : (edition years sites left at : ℕ) (answer : SiteAnswer)
+      → ((value : Site) (n : ℕ) → answer ≡ site.Read value n → scanRecords edition years sites left (at + n) (s ++ t) ≡ scanRecords edition years sites left (at + n) s)
+      → afterRecord at answer (λ next. scanRecords edition years sites left next (s ++ t)) ≡ afterRecord at answer (λ next. scanRecords edition years sites left next s)
+  same-step edition years sites left at (site.Refused number) later = refl
+  same-step edition years sites left at (site.Read value n) later = later value n refl
 
-  same-records : (years sites left i at : ℕ) → i + left ≤ mostSites → at ≤ headerLength + i * longest
-      → scanRecords years sites left at (s ++ t) ≡ scanRecords years sites left at s
+  same-records : (edition years sites left i at : ℕ) → i + left ≤ mostSites → at ≤ headerLength + i * longest
+      → scanRecords edition years sites left at (s ++ t) ≡ scanRecords edition years sites left at s
   unfolding scanRecords
-  same-records years sites zero i at h w =
+  same-records edition years sites zero i at h w =
       let a : at < length s = omega arith in
       let b : at < length (s ++ t) = omega (arith, length-append s t) in
       rw (lt-ltb at (length s) a, lt-ltb at (length (s ++ t)) b)
-  same-records years sites (suc left) i at h w =
-      let r = same-record years i at (omega arith) w in
+  same-records edition years sites (suc left) i at h w =
+      let r = same-record edition years i at (omega arith) w in
       rw r
-      (same-step years sites left at (readSite years (drop at s))
-      (λ value n e. same-records years sites left (suc i) (at + n) (omega arith) (omega (arith, read-length years (drop at s) value n e .at-most))))
+      (same-step edition years sites left at (readSite edition years (drop at s))
+      (λ value n e. same-records edition years sites left (suc i) (at + n) (omega arith) (omega (arith, read-length edition years (drop at s) value n e .at-most))))
 
   same-word : (k : ℕ) → k < headerLength → word (drop k (s ++ t)) ≡ word (drop k s)
   same-word k h =
@@ -66,6 +66,9 @@ module _ (s t : List ℕ) (full : longestFile < length s) where
   same-byte : (k : ℕ) → k < headerLength → getD (s ++ t) k 0 ≡ getD s k 0
   same-byte k h = let a : k < length s = omega arith in List·getD-append s t 0 k a
 
+  same-edition : editionIn (s ++ t) ≡ editionIn s
+  same-edition = same-byte 0 (omega arith)
+
   same-years : yearsIn (s ++ t) ≡ yearsIn s
   same-years = same-byte 1 (omega arith)
 
@@ -77,7 +80,7 @@ module _ (s t : List ℕ) (full : longestFile < length s) where
       rw (
         le-ltb (length s) headerLength a,
         le-ltb (length (s ++ t)) headerLength b,
-        same-byte 0 (omega arith),
+        same-edition,
         same-years,
         same-word 2 (omega arith),
         same-word 4 (omega arith),
@@ -90,7 +93,7 @@ module _ (s t : List ℕ) (full : longestFile < length s) where
       let header = header-accepted s z in
       let few = header .few in
       scan-past-header (s ++ t) (same-header ∙ z)
-      ∙ rw (same-years, same-count) (same-records (yearsIn s) (countIn s) (countIn s) 0 headerLength (omega arith) (omega arith))
+      ∙ rw (same-edition, same-years, same-count) (same-records (editionIn s) (yearsIn s) (countIn s) (countIn s) 0 headerLength (omega arith) (omega arith))
       ∙ sym (scan-past-header s z)
   same-by false e =
       let ne = eqb-false (headerNumber s) 0 e in

@@ -18,7 +18,7 @@ use Rattle.site.specs.Record.{refusalOf, readSite}
 use Rattle.site.specs.RecordCauses.{refused-by-cause}
 use Rattle.site.specs.Accepted.{number-read}
 use Rattle.site.specs.Theorems.{read-length}
-use Rattle.header.specs.Header.{headerLength, countIn, inLimits, headerNumber}
+use Rattle.header.specs.Header.{editionIn, headerLength, countIn, inLimits, headerNumber}
 use Rattle.header.specs.Causes.{HeaderAccepted}
 use Rattle.header.specs.HeaderLaws.{header-cause, cause-header, header-not-zero, header-accepted, accepted-header}
 use Rattle.project.specs.declared.ScanAnswer.{ScanAnswer}
@@ -31,8 +31,8 @@ pub years-known : (s : List ℕ) → HeaderAccepted s → yearsKnown (yearsIn s)
 unfolding inLimits
 years-known s a = and-left (yearsKnown (yearsIn s)) _ (a .limits)
 
-pub read-zero : (years : ℕ) (x : List ℕ) (value : Site) (n : ℕ) → readSite years x ≡ site.Read value n → refusalOf years x ≡ 0
-read-zero years x value n e = sym (number-read years x) ∙ ap readNumber e
+pub read-zero : (edition years : ℕ) (x : List ℕ) (value : Site) (n : ℕ) → readSite edition years x ≡ site.Read value n → refusalOf edition years x ≡ 0
+read-zero edition years x value n e = sym (number-read edition years x) ∙ ap readNumber e
 
 module _ (s : List ℕ) where
   -- the place of a record is told by its index
@@ -43,51 +43,53 @@ module _ (s : List ℕ) where
   pub starts-within : {i p : ℕ} → headerLength ≤ length s → Starts s i p → p ≤ length s
   starts-within h first = h
   starts-within h (next {i} {p} {n} {value} st e) =
-      omega (arith, read-length (yearsIn s) (drop p s) value n e .within, length-drop p s, starts-within h st)
+      omega (arith, read-length (editionIn s) (yearsIn s) (drop p s) value n e .within, length-drop p s, starts-within h st)
 
   -- a record that starts before another is read
-  earlier-by : (i j p q n : ℕ) (value : Site) → Starts s j q → readSite (yearsIn s) (drop q s) ≡ site.Read value n → Starts s i p
-      → i < suc j → (i < j → refusalOf (yearsIn s) (drop p s) ≡ 0) → (b : Bool) → eqb i j ≡ b → refusalOf (yearsIn s) (drop p s) ≡ 0
+  earlier-by : (i j p q n : ℕ) (value : Site) → Starts s j q → readSite (editionIn s) (yearsIn s) (drop q s) ≡ site.Read value n → Starts s i p
+      → i < suc j → (i < j → refusalOf (editionIn s) (yearsIn s) (drop p s) ≡ 0) → (b : Bool) → eqb i j ≡ b
+      → refusalOf (editionIn s) (yearsIn s) (drop p s) ≡ 0
   earlier-by i j p q n value a e st h later true t =
       let st′ : Starts s j p = subst (λ (k : ℕ). Starts s k p) (eqb-true i j t) st in
       let w : p ≡ q = same-place st′ a in
-      rw w (read-zero (yearsIn s) (drop q s) value n e)
+      rw w (read-zero (editionIn s) (yearsIn s) (drop q s) value n e)
   earlier-by i j p q n value a e st h later false t = let ne = eqb-false i j t in later (omega arith)
 
-  pub earlier : {i j p q : ℕ} → Starts s j q → Starts s i p → i < j → refusalOf (yearsIn s) (drop p s) ≡ 0
+  pub earlier : {i j p q : ℕ} → Starts s j q → Starts s i p → i < j → refusalOf (editionIn s) (yearsIn s) (drop p s) ≡ 0
   earlier first st h = let z : ⊥ = omega arith in absurd z
   earlier {i} {p} (next {i = j} {p = q} {n} {value} a e) st h =
       earlier-by i j p q n value a e st h (λ w. earlier a st w) (eqb i j) refl
 
   -- one record of a scan
-  step-read : (sites left p n : ℕ) (value : Site) → readSite (yearsIn s) (drop p s) ≡ site.Read value n
-      → scanRecords (yearsIn s) sites (suc left) p s ≡ scanRecords (yearsIn s) sites left (p + n) s
+  step-read : (sites left p n : ℕ) (value : Site) → readSite (editionIn s) (yearsIn s) (drop p s) ≡ site.Read value n
+      → scanRecords (editionIn s) (yearsIn s) sites (suc left) p s ≡ scanRecords (editionIn s) (yearsIn s) sites left (p + n) s
   unfolding scanRecords
   step-read sites left p n value e = rw e
 
-  step-refused : (sites left p number : ℕ) → readSite (yearsIn s) (drop p s) ≡ site.Refused number
-      → scanRecords (yearsIn s) sites (suc left) p s ≡ Refused number p
+  step-refused : (sites left p number : ℕ) → readSite (editionIn s) (yearsIn s) (drop p s) ≡ site.Refused number
+      → scanRecords (editionIn s) (yearsIn s) sites (suc left) p s ≡ Refused number p
   unfolding scanRecords
-  step-refused sites left p number e = rw e (place-of-record p number (λ next. scanRecords (yearsIn s) sites left next s))
+  step-refused sites left p number e = rw e (place-of-record p number (λ next. scanRecords (editionIn s) (yearsIn s) sites left next s))
 
-  step-after : (sites p : ℕ) → p < length s → scanRecords (yearsIn s) sites zero p s ≡ Refused 2 p
+  step-after : (sites p : ℕ) → p < length s → scanRecords (editionIn s) (yearsIn s) sites zero p s ≡ Refused 2 p
   unfolding scanRecords
   step-after sites p h = rw (lt-ltb p (length s) h)
 
-  step-end : (sites p : ℕ) → length s ≤ p → scanRecords (yearsIn s) sites zero p s ≡ Accepted sites
+  step-end : (sites p : ℕ) → length s ≤ p → scanRecords (editionIn s) (yearsIn s) sites zero p s ≡ Accepted sites
   unfolding scanRecords
   step-end sites p h = rw (le-ltb p (length s) h)
 
   -- a scan reaches each record that starts
-  walk : (sites : ℕ) {i p : ℕ} → Starts s i p → (left : ℕ) → scanRecords (yearsIn s) sites (i + left) headerLength s ≡ scanRecords (yearsIn s) sites left p s
-  walk sites first left = let e : 0 + left ≡ left = omega arith in ap (λ (k : ℕ). scanRecords (yearsIn s) sites k headerLength s) e
+  walk : (sites : ℕ) {i p : ℕ} → Starts s i p → (left : ℕ)
+      → scanRecords (editionIn s) (yearsIn s) sites (i + left) headerLength s ≡ scanRecords (editionIn s) (yearsIn s) sites left p s
+  walk sites first left = let e : 0 + left ≡ left = omega arith in ap (λ (k : ℕ). scanRecords (editionIn s) (yearsIn s) sites k headerLength s) e
   walk sites (next {i} {p} {n} {value} st e) left =
       let m : suc i + left ≡ i + suc left = omega arith in
-      ap (λ (k : ℕ). scanRecords (yearsIn s) sites k headerLength s) m ∙ walk sites st (suc left) ∙ step-read sites left p n value e
+      ap (λ (k : ℕ). scanRecords (editionIn s) (yearsIn s) sites k headerLength s) m ∙ walk sites st (suc left) ∙ step-read sites left p n value e
 
   pub reach : (sites i p left : ℕ) → Starts s i p → i + left ≡ sites
-      → scanRecords (yearsIn s) sites sites headerLength s ≡ scanRecords (yearsIn s) sites left p s
-  reach sites i p left st e = ap (λ (k : ℕ). scanRecords (yearsIn s) sites k headerLength s) (sym e) ∙ walk sites st left
+      → scanRecords (editionIn s) (yearsIn s) sites sites headerLength s ≡ scanRecords (editionIn s) (yearsIn s) sites left p s
+  reach sites i p left st e = ap (λ (k : ℕ). scanRecords (editionIn s) (yearsIn s) sites k headerLength s) (sym e) ∙ walk sites st left
 
 -- what a scan of the records tells
 data Scanned (s : List ℕ) : ScanAnswer → Type 0 where
@@ -104,27 +106,27 @@ module _ (s : List ℕ) (long : headerLength ≤ length s) where
       to-end (subst (λ (q : ℕ). Starts s (countIn s) q) e st)
 
   scanned-step : (left i p : ℕ) → Starts s i p → i < countIn s
-      → ((n : ℕ) → Starts s (suc i) (p + n) → Scanned s (scanRecords (yearsIn s) (countIn s) left (p + n) s))
-      → (answer : SiteAnswer) → readSite (yearsIn s) (drop p s) ≡ answer
-      → Scanned s (afterRecord p answer (λ next. scanRecords (yearsIn s) (countIn s) left next s))
+      → ((n : ℕ) → Starts s (suc i) (p + n) → Scanned s (scanRecords (editionIn s) (yearsIn s) (countIn s) left (p + n) s))
+      → (answer : SiteAnswer) → readSite (editionIn s) (yearsIn s) (drop p s) ≡ answer
+      → Scanned s (afterRecord p answer (λ next. scanRecords (editionIn s) (yearsIn s) (countIn s) left next s))
   scanned-step left i p st h later (site.Refused number) e =
-      rw (place-of-record p number (λ next. scanRecords (yearsIn s) (countIn s) left next s))
-      (at-record (record { index = i; counted = h; starts = st; cause = refused-by-cause (yearsIn s) (drop p s) number .0 e }))
+      rw (place-of-record p number (λ next. scanRecords (editionIn s) (yearsIn s) (countIn s) left next s))
+      (at-record (record { index = i; counted = h; starts = st; cause = refused-by-cause (editionIn s) (yearsIn s) (drop p s) number .0 e }))
   scanned-step left i p st h later (site.Read value n) e = later n (next st e)
 
-  scanned-from : (left i p : ℕ) → Starts s i p → i + left ≡ countIn s → Scanned s (scanRecords (yearsIn s) (countIn s) left p s)
+  scanned-from : (left i p : ℕ) → Starts s i p → i + left ≡ countIn s → Scanned s (scanRecords (editionIn s) (yearsIn s) (countIn s) left p s)
   unfolding scanRecords
   scanned-from zero i p st e =
       let c : i ≡ countIn s = omega arith in
       scanned-end p (subst (λ (k : ℕ). Starts s k p) c st) (ltb p (length s)) refl
   scanned-from (suc left) i p st e =
-      scanned-step left i p st (omega arith) (λ n st′. scanned-from left (suc i) (p + n) st′ (omega arith)) (readSite (yearsIn s) (drop p s)) refl
+      scanned-step left i p st (omega arith) (λ n st′. scanned-from left (suc i) (p + n) st′ (omega arith)) (readSite (editionIn s) (yearsIn s) (drop p s)) refl
 
-  scanned : Scanned s (scanRecords (yearsIn s) (countIn s) (countIn s) headerLength s)
+  scanned : Scanned s (scanRecords (editionIn s) (yearsIn s) (countIn s) (countIn s) headerLength s)
   scanned = scanned-from (countIn s) zero headerLength first (omega arith)
 
 -- where the header is accepted, a scan of the file is one of its records
-pub scan-past-header : (s : List ℕ) → headerNumber s ≡ 0 → scanFile s ≡ scanRecords (yearsIn s) (countIn s) (countIn s) headerLength s
+pub scan-past-header : (s : List ℕ) → headerNumber s ≡ 0 → scanFile s ≡ scanRecords (editionIn s) (yearsIn s) (countIn s) (countIn s) headerLength s
 unfolding scanFile
 scan-past-header s e = rw (eq-eqb (headerNumber s) 0 e)
 
@@ -165,7 +167,7 @@ module _ (s : List ℕ) where
   first-refused (in-record {number} {p} header r) =
       let m : r .index + suc (countIn s - suc (r .index)) ≡ countIn s = let h = r .counted in omega arith in
       scan-past-header s (accepted-header s header) ∙ reach s (countIn s) (r .index) p (suc (countIn s - suc (r .index))) (r .starts) m
-      ∙ step-refused s (countIn s) (countIn s - suc (r .index)) p number (refused-by-cause (yearsIn s) (drop p s) number .1 (r .cause))
+      ∙ step-refused s (countIn s) (countIn s - suc (r .index)) p number (refused-by-cause (editionIn s) (yearsIn s) (drop p s) number .1 (r .cause))
   first-refused (in-rest {p} header r) =
       scan-past-header s (accepted-header s header) ∙ reach s (countIn s) (countIn s) p 0 (r .starts) (omega arith) ∙ step-after s (countIn s) p (r .more)
 

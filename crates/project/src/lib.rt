@@ -18,15 +18,16 @@ pub enum ScanAnswer {
     Refused(u8, usize),
 }
 
-// The records in turn, each by the part that starts at its kind byte, in a project of so many years, then the bytes after the last.
-fn scan_records(file: &[u8], years: u64, sites: usize) -> ScanAnswer
+// The records in turn, each by the part that starts at its kind byte, in a project of an edition and of so many years, then the
+// bytes after the last.
+fn scan_records(file: &[u8], edition: u64, years: u64, sites: usize) -> ScanAnswer
     requires { ⌜ headerLength ≤ length (now file) ⌝ }
-    ensures { λ r. ⌜ r ≡ scanRecords years sites sites headerLength (now (file .entry)) ⌝ }
+    ensures { λ r. ⌜ r ≡ scanRecords edition years sites sites headerLength (now (file .entry)) ⌝ }
 {
     let mut at = HEADER_LENGTH;
     let mut i = 0;
     while i < sites {
-        let answer = read_site(years, &file[at..]);
+        let answer = read_site(edition, years, &file[at..]);
         match answer {
             SiteAnswer::Refused(number) => {
                 return ScanAnswer::Refused(number, at);
@@ -52,5 +53,5 @@ pub fn scan(file: &[u8]) -> ScanAnswer
         return ScanAnswer::Refused(number, 0);
     }
     let header = header_in(file);
-    scan_records(file, header.years, count_in(file))
+    scan_records(file, header.edition, header.years, count_in(file))
 }

@@ -18,7 +18,7 @@ use Rattle.site.specs.Bytes.{record-bytes, bytes-append, bytes-nil}
 use Rattle.site.specs.WriteRead.{write-read}
 use Rattle.site.specs.ReadWrite.{read-write}
 use Rattle.header.specs.declared.Header.{Header}
-use Rattle.header.specs.Header.{headerLength, headerIn, countIn, mostSites, headerBytes}
+use Rattle.header.specs.Header.{headerLength, editionIn, headerIn, countIn, mostSites, headerBytes}
 use Rattle.header.specs.HeaderLaws.{accepted-header}
 use Rattle.header.specs.HeaderBytes.{written-header, header-bytes, header-again}
 use Rattle.project.specs.declared.ScanAnswer.the-variants.{Accepted, Refused}
@@ -26,7 +26,7 @@ use Rattle.project.specs.File.{yearsIn, afterRecord, taken, scanRecords, scanFi
 use Rattle.project.specs.Scan.{scan-past-header, accepted-exactly}
 use Rattle.project.specs.SitesRead.{accepted-sites}
 use Rattle.project_writer.specs.declared.course.FileAnswer.{FileAnswer}
-use Rattle.project_writer.specs.declared.course.FileAnswer.the-variants.{Written, OutsideLimits, OutsideRange, TooShort}
+use Rattle.project_writer.specs.declared.course.FileAnswer.the-variants.{Written, EditionUnknown, OutsideLimits, OutsideRange, TooShort}
 use Rattle.project_writer.specs.ProjectFile.{recordsOf, fileOf, soundSites, fileAnswer, leaves, bufferAfter}
 use Rattle.project_writer.specs.Causes.{Writable}
 use Rattle.project_writer.specs.Sound.{all-sound, all-valid-exactly, sites-sound}
@@ -41,30 +41,32 @@ pub record ReadsBack (header : Header) (sites : List Site) (file : List ℕ) : T
   pub sites-are : sitesIn file ≡ sites
 
 -- the records of valid sites, after whatever stands before them
-record RecordsRead (years count : ℕ) (front : List ℕ) (sites : List Site) : Type 0 where
-  pub scanned : scanRecords years count (length sites) (length front) (front ++ recordsOf sites) ≡ Accepted count
-  pub sites-are : sitesFrom years (length sites) (length front) (front ++ recordsOf sites) ≡ sites
+record RecordsRead (edition years count : ℕ) (front : List ℕ) (sites : List Site) : Type 0 where
+  pub scanned : scanRecords edition years count (length sites) (length front) (front ++ recordsOf edition sites) ≡ Accepted count
+  pub sites-are : sitesFrom edition years (length sites) (length front) (front ++ recordsOf edition sites) ≡ sites
 
-records-read : (years count : ℕ) (front : List ℕ) (sites : List Site) → soundSites years sites ≡ length sites → RecordsRead years count front sites
+records-read : (edition years count : ℕ) (front : List ℕ) (sites : List Site) → soundSites edition years sites ≡ length sites
+    → RecordsRead edition years count front sites
 unfolding scanRecords sitesFrom recordsOf
-records-read years count front [] e = record { scanned = rw (append-nil front, le-ltb (length front) (length front) (omega arith)); sites-are = refl }
-records-read years count front (site ∷ sites) e =
-    let all = all-sound years site sites e in
-    let here = drop-append-seam front (recordOf site ++ recordsOf sites) in
-    let read = write-read years site (recordsOf sites) (all .0) in
-    let later = records-read years count (front ++ recordOf site) sites (all .1) in
-    let text = append-assoc front (recordOf site) (recordsOf sites) in
+records-read edition years count front [] e =
+    record { scanned = rw (append-nil front, le-ltb (length front) (length front) (omega arith)); sites-are = refl }
+records-read edition years count front (site ∷ sites) e =
+    let all = all-sound edition years site sites e in
+    let here = drop-append-seam front (recordOf edition site ++ recordsOf edition sites) in
+    let read = write-read edition years site (recordsOf edition sites) (all .0) in
+    let later = records-read edition years count (front ++ recordOf edition site) sites (all .1) in
+    let text = append-assoc front (recordOf edition site) (recordsOf edition sites) in
     record {
-      scanned = rw (here, read, ← text, ← length-append front (recordOf site)) (later .scanned);
-      sites-are = rw (here, read, ← text, ← length-append front (recordOf site), later .sites-are);
+      scanned = rw (here, read, ← text, ← length-append front (recordOf edition site)) (later .scanned);
+      sites-are = rw (here, read, ← text, ← length-append front (recordOf edition site), later .sites-are);
     }
 
-records-bytes : (years : ℕ) (sites : List Site) → soundSites years sites ≡ length sites → Bytes (recordsOf sites)
+records-bytes : (edition years : ℕ) (sites : List Site) → soundSites edition years sites ≡ length sites → Bytes (recordsOf edition sites)
 unfolding recordsOf
-records-bytes years [] e = bytes-nil
-records-bytes years (site ∷ sites) e =
-    let all = all-sound years site sites e in
-    bytes-append (recordOf site) (recordsOf sites) (record-bytes years site (all .0)) (records-bytes years sites (all .1))
+records-bytes edition years [] e = bytes-nil
+records-bytes edition years (site ∷ sites) e =
+    let all = all-sound edition years site sites e in
+    bytes-append (recordOf edition site) (recordsOf edition sites) (record-bytes edition years site (all .0)) (records-bytes edition years sites (all .1))
 
 module _ (header : Header) (sites : List Site) where
   -- WHAT IS WRITTEN IS ACCEPTED
@@ -74,11 +76,12 @@ module _ (header : Header) (sites : List Site) where
       let admit = writable-admitted header sites w in
       let all = writable-sound header sites w in
       let front = headerBytes header (length sites) in
-      let head = written-header header (length sites) admit (recordsOf sites) in
-      let body = records-read (header .years) (length sites) front sites all in
+      let head = written-header header (length sites) (w .edition) admit (recordsOf (header .edition) sites) in
+      let body = records-read (header .edition) (header .years) (length sites) front sites all in
       record {
-        bytes = bytes-append front (recordsOf sites) (header-bytes header (length sites) admit) (records-bytes (header .years) sites all);
-        accepted = scan-past-header (front ++ recordsOf sites) (accepted-header _ (head .accepted)) ∙ rw (head .count-is) (body .scanned);
+        bytes =
+            bytes-append front (recordsOf (header .edition) sites) (header-bytes header (length sites) (w .edition) admit) (records-bytes (header .edition) (header .years) sites all);
+        accepted = scan-past-header (front ++ recordsOf (header .edition) sites) (accepted-header _ (head .accepted)) ∙ rw (head .count-is) (body .scanned);
         header-is = head .header-is;
         count-is = head .count-is;
         sites-are = rw (head .count-is) (body .sites-are);
@@ -103,37 +106,44 @@ module _ (header : Header) (sites : List Site) where
       where
         by : (answer : FileAnswer) → fileAnswer header sites (length before) ≡ answer → leaves answer (fileOf header sites) before ≡ before
         by (Written n) e = absurd (never n e)
+        by EditionUnknown e = refl
         by OutsideLimits e = refl
         by (OutsideRange index) e = refl
         by TooShort e = refl
 
--- neither limits nor a site forbid to write what was accepted
+-- neither edition nor limits nor a site forbid to write what was accepted
 pub accepted-writable : (s : List ℕ) (n : ℕ) → scanFile s ≡ Accepted n → Writable (headerIn s) (sitesIn s)
 accepted-writable s n e =
     let file = accepted-sites s n e in
     let few : length (sitesIn s) ≤ mostSites = omega (arith, file .sites .count-is, file .few) in
-    record { limits = (file .limits, few); valid = all-valid-exactly (yearsIn s) (sitesIn s) .0 (sites-sound (yearsIn s) n (sitesIn s) (file .sites)) }
+    record {
+      edition = file .edition;
+      limits = (file .limits, few);
+      valid = all-valid-exactly (editionIn s) (yearsIn s) (sitesIn s) .0 (sites-sound (editionIn s) (yearsIn s) n (sitesIn s) (file .sites));
+    }
 
 module _ (s : List ℕ) (bytes : Bytes s) where
   -- the records of a file from a place on, written again
-  again-step : (years count left at n : ℕ)
-      → ((next : ℕ) → scanRecords years count left next s ≡ Accepted n → recordsOf (sitesFrom years left next s) ≡ drop next s)
-      → (answer : SiteAnswer) → readSite years (drop at s) ≡ answer → afterRecord at answer (λ next. scanRecords years count left next s) ≡ Accepted n
-      → recordsOf (taken at answer (λ next. sitesFrom years left next s)) ≡ drop at s
+  again-step : (edition years count left at n : ℕ)
+      → ((next : ℕ) → scanRecords edition years count left next s ≡ Accepted n → recordsOf edition (sitesFrom edition years left next s) ≡ drop next s)
+      → (answer : SiteAnswer) → readSite edition years (drop at s) ≡ answer
+      → afterRecord at answer (λ next. scanRecords edition years count left next s) ≡ Accepted n
+      → recordsOf edition (taken at answer (λ next. sitesFrom edition years left next s)) ≡ drop at s
   unfolding recordsOf
-  again-step years count left at n later (site.Refused number) q e = let z : _≡_ {A = ℕ} 0 1 = cc in absurd (omega arith)
-  again-step years count left at n later (site.Read value k) q e =
-      rw (read-write years (drop at s) value k (λ i. rw getD-drop (bytes (at + i))) q, later (at + k) e, ← drop-drop k at s) (take-append-drop k (drop at s))
+  again-step edition years count left at n later (site.Refused number) q e = let z : _≡_ {A = ℕ} 0 1 = cc in absurd (omega arith)
+  again-step edition years count left at n later (site.Read value k) q e =
+      rw (read-write edition years (drop at s) value k (λ i. rw getD-drop (bytes (at + i))) q, later (at + k) e, ← drop-drop k at s) (take-append-drop k (drop at s))
 
-  again-from : (years count left at n : ℕ) → scanRecords years count left at s ≡ Accepted n → recordsOf (sitesFrom years left at s) ≡ drop at s
+  again-from : (edition years count left at n : ℕ) → scanRecords edition years count left at s ≡ Accepted n
+      → recordsOf edition (sitesFrom edition years left at s) ≡ drop at s
   unfolding scanRecords sitesFrom recordsOf
-  again-from years count zero at n e = by (ltb at (length s)) refl e
+  again-from edition years count zero at n e = by (ltb at (length s)) refl e
     where
       by : (b : Bool) → ltb at (length s) ≡ b → cond b (Refused 2 at) (Accepted count) ≡ Accepted n → [] ≡ drop at s
       by true t q = let z : _≡_ {A = ℕ} 0 1 = cc in absurd (omega arith)
       by false t q = sym (drop-of-length-le s (ltb-false at (length s) t))
-  again-from years count (suc left) at n e =
-      again-step years count left at n (λ next q. again-from years count left next n q) (readSite years (drop at s)) refl e
+  again-from edition years count (suc left) at n e =
+      again-step edition years count left at n (λ next q. again-from edition years count left next n q) (readSite edition years (drop at s)) refl e
 
   -- "EACH ACCEPTED FILE IS REPRODUCED from its header and sites"
   pub accepted-again : (n : ℕ) → scanFile s ≡ Accepted n → fileOf (headerIn s) (sitesIn s) ≡ s
@@ -144,8 +154,9 @@ module _ (s : List ℕ) (bytes : Bytes s) where
       let count : length (sitesIn s) ≡ countIn s = file .sites .count-is ∙ file .count-is in
       let scanned = sym (scan-past-header s (accepted-header s header)) ∙ e in
       let head : headerBytes (headerIn s) (length (sitesIn s)) ≡ take headerLength s = rw count (header-again s bytes header) in
-      let body : recordsOf (sitesIn s) ≡ drop headerLength s = again-from (yearsIn s) (countIn s) (countIn s) headerLength n scanned in
-      ap (λ (front : List ℕ). front ++ recordsOf (sitesIn s)) head ∙ ap (λ (back : List ℕ). take headerLength s ++ back) body
+      let body : recordsOf (editionIn s) (sitesIn s) ≡ drop headerLength s =
+      again-from (editionIn s) (yearsIn s) (countIn s) (countIn s) headerLength n scanned in
+      ap (λ (front : List ℕ). front ++ recordsOf (editionIn s) (sitesIn s)) head ∙ ap (λ (back : List ℕ). take headerLength s ++ back) body
       ∙ take-append-drop headerLength s
 
   -- as the writer answers and leaves it in every buffer that has space for it, one that just suffices among them

@@ -11,10 +11,11 @@ use site::values::Site;
 use site_writer::measure_site;
 use site_writer::put_record;
 
-// The count of bytes written, or why nothing is: a header value or the count of sites outside its limits, the index of the
-// first site outside its range, or a buffer shorter than the file.
+// The count of bytes written, or why nothing is: an edition that is not known, a header value or the count of sites outside its
+// limits, the index of the first site outside its range, or a buffer shorter than the file.
 pub enum FileAnswer {
     Written(usize),
+    EditionUnknown,
     OutsideLimits,
     OutsideRange(usize),
     TooShort,
@@ -28,22 +29,22 @@ pub enum Course {
     Stopped(FileAnswer),
 }
 
-// One site more of a project of so many years: its record is measured, or written at the place reached.
-pub fn step(years: u64, site: Site, buffer: &mut [u8], course: Course) -> Course
-    requires { ⌜ Walks years (site ∷ []) course (length (now buffer)) ⌝ }
-    ensures { λ r. ⌜ (r ≡ stepCourse years site course) × (now (buffer .exit) ≡ stepBuffer site course (now (buffer .entry))) ⌝ }
+// One site more of a project of an edition and of so many years: its record is measured, or written at the place reached.
+pub fn step(edition: u64, years: u64, site: Site, buffer: &mut [u8], course: Course) -> Course
+    requires { ⌜ Walks edition years (site ∷ []) course (length (now buffer)) ⌝ }
+    ensures { λ r. ⌜ (r ≡ stepCourse edition years site course) × (now (buffer .exit) ≡ stepBuffer edition site course (now (buffer .entry))) ⌝ }
 {
     match course {
         Course::Stopped(answer) => Course::Stopped(answer),
         Course::Measured(sites, n) => {
-            let measure = measure_site(years, site);
+            let measure = measure_site(edition, years, site);
             match measure {
                 Measure::OutsideRange => Course::Stopped(FileAnswer::OutsideRange(sites)),
                 Measure::Length(more) => Course::Measured(sites + 1, n + more),
             }
         }
         Course::Placed(at) => {
-            let n = put_record(years, site, &mut buffer[at..]);
+            let n = put_record(edition, years, site, &mut buffer[at..]);
             Course::Placed(at + n)
         }
     }

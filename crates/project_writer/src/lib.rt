@@ -14,18 +14,19 @@ use crate::course::step;
 use header::HEADER_LENGTH;
 use header::Header;
 use header::does_admit;
+use site::rules::is_edition_known;
 use site::values::Site;
 
 // The one walk over the sites: each is taken out, and the course goes on with it.
-fn walk(years: u64, sites: &[Site], buffer: &mut [u8], start: Course) -> Course
-    requires { ⌜ Walks years (now sites) start (length (now buffer)) ⌝ }
-    ensures { λ r. ⌜ (r ≡ walkCourse years (now (sites .entry)) start) × (now (buffer .exit) ≡ walkBuffer years (now (sites .entry)) start (now (buffer .entry))) ⌝ }
+fn walk(edition: u64, years: u64, sites: &[Site], buffer: &mut [u8], start: Course) -> Course
+    requires { ⌜ Walks edition years (now sites) start (length (now buffer)) ⌝ }
+    ensures { λ r. ⌜ (r ≡ walkCourse edition years (now (sites .entry)) start) × (now (buffer .exit) ≡ walkBuffer edition years (now (sites .entry)) start (now (buffer .entry))) ⌝ }
 {
     let mut course = start;
     let mut i = 0;
     while i < sites.len() {
         let site = sites[i];
-        course = step(years, site, buffer, course);
+        course = step(edition, years, site, buffer, course);
         i += 1;
     }
     course
@@ -34,23 +35,34 @@ fn walk(years: u64, sites: &[Site], buffer: &mut [u8], start: Course) -> Course
 // Writes the project file of a header's values and a list of sites from the start of the buffer: the count of its bytes. The
 // rest of the buffer, and all of it where the file is refused, stays as it was.
 pub fn write_project(
+    edition: u64,
     years: u64,
     segments: u64,
     crossings: u64,
     sites: &[Site],
     buffer: &mut [u8],
 ) -> FileAnswer
-    ensures { λ r. ⌜ WritesProject (headerOf years segments crossings) (now (sites .entry)) (now (buffer .entry)) (now (buffer .exit)) r ⌝ }
+    ensures { λ r. ⌜ WritesProject (headerOf edition years segments crossings) (now (sites .entry)) (now (buffer .entry)) (now (buffer .exit)) r ⌝ }
 {
     let header = Header {
+        edition,
         years,
         segments,
         crossings,
     };
+    if !is_edition_known(edition) {
+        return FileAnswer::EditionUnknown;
+    }
     if !does_admit(header, sites.len()) {
         return FileAnswer::OutsideLimits;
     }
-    let measured = walk(years, sites, buffer, Course::Measured(0, HEADER_LENGTH));
+    let measured = walk(
+        edition,
+        years,
+        sites,
+        buffer,
+        Course::Measured(0, HEADER_LENGTH),
+    );
     let begun = begin_writing(header, sites.len(), buffer, measured);
-    answer_of(walk(years, sites, buffer, begun))
+    answer_of(walk(edition, years, sites, buffer, begun))
 }

@@ -9,12 +9,12 @@ use Rattle.laws.specs.Stores.{sets-laid}
 use Rattle.site.specs.declared.values.Site.{Site}
 use Rattle.site.specs.Writing.{Valid}
 use Rattle.header.specs.declared.Header.{Header}
-use Rattle.header.specs.Header.{headerLength, headerIn, countIn}
+use Rattle.header.specs.Header.{headerLength, editionIn, headerIn, countIn}
 use Rattle.header.specs.HeaderLaws.{limits-of, accepted-header}
-use Rattle.model.specs.Coefficients.{editionOne}
-use Rattle.prediction.specs.EditionOne.{edition-one-rated}
+use Rattle.model.specs.Coefficients.{coefficientsOf}
+use Rattle.prediction.specs.Editions.{edition-rated}
 use Rattle.line.specs.declared.Line.{Line}
-use Rattle.line.specs.LineLaws.{edition-one-line}
+use Rattle.line.specs.LineLaws.{edition-line}
 use Rattle.line.specs.Weighing.{line-small}
 use Rattle.project.specs.declared.ScanAnswer.the-variants.{Accepted}
 use Rattle.project.specs.File.{yearsIn, scanRecords, scanFile, sitesIn}
@@ -37,15 +37,15 @@ pub length-report : (lines : List Line) → length (reportNumbers lines) ≡ rep
 length-report lines = omega (arith, length-append (allNumbers lines) (numbersOf (totalOf lines)), length-numbers lines)
 
 -- every member valid, one by one
-pub all-valid : (years : ℕ) (sites : List Site) → ((site : Site) → List·Memᴰ site sites → Valid years site) → AllValid years sites
-all-valid years [] v = tt
-all-valid years (site ∷ sites) v = (v site (List·Memᴰ·head refl), all-valid years sites (λ other m. v other (List·Memᴰ·tail m)))
+pub all-valid : (edition years : ℕ) (sites : List Site) → ((site : Site) → List·Memᴰ site sites → Valid edition years site) → AllValid edition years sites
+all-valid edition years [] v = tt
+all-valid edition years (site ∷ sites) v = (v site (List·Memᴰ·head refl), all-valid edition years sites (λ other m. v other (List·Memᴰ·tail m)))
 
 module _ (s : List ℕ) (n : ℕ) (accepted : scanFile s ≡ Accepted n) where
   facts : AcceptedFile s n
   facts = accepted-sites s n accepted
 
-  scanned : scanRecords (yearsIn s) (countIn s) (countIn s) headerLength s ≡ Accepted (countIn s)
+  scanned : scanRecords (editionIn s) (yearsIn s) (countIn s) (countIn s) headerLength s ≡ Accepted (countIn s)
   scanned = sym (scan-past-header s (accepted-header s (accepted-exactly s n .0 accepted .header))) ∙ accepted ∙ ap Accepted (facts .count-is)
 
   pub count-lines : length (linesIn s) ≡ n
@@ -58,22 +58,22 @@ module _ (s : List ℕ) (n : ℕ) (accepted : scanFile s ≡ Accepted n) where
   -- THE DEMAND
   pub demand-met : (rest : List ℕ) → Demand s (reportNumbers (linesIn s) ++ rest)
   demand-met rest =
-      let v = all-valid (yearsIn s) (sitesIn s) (facts .sites .valid) in
-      let stands = edition-one-line (headerIn s) (limits-of (headerIn s) (facts .limits)) in
+      let v = all-valid (editionIn s) (yearsIn s) (sitesIn s) (facts .sites .valid) in
+      let stands = edition-line (editionIn s) (headerIn s) (limits-of (headerIn s) (facts .limits)) in
       rw (append-assoc (allNumbers (linesIn s)) (numbersOf (totalOf (linesIn s))) rest)
       (record {
-        each = λ i h. report-each editionOne (headerIn s) stands (sitesIn s) v rest i (omega (arith, h));
-        totals = report-totals editionOne (headerIn s) stands (sitesIn s) v rest;
+        each = λ i h. report-each (coefficientsIn s) (headerIn s) stands (sitesIn s) v rest i (omega (arith, h));
+        totals = report-totals (coefficientsIn s) (headerIn s) stands (sitesIn s) v rest;
       })
 
   module _ (header : Header) (sites : ℕ) (header-is : header ≡ headerIn s) (sites-are : sites ≡ countIn s) where
     -- WHAT A FILL ASKS is there
-    pub fillable : (room : ℕ) → reportLength n ≤ room → Fillable editionOne s header sites room
+    pub fillable : (room : ℕ) → reportLength n ≤ room → Fillable (coefficientsOf (header .edition)) s header sites room
     fillable room h =
         rw (header-is, sites-are)
         (record {
           limits = limits-of (headerIn s) (facts .limits);
-          lines-fit = line-small editionOne edition-one-rated (headerIn s) (limits-of (headerIn s) (facts .limits));
+          lines-fit = line-small (coefficientsIn s) (edition-rated (editionIn s)) (headerIn s) (limits-of (headerIn s) (facts .limits));
           most = omega (arith, facts .count-is, facts .few);
           long = facts .long;
           scanned = scanned;
@@ -81,9 +81,11 @@ module _ (s : List ℕ) (n : ℕ) (accepted : scanFile s ≡ Accepted n) where
         })
 
     -- what it leaves is the report laid over the run, and meets the demand
-    pub filled-meets : (before after : List ℕ) → reportLength n ≤ length before → after ≡ sets before 0 (fillFrom editionOne header sites headerLength noLine s)
+    pub filled-meets : (before after : List ℕ) → reportLength n ≤ length before
+        → after ≡ sets before 0 (fillFrom (coefficientsOf (header .edition)) header sites headerLength noLine s)
         → (after ≡ laidOver (reportNumbers (linesIn s)) before) × Demand s after
     filled-meets before after h e =
-        let filled : fillFrom editionOne header sites headerLength noLine s ≡ reportNumbers (linesIn s) = rw (header-is, sites-are) (fill-report s scanned) in
+        let filled : fillFrom (coefficientsOf (header .edition)) header sites headerLength noLine s ≡ reportNumbers (linesIn s) =
+        rw (header-is, sites-are) (fill-report s scanned) in
         let laid : after ≡ laidOver (reportNumbers (linesIn s)) before = e ∙ ap (sets before 0) filled ∙ report-fits before h in
         (laid, rw laid (demand-met (drop (length (reportNumbers (linesIn s))) before)))

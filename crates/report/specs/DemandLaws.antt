@@ -52,9 +52,9 @@ unfolding allNumbers
 total-of-report [] total rest = refl
 total-of-report (line ∷ lines) total rest = next-line line (allNumbers lines ++ (numbersOf total ++ rest)) (length lines) ∙ total-of-report lines total rest
 
-abbrev pub AllValid : (years : ℕ) → List Site → Type 0
-AllValid years [] = Unit
-AllValid years (site ∷ sites) = Valid years site × AllValid years sites
+abbrev pub AllValid : (edition years : ℕ) → List Site → Type 0
+AllValid edition years [] = Unit
+AllValid edition years (site ∷ sites) = Valid edition years site × AllValid edition years sites
 
 pub length-lines : (c : Coefficients) (header : Header) (sites : List Site) → length (map (siteLine c header) sites) ≡ length sites
 length-lines c header [] = refl
@@ -62,17 +62,17 @@ length-lines c header (site ∷ sites) = ap suc (length-lines c header sites)
 
 -- THE REPORT of valid sites, whatever follows it, where the line of each stands
 module _ (c : Coefficients) (header : Header)
-    (stands : (site : Site) → Valid (header .years) site → LineStands c header site (siteLine c header site)) where
+    (stands : (site : Site) → Valid (header .edition) (header .years) site → LineStands c header site (siteLine c header site)) where
   abbrev linesOf : List Site → List Line
   linesOf sites = map (siteLine c header) sites
 
-  each-stands : (sites : List Site) → AllValid (header .years) sites → (i : ℕ) → i < length sites
+  each-stands : (sites : List Site) → AllValid (header .edition) (header .years) sites → (i : ℕ) → i < length sites
       → LineStands c header (siteAt sites i) (getD (linesOf sites) i noLine)
   each-stands [] v i h = absurd (omega arith)
   each-stands (site ∷ sites) v zero h = stands site (v .0)
   each-stands (site ∷ sites) v (suc i) h = each-stands sites (v .1) i (omega arith)
 
-  pub totals-stand : (sites : List Site) → AllValid (header .years) sites → TotalsStand c header sites (totalOf (linesOf sites))
+  pub totals-stand : (sites : List Site) → AllValid (header .edition) (header .years) sites → TotalsStand c header sites (totalOf (linesOf sites))
   unfolding totalOf sumOfSites countOver
   totals-stand [] v = record {
     predicted-between = none-between;
@@ -94,7 +94,7 @@ module _ (c : Coefficients) (header : Header)
         expected-narrow = record { width = omega (arith, s .expected-narrow .width, r .expected-narrow .width) };
       }
 
-  module _ (sites : List Site) (valid : AllValid (header .years) sites) (rest : List ℕ) where
+  module _ (sites : List Site) (valid : AllValid (header .edition) (header .years) sites) (rest : List ℕ) where
     abbrev numbers : List ℕ
     numbers = allNumbers (linesOf sites) ++ (numbersOf (totalOf (linesOf sites)) ++ rest)
 

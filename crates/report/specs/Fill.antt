@@ -18,7 +18,7 @@ use Rattle.site.specs.Writing.{Valid}
 use Rattle.site.specs.Theorems.{longest, RecordLength, read-length}
 use Rattle.site.specs.ReadWrite.{read-valid}
 use Rattle.header.specs.declared.Header.{Header}
-use Rattle.header.specs.Header.{headerLength, headerIn, countIn, mostSites}
+use Rattle.header.specs.Header.{headerLength, editionIn, headerIn, countIn, mostSites}
 use Rattle.header.specs.HeaderLaws.{HeaderWithin}
 use Rattle.model.specs.Coefficients.{Coefficients}
 use Rattle.prediction.specs.Pair.{mostPredicted}
@@ -40,7 +40,7 @@ filled (reading.Read x n) k = k x n
 unfoldable pub fillFrom : (c : Coefficients) (header : Header) (left at : ℕ) (total : Line) → List ℕ → List ℕ
 fillFrom c header zero at total s = numbersOf total
 fillFrom c header (suc left) at total s =
-    filled (readSite (header .years) (drop at s))
+    filled (readSite (header .edition) (header .years) (drop at s))
     (λ x n. numbersOf (siteLine c header x) ++ fillFrom c header left (at + n) (addLine total (siteLine c header x)) s)
 
 -- totals add up in any grouping
@@ -59,18 +59,19 @@ add-to-no-line : (x : Line) → addLine noLine x ≡ x
 add-to-no-line x = rw (zero-add (x .«predicted_low»), zero-add (x .«predicted_high»), zero-add (x .«expected_low»), zero-add (x .«expected_high»)) refl
 
 -- a record that a scan passes is one that was read
-pub record Passed (years sites left at : ℕ) (s : List ℕ) : Type 0 where
+pub record Passed (edition years sites left at : ℕ) (s : List ℕ) : Type 0 where
   pub site : Site
   pub bytes : ℕ
-  pub is : readSite years (drop at s) ≡ reading.Read site bytes
-  pub rest : scanRecords years sites left (at + bytes) s ≡ Accepted sites
+  pub is : readSite edition years (drop at s) ≡ reading.Read site bytes
+  pub rest : scanRecords edition years sites left (at + bytes) s ≡ Accepted sites
 
-pub passed : (years sites left at : ℕ) (s : List ℕ) → scanRecords years sites (suc left) at s ≡ Accepted sites → Passed years sites left at s
+pub passed : (edition years sites left at : ℕ) (s : List ℕ) → scanRecords edition years sites (suc left) at s ≡ Accepted sites
+    → Passed edition years sites left at s
 unfolding scanRecords
-passed years sites left at s e = by (readSite years (drop at s)) refl e
+passed edition years sites left at s e = by (readSite edition years (drop at s)) refl e
   where
-    by : (a : SiteAnswer) → readSite years (drop at s) ≡ a → afterRecord at a (λ next. scanRecords years sites left next s) ≡ Accepted sites
-        → Passed years sites left at s
+    by : (a : SiteAnswer) → readSite edition years (drop at s) ≡ a → afterRecord at a (λ next. scanRecords edition years sites left next s) ≡ Accepted sites
+        → Passed edition years sites left at s
     by (reading.Refused number) p q = let z : _≡_ {A = ℕ} 0 1 = cc in absurd (omega arith)
     by (reading.Read x n) p q = record { site = x; bytes = n; is = p; rest = q }
 
@@ -79,19 +80,20 @@ module _ (c : Coefficients) (header : Header) (s : List ℕ) where
   abbrev lines : List Site → List Line
   lines sites = map (siteLine c header) sites
 
-  fill-is : (sites left at : ℕ) (total : Line) → scanRecords (header .years) sites left at s ≡ Accepted sites
+  fill-is : (sites left at : ℕ) (total : Line) → scanRecords (header .edition) (header .years) sites left at s ≡ Accepted sites
       → fillFrom c header left at total s
-      ≡ allNumbers (lines (sitesFrom (header .years) left at s)) ++ numbersOf (addLine total (totalOf (lines (sitesFrom (header .years) left at s))))
+      ≡ allNumbers (lines (sitesFrom (header .edition) (header .years) left at s))
+      ++ numbersOf (addLine total (totalOf (lines (sitesFrom (header .edition) (header .years) left at s))))
   unfolding fillFrom sitesFrom allNumbers totalOf
   fill-is sites zero at total e = sym (ap numbersOf (add-no-line total))
   fill-is sites (suc left) at total e =
-      let p = passed (header .years) sites left at s e in
+      let p = passed (header .edition) (header .years) sites left at s e in
       let x = siteLine c header (p .site) in
       let r = fill-is sites left (at + p .bytes) (addLine total x) (p .rest) in
-      let later = lines (sitesFrom (header .years) left (at + p .bytes) s) in
+      let later = lines (sitesFrom (header .edition) (header .years) left (at + p .bytes) s) in
       rw (p .is, r) (ap (λ (z : Line). numbersOf x ++ (allNumbers later ++ numbersOf z)) (add-line-assoc total x (totalOf later)))
 
-pub fill-report : (s : List ℕ) → scanRecords (yearsIn s) (countIn s) (countIn s) headerLength s ≡ Accepted (countIn s)
+pub fill-report : (s : List ℕ) → scanRecords (editionIn s) (yearsIn s) (countIn s) (countIn s) headerLength s ≡ Accepted (countIn s)
     → fillFrom (coefficientsIn s) (headerIn s) (countIn s) headerLength noLine s ≡ reportNumbers (linesIn s)
 unfolding sitesIn
 fill-report s e =
@@ -105,15 +107,15 @@ recordLine c header (reading.Read x n) = Next (siteLine c header x) n
 
 -- the line of a record read through the part of the file that starts at it
 module _ (s : List ℕ) (at : ℕ) (answer : SiteAnswer) (c : Coefficients) (header : Header)
-    (reads : ReadsSite (header .years) (take (length s - at) (drop at s)) answer) where
-  answer-of : answer ≡ readSite (header .years) (drop at s)
+    (reads : ReadsSite (header .edition) (header .years) (take (length s - at) (drop at s)) answer) where
+  answer-of : answer ≡ readSite (header .edition) (header .years) (drop at s)
   answer-of = rw (part-from s at) at (reads .answer-is)
 
-  pub no-line : (number : ℕ) → answer ≡ reading.Refused number → Unread ≡ recordLine c header (readSite (header .years) (drop at s))
+  pub no-line : (number : ℕ) → answer ≡ reading.Refused number → Unread ≡ recordLine c header (readSite (header .edition) (header .years) (drop at s))
   no-line number e = ap (recordLine c header) (sym e ∙ answer-of)
 
   pub a-line : (site : Site) (n : ℕ) (line : Line) → answer ≡ reading.Read site n → line ≡ siteLine c header site
-      → Next line n ≡ recordLine c header (readSite (header .years) (drop at s))
+      → Next line n ≡ recordLine c header (readSite (header .edition) (header .years) (drop at s))
   a-line site n line e l = ap (λ (x : Line). Next x n) l ∙ ap (recordLine c header) (sym e ∙ answer-of)
 
 -- no total is above the largest line times the most sites
@@ -129,10 +131,10 @@ pub record Acceptable (s : List ℕ) (room : ℕ) : Type 0 where
 -- WHAT A FILL ASKS: a header within its limits, lines that fit, records that a scan has passed, and room for the report
 pub record Fillable (c : Coefficients) (s : List ℕ) (header : Header) (sites room : ℕ) : Type 0 where
   pub limits : HeaderWithin header
-  pub lines-fit : (site : Site) → Valid (header .years) site → LineAtMost mostPredicted (siteLine c header site)
+  pub lines-fit : (site : Site) → Valid (header .edition) (header .years) site → LineAtMost mostPredicted (siteLine c header site)
   pub most : sites ≤ mostSites
   pub long : headerLength ≤ length s
-  pub scanned : scanRecords (header .years) sites sites headerLength s ≡ Accepted sites
+  pub scanned : scanRecords (header .edition) (header .years) sites sites headerLength s ≡ Accepted sites
   pub room-for : reportLength sites ≤ room
 
 -- what the loop keeps before record i of n, at its place, with the totals so far
@@ -143,7 +145,7 @@ pub record Filling (c : Coefficients) (s : List ℕ) (header : Header) (n : ℕ)
   pub inside : at ≤ length s
   pub near : at ≤ headerLength + i * longest
   pub small : LineAtMost (i * mostPredicted) total
-  pub scanned : scanRecords (header .years) n (n - i) at s ≡ Accepted n
+  pub scanned : scanRecords (header .edition) (header .years) n (n - i) at s ≡ Accepted n
   pub filled : sets report (4 * i) (fillFrom c header (n - i) at total s) ≡ sets before 0 (fillFrom c header n headerLength noLine s)
 
 -- stores change no length
@@ -175,14 +177,14 @@ module _ {c : Coefficients} {s : List ℕ} {header : Header} {n : ℕ} {before :
       left : n - i ≡ suc (n - (i + 1))
       left = omega arith
 
-      this : Passed (header .years) n (n - (i + 1)) at s
-      this = passed (header .years) n (n - (i + 1)) at s (rw left at (k .scanned))
+      this : Passed (header .edition) (header .years) n (n - (i + 1)) at s
+      this = passed (header .edition) (header .years) n (n - (i + 1)) at s (rw left at (k .scanned))
 
       length-of : RecordLength (drop at s) (this .bytes)
-      length-of = read-length (header .years) (drop at s) (this .site) (this .bytes) (this .is)
+      length-of = read-length (header .edition) (header .years) (drop at s) (this .site) (this .bytes) (this .is)
 
       -- a record is always read
-      pub always-read : {answer : RecordLine} → answer ≡ recordLine c header (readSite (header .years) (drop at s)) → answer ≡ Unread → ⊥
+      pub always-read : {answer : RecordLine} → answer ≡ recordLine c header (readSite (header .edition) (header .years) (drop at s)) → answer ≡ Unread → ⊥
       always-read e u =
           let z : _≡_ {A = RecordLine} Unread (Next (siteLine c header (this .site)) (this .bytes)) = sym u ∙ e ∙ ap (recordLine c header) (this .is) in
           let y : _≡_ {A = ℕ} 0 1 = cc in
@@ -191,7 +193,7 @@ module _ {c : Coefficients} {s : List ℕ} {header : Header} {n : ℕ} {before :
       pub total-at-most : LineAtMost mostTotal total
       total-at-most = at-most-wider (omega (arith, k .asked .most)) (k .small)
 
-      module _ {answer : RecordLine} {line : Line} {bytes : ℕ} (read : answer ≡ recordLine c header (readSite (header .years) (drop at s)))
+      module _ {answer : RecordLine} {line : Line} {bytes : ℕ} (read : answer ≡ recordLine c header (readSite (header .edition) (header .years) (drop at s)))
           (is : answer ≡ Next line bytes) where
         same-record : Next line bytes ≡ Next (siteLine c header (this .site)) (this .bytes)
         same-record = sym is ∙ read ∙ ap (recordLine c header) (this .is)
@@ -203,7 +205,8 @@ module _ {c : Coefficients} {s : List ℕ} {header : Header} {n : ℕ} {before :
         bytes-is = let e = same-record in cc
 
         line-at-most : LineAtMost mostPredicted line
-        line-at-most = rw line-is (k .asked .lines-fit (this .site) (read-valid (header .years) (drop at s) (this .site) (this .bytes) (this .is)))
+        line-at-most =
+            rw line-is (k .asked .lines-fit (this .site) (read-valid (header .edition) (header .years) (drop at s) (this .site) (this .bytes) (this .is)))
 
         pub line-fits : LineAtMost mostTotal line
         line-fits = at-most-wider (omega arith) line-at-most

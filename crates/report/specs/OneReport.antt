@@ -11,7 +11,7 @@ use Rattle.estimate.specs.Exponential.{termNum, termDen, sumNum, partialSum, su
 use Rattle.site.specs.Rules.{yearsKnown}
 use Rattle.site.specs.Known.{signal, signal-read}
 use Rattle.header.specs.Header.{headerOf}
-use Rattle.model.specs.Coefficients.{editionOne}
+use Rattle.model.specs.Coefficients.{editionOne, coefficientsOf}
 use Rattle.model.specs.Crossings.{leftTurn, rightTurn, sight}
 use Rattle.model.specs.Parts.{crossingParts, crossingFactors}
 use Rattle.model.specs.Predicted.{productUnder, productOver, termsOf, sumUnder, sumOver, predictedUnder, predictedOver}
@@ -25,7 +25,7 @@ signalProject years high low = 1 ∷ years ∷ high ∷ low ∷ high ∷ low ∷
 
 one-site : (years high low : ℕ) → yearsKnown years ≡ true → sitesIn (signalProject years high low) ≡ signal ∷ []
 unfolding sitesIn sitesFrom
-one-site years high low known = rw (signal-read years known) refl
+one-site years high low known = rw (signal-read 1 years refl known) refl
 
 -- 10,000^0.60 is 251.1 and 1,000^0.20 is 3.9 at depth 1
 major : powerLargest 1 10000 60 100 ≡ 2511
@@ -35,13 +35,13 @@ minor : powerLargest 1 1000 20 100 ≡ 39
 minor = power-largest-value 1 1000 20 100 _ (lit< tt) (lit≤ tt) (lit< tt)
 
 -- under 0.004 crashes, and over 200
-few : predictedOver editionOne (headerOf 1 1 1) signal 1 <ᶠ millionths 4000
-unfolding predictedOver sumOver termsOf productOver crossingParts crossingFactors editionOne powerOver decimal expOver expNegOver expUnder
+few : predictedOver (coefficientsOf 1) (headerOf 1 1 1 1) signal 1 <ᶠ millionths 4000
+unfolding predictedOver sumOver termsOf productOver crossingParts crossingFactors coefficientsOf editionOne powerOver decimal expOver expNegOver expUnder
     partialSum sumWithTail sumNum termNum termDen inverse leftTurn rightTurn sight _*ᶠ_ _+ᶠ_ whole tenThousandths fraction _//_ millionths signal
 few = rw (major, minor) (record { cross = lit< tt })
 
-many : millionths 200000000 <ᶠ predictedUnder editionOne (headerOf 10 9999 9999) signal 1
-unfolding predictedUnder sumUnder termsOf productUnder crossingParts crossingFactors editionOne powerUnder decimal expUnder expNegUnder expOver
+many : millionths 200000000 <ᶠ predictedUnder (coefficientsOf 1) (headerOf 1 10 9999 9999) signal 1
+unfolding predictedUnder sumUnder termsOf productUnder crossingParts crossingFactors coefficientsOf editionOne powerUnder decimal expUnder expNegUnder expOver
     partialSum sumWithTail sumNum termNum termDen inverse leftTurn rightTurn sight _*ᶠ_ _+ᶠ_ whole tenThousandths fraction _//_ millionths signal
 many = rw (major, minor) (record { cross = lit< tt })
 

@@ -10,7 +10,7 @@ ghost use Rattle.site.specs.Record.{readSite};
 ghost use Rattle.laws.specs.Lent.{laidOver};
 ghost use Rattle.header.specs.Header.{headerLength};
 ghost use Rattle.header.specs.HeaderLaws.{HeaderWithin};
-ghost use Rattle.model.specs.Coefficients.{editionOne};
+ghost use Rattle.model.specs.Coefficients.{coefficientsOf};
 ghost use Rattle.line.specs.Weighing.{LineAtMost};
 ghost use Rattle.report.specs.Report.{numbersOf, noLine, addLine, reportNumbers, linesIn};
 ghost use Rattle.report.specs.Demand.{Demand};
@@ -44,9 +44,9 @@ fn line_at(
 ) -> RecordLine
     requires { ⌜ StoredPowers (now powers) × StoredLogarithms (now logarithms) × StoredExponentials (now exponentials)
         × (at ≤ length (now file)) × HeaderWithin header ⌝ }
-    ensures { λ r. ⌜ r ≡ recordLine editionOne header (readSite (header .years) (drop at (now (file .entry)))) ⌝ }
+    ensures { λ r. ⌜ r ≡ recordLine (coefficientsOf (header .edition)) header (readSite (header .edition) (header .years) (drop at (now (file .entry)))) ⌝ }
 {
-    let answer = read_site(header.years, &file[at..]);
+    let answer = read_site(header.edition, header.years, &file[at..]);
     match answer {
         SiteAnswer::Refused(_) => RecordLine::Unread,
         SiteAnswer::Read(site, n) => {
@@ -91,8 +91,10 @@ fn fill_lines(
     report: &mut [u64],
 )
     requires { ⌜ StoredPowers (now powers) × StoredLogarithms (now logarithms) × StoredExponentials (now exponentials)
-        × Fillable editionOne (now file) header sites (length (now report)) ⌝ }
-    ensures { λ r. ⌜ now (report .exit) ≡ sets (now (report .entry)) 0 (fillFrom editionOne header sites headerLength noLine (now (file .entry))) ⌝ }
+        × Fillable (coefficientsOf (header .edition)) (now file) header sites (length (now report)) ⌝ }
+    ensures { λ r. ⌜
+        now (report .exit) ≡ sets (now (report .entry)) 0 (fillFrom (coefficientsOf (header .edition)) header sites headerLength noLine (now (file .entry)))
+        ⌝ }
 {
     let mut total = Line {
         predicted_low: 0,

@@ -1,8 +1,8 @@
-// Rounds with the stored numbers lent, for the benchmark. Standard input is six two-byte numbers, high byte first, and the
-// records of the sites of a project of five years. The numbers ask for so many rounds: of powers, of powers whose ends are found
+// Rounds with the stored numbers lent, for the benchmark. Standard input is seven two-byte numbers, high byte first, and the
+// records of the sites of a project of five years. Six numbers ask for so many rounds: of powers, of powers whose ends are found
 // one by one, of logarithms and of exponentials at every argument, of lines, each with its record read, and of records that are only
-// read. Prints a sum over all ends of the brackets, and one over all numbers of the lines and the kinds of what was only read, so
-// that none is left out.
+// read; the seventh is the edition of the records. Prints a sum over all ends of the brackets, and one over all numbers of the lines
+// and the kinds of what was only read, so that none is left out.
 ghost use Prim.Native.Nat.{_≤_, _<_};
 ghost use lib.ListN.{length};
 ghost use Rattle.exponential.specs.Stored.{StoredExponentials};
@@ -38,7 +38,10 @@ const SEGMENTS: u64 = 1100;
 const CROSSINGS: u64 = 900;
 
 // The bytes before the records.
-const HEAD: usize = 12;
+const HEAD: usize = 14;
+
+// Where the edition stands.
+const EDITION_AT: usize = 12;
 
 // With the longest records of the most sites.
 const INPUT_ROOM: usize = HEAD + MOST_SITES * LONGEST_RECORD;
@@ -109,15 +112,17 @@ fn site_added(
     logarithms: &[u64; 256],
     exponentials: &[u64; 15],
     lines: bool,
+    edition: u64,
     site: Site,
     sum: u64,
 ) -> u64
-    requires { ⌜ StoredPowers (now powers) × StoredLogarithms (now logarithms) × StoredExponentials (now exponentials) × Valid 5 site ⌝ }
+    requires { ⌜ StoredPowers (now powers) × StoredLogarithms (now logarithms) × StoredExponentials (now exponentials) × Valid edition 5 site ⌝ }
 {
     if !lines {
         return added(sum, site.kind as u64, 0);
     }
     let header = Header {
+        edition,
         years: YEARS,
         segments: SEGMENTS,
         crossings: CROSSINGS,
@@ -133,6 +138,7 @@ fn records(
     logarithms: &[u64; 256],
     exponentials: &[u64; 15],
     lines: bool,
+    edition: u64,
     records: &[u8],
     start: u64,
 ) -> u64
@@ -141,11 +147,11 @@ fn records(
     let mut sum = start;
     let mut at = 0;
     while at < records.len() {
-        let answer = read_site(YEARS, &records[at..]);
+        let answer = read_site(edition, YEARS, &records[at..]);
         let SiteAnswer::Read(site, n) = answer else {
             return sum;
         };
-        sum = site_added(powers, logarithms, exponentials, lines, site, sum);
+        sum = site_added(powers, logarithms, exponentials, lines, edition, site, sum);
         at += n;
     }
     sum
@@ -153,11 +159,12 @@ fn records(
 
 // The rounds that a number of the input asks for.
 fn rounds(input: &[u8], job: usize, start: u64) -> u64
-    requires { ⌜ (job < 6) × (12 ≤ length (now input)) ⌝ }
+    requires { ⌜ (job < 6) × (14 ≤ length (now input)) ⌝ }
 {
     let stored_powers = stored_powers();
     let stored_logarithms = stored_logarithms();
     let stored_exponentials = stored_exponentials();
+    let edition = word_at(input, EDITION_AT) as u64;
     let mut sum = start;
     for _ in 0..word_at(input, 2 * job) {
         sum = match job {
@@ -170,6 +177,7 @@ fn rounds(input: &[u8], job: usize, start: u64) -> u64
                 &stored_logarithms,
                 &stored_exponentials,
                 job == 4,
+                edition,
                 &input[HEAD..],
                 sum,
             ),

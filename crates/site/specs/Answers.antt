@@ -8,8 +8,8 @@ use Rattle.site.specs.declared.values.SiteAnswer.the-variants.{Read, Ref
 use Rattle.site.specs.declared.values.WriteAnswer.{WriteAnswer}
 use Rattle.site.specs.declared.values.WriteAnswer.the-variants.{Written, Unwritten}
 
--- "That reader answers the site's values and the record's length, or 1 or 5 to 9"; with the years handed to it (document 02, request 4)
--- also "4 at place 0, tried first", where they are outside their limits: 0 for success
+-- "That reader answers the site's values and the record's length, or 1 or 5 to 9"; with the edition and the years handed to it
+-- (document 02, requests 6 and 4) also "3 or 4 at place 0, tried first", where they are outside their limits: 0 for success
 abbrev pub readNumber : SiteAnswer → ℕ
 readNumber (Read site n) = 0
 readNumber (Refused number) = number
@@ -22,7 +22,7 @@ readPlace answer = 0
 abbrev pub readAnswer : ℕ → Site → ℕ → SiteAnswer
 readAnswer number site n = cond (eqb number 0) (Read site n) (Refused number)
 
--- "Success gives 0 and the record's length. It refuses only with 8, then 10"; with the years handed to it with 4 before them
+-- "Success gives 0 and the record's length. It refuses only with 8, then 10"; with edition and years handed to it with 3 and 4 before them
 abbrev pub writeNumber : WriteAnswer → ℕ
 writeNumber (Written n) = 0
 writeNumber (Unwritten number) = number

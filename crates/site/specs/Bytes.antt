@@ -80,14 +80,14 @@ parts-bytes a b r t u all bt bu =
     back-bytes (x ∷ s) t bytes i = back-bytes s t (λ j. bytes (suc j)) i
 
 -- what the writer emits is bytes
-pub record-bytes : (years : ℕ) (site : Site) → Valid years site → Bytes (recordOf site)
+pub record-bytes : (edition years : ℕ) (site : Site) → Valid edition years site → Bytes (recordOf edition site)
 unfolding recordBy
-record-bytes years site v =
+record-bytes edition years site v =
     let slots = slotsOf site in
-    let rules = rulesHeld (site .kind) slots in
-    let hk = valid-kind years site v in
-    let c = tests years site v in
-    let s = tested-rules (site .kind) (curveHeld (entriesOf (site .kind)) slots) hk in
+    let rules = rulesHeld edition (site .kind) slots in
+    let hk = valid-kind edition years site v in
+    let c = tests edition years site v in
+    let s = tested-rules edition (site .kind) (curveHeld (entriesOf edition (site .kind)) slots) hk in
     let small = map-small rules slots 0 (s .few) in
     let map = mapOf rules slots + cond (yearly site) 32768 0 in
     let traffic-bytes = later-bytes _ _ (c .later-traffic) in

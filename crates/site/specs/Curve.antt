@@ -5,11 +5,12 @@ use mathlib.Core.Bool.{Bool, true, false, cond, _&&_, _||_, not, Bool·beq, true
 use Prim.Native.Nat.{ℕ, zero, suc, _/_, _≤_}
 use native.Mathlib.Nat.{div-one}
 use borrow.Author.Tests.{not-false}
-use Rattle.site.specs.Rules.{entriesOf, lastKind, segment, settle}
+use Rattle.site.specs.Rules.{entriesBy, entriesOf, lastKind, segment, settle}
 use Rattle.site.specs.Record.{anyField, misses, curved, rulesRead}
 use Rattle.site.specs.Fields.{bitAt, roadCurves}
 use Rattle.laws.specs.Truth.{and-right}
-use Rattle.site.specs.Tested.{by-kind}
+use Rattle.site.specs.Tested.{by-rules}
+use Rattle.site.specs.Accepted.{rulesBy}
 
 -- 6 and 7 stand together, and 8 and 9 only with them
 abbrev pub matched : Bool → Bool → Bool → Bool → Bool
@@ -52,8 +53,7 @@ misses-on-road false map = refl
 
 -- a segment is refused with 7 exactly where these do not all hold
 pub segment-misses : (map : ℕ)
-    → misses (rulesRead 0 map) map ≡ not (bitAt 0 map && (bitAt 1 map && matched (bitAt 6 map) (bitAt 7 map) (bitAt 8 map) (bitAt 9 map)))
-unfolding entriesOf
+    → misses (settle (curved segment map) segment) map ≡ not (bitAt 0 map && (bitAt 1 map && matched (bitAt 6 map) (bitAt 7 map) (bitAt 8 map) (bitAt 9 map)))
 segment-misses map =
     misses-on-road (curved segment map) map
     ∙ rw (curve-bits map) (by-bits (bitAt 0 map) (bitAt 1 map) (bitAt 6 map) (bitAt 7 map) (bitAt 8 map) (bitAt 9 map))
@@ -64,14 +64,16 @@ mapMatched zero map = bitAt 0 map && (bitAt 1 map && matched (bitAt 6 map) (bitA
 mapMatched (suc kind) map = bitAt 0 map && bitAt 1 map
 
 -- a crossing has no curve
-pub misses-by-bits : (kind map : ℕ) → kind ≤ lastKind → misses (rulesRead kind map) map ≡ not (mapMatched kind map)
+pub misses-by-bits : (edition kind map : ℕ) → kind ≤ lastKind → misses (rulesRead edition kind map) map ≡ not (mapMatched kind map)
 unfolding anyField entriesOf
-misses-by-bits kind map =
-    by-kind (λ kind. misses (rulesRead kind map) map ≡ not (mapMatched kind map)) (segment-misses map)
+misses-by-bits edition kind map =
+    by-rules (λ sight kind. misses (rulesBy sight kind map) map ≡ not (mapMatched kind map)) (λ sight. segment-misses map)
     (rw (div-one (map / 2)) (two (bitAt 0 map) (bitAt 1 map)))
     (rw (div-one (map / 2)) (two (bitAt 0 map) (bitAt 1 map)))
     (rw (div-one (map / 2)) (two (bitAt 0 map) (bitAt 1 map)))
-    kind
+    (rw (div-one (map / 2)) (two (bitAt 0 map) (bitAt 1 map)))
+    (λ sight. rw (div-one (map / 2)) (two (bitAt 0 map) (bitAt 1 map)))
+    edition kind
 
 -- where no bit is missing, bit 6 tells the curve
 matched-six : (six seven eight nine : Bool) → matched six seven eight nine ≡ true → (six || (seven || (eight || (nine || false)))) ≡ six
@@ -81,11 +83,12 @@ matched-six false false true nine e = absurd (true≢false (sym e))
 matched-six false false false true e = absurd (true≢false (sym e))
 matched-six false false false false e = refl
 
-pub curved-by-six : (kind map : ℕ) → kind ≤ lastKind → misses (rulesRead kind map) map ≡ false → curved (entriesOf kind) map ≡ roadCurves kind map
+pub curved-by-six : (edition kind map : ℕ) → kind ≤ lastKind → misses (rulesRead edition kind map) map ≡ false
+    → curved (entriesOf edition kind) map ≡ roadCurves kind map
 unfolding anyField entriesOf
-curved-by-six kind map =
-    by-kind (λ kind. misses (rulesRead kind map) map ≡ false → curved (entriesOf kind) map ≡ roadCurves kind map)
-    (λ e.
+curved-by-six edition kind map =
+    by-rules (λ sight kind. misses (rulesBy sight kind map) map ≡ false → curved (entriesBy sight kind) map ≡ roadCurves kind map)
+    (λ sight e.
     let m = not-false (mapMatched 0 map) (sym (segment-misses map) ∙ e) in
     curve-bits map ∙ matched-six (bitAt 6 map) (bitAt 7 map) (bitAt 8 map) (bitAt 9 map) (and-right (bitAt 1 map) _ (and-right (bitAt 0 map) _ m)))
-    (λ e. refl) (λ e. refl) (λ e. refl) kind
+    (λ e. refl) (λ e. refl) (λ e. refl) (λ e. refl) (λ sight e. refl) edition kind

@@ -1,8 +1,9 @@
 -- Document 01's bits, by number: what each bit of each kind's map means, where a field's two bytes stand, and what a field
 -- that stands or does not stand is read as. With the reader's definitions it shares only what a range and a two-byte number are,
--- where kind and map stand, and that a segment has no minor traffic. The bits of fields, 0 to 14, are read from the map without bit 15,
--- `fieldMapIn`: by `fields-keep-bits` and `fields-lack-fifteen` of BitLaws it has the bits of the record's own map, `mapIn`, but for 15.
--- `fields-read` of FieldsRead and `record-cause-exactly` of RecordCauses tie it to the reader's answer.
+-- where kind and map stand, that a segment has no minor traffic, and which editions have limited sight. The bits of fields, 0 to 14,
+-- are read from the map without bit 15, `fieldMapIn`: by `fields-keep-bits` and `fields-lack-fifteen` of BitLaws it has the bits of the
+-- record's own map, `mapIn`, but for 15. `fields-read` of FieldsRead and `record-cause-exactly` of RecordCauses tie it to the reader's
+-- answer.
 use mathlib.Core.Path.{_≡_}
 use mathlib.Core.Bool.{Bool, true, false, cond}
 use mathlib.Core.List.{List, [], _∷_}
@@ -12,7 +13,7 @@ use lib.Dec.{eqb}
 use Rattle.site.specs.declared.values.Slot.{Slot}
 use Rattle.site.specs.declared.values.Slot.the-variants.{Absent, Number}
 use Rattle.site.specs.declared.values.Site.{Site}
-use Rattle.site.specs.Rules.{inside}
+use Rattle.site.specs.Rules.{inside, hasSight}
 use Rattle.site.specs.Yearly.{laterSlots, yearly, laterMinor}
 use Rattle.site.specs.Record.{word, kindIn, mapIn, fieldMapIn}
 
@@ -65,25 +66,32 @@ crossingRows lanes rows =
     ∷ bit 5 (field (λ site. site .«right_lanes») 0 lanes (usual 0))
     ∷ rows
 
--- "3 skew degrees 0 to 60 (0), kinds 1 and 2"; "6 quadrants with limited sight (0), up to 2 at 3ST and 4 at 4ST"
-abbrev pub stopRows : ℕ → List Row
-stopRows quadrants =
-    bit 3 (field (λ site. site .skew) 0 60 (usual 0)) ∷ bit 6 (field (λ site. site .«limited_sight») 0 quadrants (usual 0)) ∷ []
+-- "3 skew degrees 0 to 60 (0), kinds 1 and 2"; "6 quadrants with limited sight (0), up to 2 at 3ST and 4 at 4ST"; document 02, request 6:
+-- "Bit 6 of a crossing gets 6 in edition 2"
+abbrev pub stopRows : (sight : Bool) (quadrants : ℕ) → List Row
+stopRows sight quadrants =
+    bit 3 (field (λ site. site .skew) 0 60 (usual 0))
+    ∷ bit 6 (cond sight (field (λ site. site .«limited_sight») 0 quadrants (usual 0)) lacked)
+    ∷ []
 
 -- 0 segment, 1 3ST, 2 4ST, 3 4SG: "each up to 1 at 3ST and 2 elsewhere", "4SG lacks bits 3 and 6"
-abbrev pub rowsOf : ℕ → List Row
-rowsOf zero = segmentRows
-rowsOf (suc zero) = crossingRows 1 (stopRows 2)
-rowsOf (suc (suc zero)) = crossingRows 2 (stopRows 4)
-rowsOf (suc (suc (suc kind))) = crossingRows 2 []
+abbrev pub rowsBy : (sight : Bool) (kind : ℕ) → List Row
+rowsBy sight zero = segmentRows
+rowsBy sight (suc zero) = crossingRows 1 (stopRows sight 2)
+rowsBy sight (suc (suc zero)) = crossingRows 2 (stopRows sight 4)
+rowsBy sight (suc (suc (suc kind))) = crossingRows 2 []
+
+-- of an edition
+abbrev pub rowsOf : (edition kind : ℕ) → List Row
+rowsOf edition kind = rowsBy (hasSight edition) kind
 
 -- what a bit of these rows means: a kind lacks the bits that have no row
 unfoldable pub fieldAt : List Row → ℕ → Field
 fieldAt [] b = lacked
 fieldAt (bit n x ∷ rows) b = cond (eqb b n) x (fieldAt rows b)
 
-abbrev pub fieldIn : List ℕ → ℕ → Field
-fieldIn s b = fieldAt (rowsOf (kindIn s)) b
+abbrev pub fieldIn : (edition : ℕ) → List ℕ → ℕ → Field
+fieldIn edition s b = fieldAt (rowsOf edition (kindIn s)) b
 
 -- the bits of fields, 0 to 14: bit 15 of the map "has no field of its own"; and those of them that a kind lacks
 abbrev pub mapBits : ℕ
@@ -97,17 +105,22 @@ lackedFrom rows b (suc count) = onlyLacked (fieldAt rows b) b (lackedFrom rows (
     onlyLacked lacked n later = n ∷ later
     onlyLacked (field value low high absence) n later = later
 
--- they are none of a segment, 7 to 14 of a crossing, and "4SG lacks bits 3 and 6"
-abbrev pub lackedBits : ℕ → List ℕ
-lackedBits zero = []
-lackedBits (suc zero) = 7 ∷ 8 ∷ 9 ∷ 10 ∷ 11 ∷ 12 ∷ 13 ∷ 14 ∷ []
-lackedBits (suc (suc zero)) = 7 ∷ 8 ∷ 9 ∷ 10 ∷ 11 ∷ 12 ∷ 13 ∷ 14 ∷ []
-lackedBits (suc (suc (suc kind))) = 3 ∷ 6 ∷ 7 ∷ 8 ∷ 9 ∷ 10 ∷ 11 ∷ 12 ∷ 13 ∷ 14 ∷ []
+-- they are none of a segment, 7 to 14 of a crossing, and 6 too in edition 2; "4SG lacks bits 3 and 6"
+abbrev pub lackedOf : (sight : Bool) (kind : ℕ) → List ℕ
+lackedOf sight zero = []
+lackedOf true (suc zero) = 7 ∷ 8 ∷ 9 ∷ 10 ∷ 11 ∷ 12 ∷ 13 ∷ 14 ∷ []
+lackedOf false (suc zero) = 6 ∷ 7 ∷ 8 ∷ 9 ∷ 10 ∷ 11 ∷ 12 ∷ 13 ∷ 14 ∷ []
+lackedOf true (suc (suc zero)) = 7 ∷ 8 ∷ 9 ∷ 10 ∷ 11 ∷ 12 ∷ 13 ∷ 14 ∷ []
+lackedOf false (suc (suc zero)) = 6 ∷ 7 ∷ 8 ∷ 9 ∷ 10 ∷ 11 ∷ 12 ∷ 13 ∷ 14 ∷ []
+lackedOf sight (suc (suc (suc kind))) = 3 ∷ 6 ∷ 7 ∷ 8 ∷ 9 ∷ 10 ∷ 11 ∷ 12 ∷ 13 ∷ 14 ∷ []
 
--- the slots of other kinds, which no bit of this kind is for
-abbrev pub othersOf : ℕ → Site → List Slot
-othersOf zero site = site .«minor_traffic» ∷ site .skew ∷ site .«left_lanes» ∷ site .«right_lanes» ∷ site .«limited_sight» ∷ []
-othersOf (suc kind) site =
+abbrev pub lackedBits : (edition kind : ℕ) → List ℕ
+lackedBits edition kind = lackedOf (hasSight edition) kind
+
+-- the slots of other kinds, and of other editions, which no bit of this kind is for
+abbrev pub othersBy : (sight : Bool) (kind : ℕ) → Site → List Slot
+othersBy sight zero site = site .«minor_traffic» ∷ site .skew ∷ site .«left_lanes» ∷ site .«right_lanes» ∷ site .«limited_sight» ∷ []
+othersBy sight (suc kind) site =
     site .length
     ∷ site .«lane_width»
     ∷ site .«shoulder_width»
@@ -121,7 +134,10 @@ othersOf (suc kind) site =
     ∷ site .«two_way_lane»
     ∷ site .passing
     ∷ site .«hazard_rating»
-    ∷ cond (eqb kind 2) (site .skew ∷ site .«limited_sight» ∷ []) []
+    ∷ cond (eqb kind 2) (site .skew ∷ site .«limited_sight» ∷ []) (cond sight [] (site .«limited_sight» ∷ []))
+
+abbrev pub othersOf : (edition kind : ℕ) → Site → List Slot
+othersOf edition kind site = othersBy (hasSight edition) kind site
 
 -- "a two-byte bit map (bit 0 the lowest)": a bit stands
 abbrev pub bitAt : ℕ → ℕ → Bool
@@ -223,10 +239,10 @@ AllAbsent (slot ∷ slots) = (slot ≡ Absent) × AllAbsent slots
 
 -- what is read from a part: kind, every bit of the map, no number in a slot of another kind, the later years of both traffics, which
 -- the site has where bit 15 stands, and "the record's length"
-pub record FieldsRead (years : ℕ) (s : List ℕ) (site : Site) (n : ℕ) : Type 0 where
+pub record FieldsRead (edition years : ℕ) (s : List ℕ) (site : Site) (n : ℕ) : Type 0 where
   pub kind-is : site .kind ≡ kindIn s
-  pub bits : (b : ℕ) → BitRead years s site b (fieldIn s b)
-  pub others : AllAbsent (othersOf (kindIn s) site)
+  pub bits : (b : ℕ) → BitRead years s site b (fieldIn edition s b)
+  pub others : AllAbsent (othersOf edition (kindIn s) site)
   pub yearly-is : yearly site ≡ bitAt 15 (mapIn s)
   pub later-traffic : LaterYears years s 0 (laterTold years s) (laterSlots (site .«later_traffic»))
   pub later-minor : LaterYears years s 1 (laterMinor (kindIn s) (laterTold years s)) (laterSlots (site .«later_minor»))

@@ -17,16 +17,17 @@ use Rattle.site.specs.declared.values.Slot.{Slot}
 use Rattle.site.specs.declared.values.Slot.the-variants.{Absent, Number}
 use Rattle.site.specs.declared.values.Site.{Site}
 use Rattle.site.specs.declared.values.SiteAnswer.the-variants.{Read}
-use Rattle.site.specs.Rules.{entriesOf, lastKind, laterYears, inside, allows, absentOf, needed, lacking, bits, settled, settle, holds}
+use Rattle.site.specs.Rules.{segment, hasSight, entriesBy, entriesOf, lastKind, laterYears, inside, allows, absentOf, needed, lacking, bits}
+use Rattle.site.specs.Rules.{settled, settle, holds}
 use Rattle.site.specs.Record.{anyField, lackedBitStands, lacks, misses, curved, rulesRead, word, words, valueNumber}
 use Rattle.site.specs.Record.{fieldsNumber, fieldsValues, kindIn, fieldMapIn, rulesIn, laterIn, laterMinorIn, fieldsIn, laterAt, laterMinorAt, laterRead}
 use Rattle.site.specs.Record.{laterAllowed, lengthIn, siteIn, readSite}
-use Rattle.site.specs.Fields.{Absence, never, no-number, usual, on-curve, Field, lacked, field, Row, bit, rowsOf, fieldAt}
-use Rattle.site.specs.Fields.{mapBits, lackedFrom, lackedBits, fieldIn, othersOf, bitAt, standing, valueAt, numberAt, inRange}
+use Rattle.site.specs.Fields.{Absence, never, no-number, usual, on-curve, Field, lacked, field, Row, bit, segmentRows, rowsBy, rowsOf, fieldAt}
+use Rattle.site.specs.Fields.{mapBits, lackedFrom, lackedOf, lackedBits, fieldIn, othersBy, othersOf, bitAt, standing, valueAt, numberAt, inRange}
 use Rattle.site.specs.Fields.{isUsual, spellsDefault, AbsentAs, FieldRead, BitRead, LaterYears, AllAbsent, FieldsRead}
 use Rattle.site.specs.Writing.{slotsOf}
 use Rattle.laws.specs.Truth.{and-left, and-right, or-left, or-right, not-both, never-so}
-use Rattle.site.specs.Tested.{by-kind, tested-rules}
+use Rattle.site.specs.Tested.{by-rules, tested-rules}
 use Rattle.site.specs.LaterLaws.{later-given, later-absent, allowed-at}
 use Rattle.site.specs.Accepted.{Accepted, later-most, reading}
 use Rattle.site.specs.ReadWrite.{value-taken, no-miss, between, slots-again, later-slots-again, minor-slots-again, yearly-again}
@@ -47,8 +48,11 @@ ruleAt curve lacked = Lacking
 ruleAt curve (field value low high absence) = ruleFor low high absence curve
 
 -- the rules of a kind by bit number, and how many bits it has
-abbrev pub rulesAt : ℕ → Bool → ℕ → Rule
-rulesAt kind curve b = ruleAt curve (fieldAt (rowsOf kind) b)
+abbrev pub rulesOfBit : (sight : Bool) (kind : ℕ) (curve : Bool) → ℕ → Rule
+rulesOfBit sight kind curve b = ruleAt curve (fieldAt (rowsBy sight kind) b)
+
+abbrev pub rulesAt : (edition kind : ℕ) (curve : Bool) → ℕ → Rule
+rulesAt edition kind curve = rulesOfBit (hasSight edition) kind curve
 
 abbrev pub bitsHeld : ℕ → ℕ
 bitsHeld zero = 15
@@ -69,15 +73,19 @@ rule-at-bit : (curve : Bool) (x : Field) → bits (ruleAt curve x) ≡ 1
 rule-at-bit curve lacked = refl
 rule-at-bit curve (field value low high absence) = rule-for-bit low high absence curve
 
-pub each-has-bit : (kind : ℕ) (curve : Bool) → EachHasBit (rulesAt kind curve)
-each-has-bit kind curve b = rule-at-bit curve (fieldAt (rowsOf kind) b)
+pub each-has-bit : (edition kind : ℕ) (curve : Bool) → EachHasBit (rulesAt edition kind curve)
+each-has-bit edition kind curve b = rule-at-bit curve (fieldAt (rowsOf edition kind) b)
 
 -- THE TWO TABLES ARE ONE: by computation, for every kind, on a curve and on a straight road
-pub rules-by-bit : (kind : ℕ) → kind ≤ lastKind → (curve : Bool)
-    → bitRules (settle curve (entriesOf kind)) ≡ listed (rulesAt kind curve) (bitsHeld kind)
+pub rules-by-bit : (edition kind : ℕ) → kind ≤ lastKind → (curve : Bool)
+    → bitRules (settle curve (entriesOf edition kind)) ≡ listed (rulesAt edition kind curve) (bitsHeld kind)
 unfolding entriesOf bitRules listed fieldAt
-rules-by-bit kind h true = by-kind (λ kind. bitRules (settle true (entriesOf kind)) ≡ listed (rulesAt kind true) (bitsHeld kind)) refl refl refl refl kind h
-rules-by-bit kind h false = by-kind (λ kind. bitRules (settle false (entriesOf kind)) ≡ listed (rulesAt kind false) (bitsHeld kind)) refl refl refl refl kind h
+rules-by-bit edition kind h true =
+    by-rules (λ sight kind. bitRules (settle true (entriesBy sight kind)) ≡ listed (rulesOfBit sight kind true) (bitsHeld kind))
+    (λ sight. refl) refl refl refl refl (λ sight. refl) edition kind h
+rules-by-bit edition kind h false =
+    by-rules (λ sight kind. bitRules (settle false (entriesBy sight kind)) ≡ listed (rulesOfBit sight kind false) (bitsHeld kind))
+    (λ sight. refl) refl refl refl refl (λ sight. refl) edition kind h
 
 -- each row names the slot of its bit: the slots by name, and by number
 unfoldable byName : List Row → Site → List Slot
@@ -90,14 +98,14 @@ byNumber [] slots = []
 byNumber (bit n lacked ∷ rows) slots = byNumber rows slots
 byNumber (bit n (field value low high absence) ∷ rows) slots = getD slots n Absent ∷ byNumber rows slots
 
-named : (kind : ℕ) → kind ≤ lastKind → (curve : Bool) (site : Site)
-    → byName (rowsOf kind) site ≡ byNumber (rowsOf kind) (bitSlots (settle curve (entriesOf kind)) (slotsOf site))
+named : (edition kind : ℕ) → kind ≤ lastKind → (curve : Bool) (site : Site)
+    → byName (rowsOf edition kind) site ≡ byNumber (rowsOf edition kind) (bitSlots (settle curve (entriesOf edition kind)) (slotsOf site))
 unfolding entriesOf bitSlots byName byNumber
-named kind h curve site =
-    by-kind (λ kind. byName (rowsOf kind) site ≡ byNumber (rowsOf kind) (bitSlots (settle curve (entriesOf kind)) (slotsOf site)))
-    (by curve) refl refl refl kind h
+named edition kind h curve site =
+    by-rules (λ sight kind. byName (rowsBy sight kind) site ≡ byNumber (rowsBy sight kind) (bitSlots (settle curve (entriesBy sight kind)) (slotsOf site)))
+    (λ sight. by curve) refl refl refl refl (λ sight. refl) edition kind h
   where
-    by : (curve : Bool) → byName (rowsOf 0) site ≡ byNumber (rowsOf 0) (bitSlots (settle curve (entriesOf 0)) (slotsOf site))
+    by : (curve : Bool) → byName segmentRows site ≡ byNumber segmentRows (bitSlots (settle curve segment) (slotsOf site))
     by true = refl
     by false = refl
 
@@ -131,37 +139,38 @@ past-all (bit n x ∷ rows) most b e h =
     let l = ltb-true n most (and-left (ltb n most) _ e) in
     rw (ne-eqb b n (λ q. omega arith)) (past-all rows most b (and-right (ltb n most) _ e) h)
 
-pub lacked-past : (kind b : ℕ) → bitsHeld kind ≤ b → fieldAt (rowsOf kind) b ≡ lacked
+pub lacked-past : (edition kind b : ℕ) → bitsHeld kind ≤ b → fieldAt (rowsOf edition kind) b ≡ lacked
 unfolding belowAll
-lacked-past zero b h = past-all (rowsOf 0) 15 b refl h
-lacked-past (suc zero) b h = past-all (rowsOf 1) 7 b refl h
-lacked-past (suc (suc zero)) b h = past-all (rowsOf 2) 7 b refl h
-lacked-past (suc (suc (suc kind))) b h = past-all (rowsOf 3) 7 b refl h
+lacked-past edition zero b h = past-all (rowsOf edition 0) 15 b refl h
+lacked-past edition (suc zero) b h = past-all (rowsOf edition 1) 7 b refl h
+lacked-past edition (suc (suc zero)) b h = past-all (rowsOf edition 2) 7 b refl h
+lacked-past edition (suc (suc (suc kind))) b h = past-all (rowsOf edition 3) 7 b refl h
 
 -- so a bit that it does not lack is one of its own
-pub among : (kind b : ℕ) → (fieldAt (rowsOf kind) b ≡ lacked → ⊥) → b < bitsHeld kind
-among kind b has = lt-of-not-le (λ h. has (lacked-past kind b h))
+pub among : (edition kind b : ℕ) → (fieldAt (rowsOf edition kind) b ≡ lacked → ⊥) → b < bitsHeld kind
+among edition kind b has = lt-of-not-le (λ h. has (lacked-past edition kind b h))
 
 -- the rules of a kind and a map, told by bit number
-pub record ByBits (kind map : ℕ) (s : List ℕ) : Type 0 where
-  pub lack : lacks (rulesRead kind map) map ≡ lacks (listed (rulesAt kind true) (bitsHeld kind)) map
-  pub count : words (rulesRead kind map) map ≡ words (listed (rulesAt kind true) (bitsHeld kind)) map
-  pub number : fieldsNumber (rulesRead kind map) map s ≡ fieldsNumber (listed (rulesAt kind true) (bitsHeld kind)) map s
+pub record ByBits (edition : ℕ) (kind map : ℕ) (s : List ℕ) : Type 0 where
+  pub lack : lacks (rulesRead edition kind map) map ≡ lacks (listed (rulesAt edition kind true) (bitsHeld kind)) map
+  pub count : words (rulesRead edition kind map) map ≡ words (listed (rulesAt edition kind true) (bitsHeld kind)) map
+  pub number : fieldsNumber (rulesRead edition kind map) map s ≡ fieldsNumber (listed (rulesAt edition kind true) (bitsHeld kind)) map s
 
-pub by-bits : (kind map : ℕ) (s : List ℕ) → kind ≤ lastKind → ByBits kind map s
-by-bits kind map s h =
-    let w = with-bits (settle true (entriesOf kind)) map s in
-    let r = rules-by-bit kind h true in
-    let q = same-road _ (entriesOf kind) map s (tested-rules kind true h .entries-right) refl in
+pub by-bits : (edition kind map : ℕ) (s : List ℕ) → kind ≤ lastKind → ByBits edition kind map s
+by-bits edition kind map s h =
+    let w = with-bits (settle true (entriesOf edition kind)) map s in
+    let r = rules-by-bit edition kind h true in
+    let q = same-road _ (entriesOf edition kind) map s (tested-rules edition kind true h .entries-right) refl in
     record { lack = q .lack ∙ (rw r at (w .lack)); count = q .count ∙ (rw r at (w .count)); number = q .number ∙ (rw r at (w .number)) }
 
-pub fields-by-bits : (kind map : ℕ) (s : List ℕ) → kind ≤ lastKind
-    → BitsTell (bitsHeld kind) (rulesAt kind true) map s (fieldsNumber (rulesRead kind map) map s)
-fields-by-bits kind map s h = rw (by-bits kind map s h .number) (bits-tell (bitsHeld kind) (rulesAt kind true) map s (each-has-bit kind true))
+pub fields-by-bits : (edition kind map : ℕ) (s : List ℕ) → kind ≤ lastKind
+    → BitsTell (bitsHeld kind) (rulesAt edition kind true) map s (fieldsNumber (rulesRead edition kind map) map s)
+fields-by-bits edition kind map s h =
+    rw (by-bits edition kind map s h .number) (bits-tell (bitsHeld kind) (rulesAt edition kind true) map s (each-has-bit edition kind true))
 
-pub lacked-bits : (kind : ℕ) → kind ≤ lastKind → lackedFrom (rowsOf kind) 0 mapBits ≡ lackedBits kind
+pub lacked-bits : (edition kind : ℕ) → kind ≤ lastKind → lackedFrom (rowsOf edition kind) 0 mapBits ≡ lackedBits edition kind
 unfolding fieldAt lackedFrom
-lacked-bits = by-kind (λ kind. lackedFrom (rowsOf kind) 0 mapBits ≡ lackedBits kind) refl refl refl refl
+lacked-bits = by-rules (λ sight kind. lackedFrom (rowsBy sight kind) 0 mapBits ≡ lackedOf sight kind) (λ sight. refl) refl refl refl refl (λ sight. refl)
 
 -- a field's rule on a curve: the kind does not lack it, it takes the numbers in its range, and its default is what its absence says
 record RuleTells (low high : ℕ) (absence : Absence) : Type 0 where
@@ -181,30 +190,31 @@ lacking-at : (x : Field) → lacking (ruleAt true x) ≡ true → x ≡ lacked
 lacking-at lacked e = refl
 lacking-at (field value low high absence) e = not-both _ e (rule-tells low high absence .has)
 
-module _ (kind map : ℕ) (known : kind ≤ lastKind) where
-  past-lacked : (b : ℕ) → Past (bitsHeld kind) (rulesAt kind true) b → fieldAt (rowsOf kind) b ≡ lacked
-  past-lacked b (inl e) = lacking-at (fieldAt (rowsOf kind) b) e
-  past-lacked b (inr h) = lacked-past kind b h
+module _ (edition kind map : ℕ) (known : kind ≤ lastKind) where
+  past-lacked : (b : ℕ) → Past (bitsHeld kind) (rulesAt edition kind true) b → fieldAt (rowsOf edition kind) b ≡ lacked
+  past-lacked b (inl e) = lacking-at (fieldAt (rowsOf edition kind) b) e
+  past-lacked b (inr h) = lacked-past edition kind b h
 
-  pub lacks-exactly : (lacks (rulesRead kind map) map ≡ true) ↔ StandingBit map (λ b. fieldAt (rowsOf kind) b ≡ lacked)
+  pub lacks-exactly : (lacks (rulesRead edition kind map) map ≡ true) ↔ StandingBit map (λ b. fieldAt (rowsOf edition kind) b ≡ lacked)
   lacks-exactly = (
     λ e.
-        let r = lacked-found (bitsHeld kind) (rulesAt kind true) map (each-has-bit kind true) (sym (by-bits kind map [] known .lack) ∙ e) in
+        let r =
+        lacked-found (bitsHeld kind) (rulesAt edition kind true) map (each-has-bit edition kind true) (sym (by-bits edition kind map [] known .lack) ∙ e) in
         record { at = r .at; stands = r .stands; holds = past-lacked (r .at) (r .holds) },
     λ r.
-        by-bits kind map [] known .lack
-        ∙ lacked-told (bitsHeld kind) (rulesAt kind true) map (r .at) (each-has-bit kind true) (r .stands) (inl (rw (r .holds))),
+        by-bits edition kind map [] known .lack
+        ∙ lacked-told (bitsHeld kind) (rulesAt edition kind true) map (r .at) (each-has-bit edition kind true) (r .stands) (inl (rw (r .holds))),
   )
 
 -- where no such bit stands, the record has a two-byte number for each bit of the map that stands
-module _ (kind map : ℕ) (known : kind ≤ lastKind) (none : (b : ℕ) → bitAt b map ≡ true → fieldAt (rowsOf kind) b ≡ lacked → ⊥) where
+module _ (edition kind map : ℕ) (known : kind ≤ lastKind) (none : (b : ℕ) → bitAt b map ≡ true → fieldAt (rowsOf edition kind) b ≡ lacked → ⊥) where
   unset-past : (b : ℕ) → bitsHeld kind ≤ b → bitAt b map ≡ false
-  unset-past b h = never-so (bitAt b map) (λ t. none b t (lacked-past kind b h))
+  unset-past b h = never-so (bitAt b map) (λ t. none b t (lacked-past edition kind b h))
 
-  pub words-standing : words (rulesRead kind map) map ≡ standing mapBits map
+  pub words-standing : words (rulesRead edition kind map) map ≡ standing mapBits map
   words-standing =
-      by-bits kind map [] known .count
-      ∙ words-listed (bitsHeld kind) (rulesAt kind true) map (each-has-bit kind true)
+      by-bits edition kind map [] known .count
+      ∙ words-listed (bitsHeld kind) (rulesAt edition kind true) map (each-has-bit edition kind true)
       ∙ sym (standing-past (bitsHeld kind) mapBits map (few-bits kind) unset-past)
 
 -- a slot of another kind holds no number
@@ -232,9 +242,11 @@ others-absent curve (Always (Optional low high) ∷ entries) map s e = others-ab
 others-absent curve (Always (Default low high d) ∷ entries) map s e = others-absent curve entries _ _ e
 others-absent curve (OnCurve rule ∷ entries) map s e = others-absent curve entries _ _ (or-right (lackedBitStands (settled curve (OnCurve rule)) map) _ e)
 
-others-are : (kind : ℕ) → kind ≤ lastKind → (site : Site) → othersOf kind site ≡ otherSlots (entriesOf kind) (slotsOf site)
+others-are : (edition kind : ℕ) → kind ≤ lastKind → (site : Site) → othersOf edition kind site ≡ otherSlots (entriesOf edition kind) (slotsOf site)
 unfolding entriesOf otherSlots
-others-are kind h site = by-kind (λ kind. othersOf kind site ≡ otherSlots (entriesOf kind) (slotsOf site)) refl refl refl refl kind h
+others-are edition kind h site =
+    by-rules (λ sight kind. othersBy sight kind site ≡ otherSlots (entriesBy sight kind) (slotsOf site)) (λ sight. refl) refl refl refl refl (λ sight. refl)
+    edition kind h
 
 -- the refusal of a number at a field: 8, then 9, or 0
 abbrev pub wrongNumber : Field → ℕ → ℕ
@@ -253,39 +265,46 @@ absent-for low high (usual d) curve ne = refl
 absent-for low high (on-curve absence) true ne = absent-for low high absence true ne
 absent-for low high (on-curve absence) false ne = refl
 
-module _ (years : ℕ) (s : List ℕ) (a : Accepted years s) where
+module _ (edition years : ℕ) (s : List ℕ) (a : Accepted edition years s) where
   slot-at : (b : ℕ) → b < bitsHeld (kindIn s)
-      → getD (bitSlots (rulesIn s) (slotsOf (siteIn years s))) b Absent
-      ≡ cond (bitAt b (fieldMapIn s)) (Number (numberAt years b s)) (absentOf (rulesAt (kindIn s) (curved (entriesOf (kindIn s)) (fieldMapIn s)) b))
+      → getD (bitSlots (rulesIn edition s) (slotsOf (siteIn edition years s))) b Absent
+      ≡ cond (bitAt b (fieldMapIn s)) (Number (numberAt years b s)) (absentOf (rulesAt edition (kindIn s) (curved (entriesOf edition (kindIn s)) (fieldMapIn s)) b))
   slot-at b h =
-      let c = curved (entriesOf (kindIn s)) (fieldMapIn s) in
-      let w = with-bits (rulesIn s) (fieldMapIn s) (fieldsIn years s) in
-      ap (λ (l : List Slot). getD (bitSlots (rulesIn s) l) b Absent) (slots-again years s a)
-      ∙ ap (λ (l : List Slot). getD l b Absent) (w .values ∙ ap (λ (l : List Rule). fieldsValues l (fieldMapIn s) (fieldsIn years s)) (rules-by-bit (kindIn s) (a .passes .head .known) c))
-      ∙ value-at (bitsHeld (kindIn s)) (rulesAt (kindIn s) c) (fieldMapIn s) (fieldsIn years s) (each-has-bit (kindIn s) c) b h
-      ∙ ap (λ (k : ℕ). cond (bitAt b (fieldMapIn s)) (Number k) (absentOf (rulesAt (kindIn s) c b))) (number-of years s (passes-both years s (a .passes)) (between years s a) b)
+      let c = curved (entriesOf edition (kindIn s)) (fieldMapIn s) in
+      let w = with-bits (rulesIn edition s) (fieldMapIn s) (fieldsIn years s) in
+      ap (λ (l : List Slot). getD (bitSlots (rulesIn edition s) l) b Absent) (slots-again edition years s a)
+      ∙ ap (λ (l : List Slot). getD l b Absent) (w .values ∙ ap (λ (l : List Rule). fieldsValues l (fieldMapIn s) (fieldsIn years s)) (rules-by-bit edition (kindIn s) (a .passes .head .known) c))
+      ∙ value-at (bitsHeld (kindIn s)) (rulesAt edition (kindIn s) c) (fieldMapIn s) (fieldsIn years s) (each-has-bit edition (kindIn s) c) b h
+      ∙ ap (λ (k : ℕ). cond (bitAt b (fieldMapIn s)) (Number k) (absentOf (rulesAt edition (kindIn s) c b)))
+      (number-of years s (passes-both edition years s (a .passes)) (between edition years s a) b)
 
-  number-at : (b : ℕ) → b < bitsHeld (kindIn s) → bitAt b (fieldMapIn s) ≡ true → wrongNumber (fieldIn s b) (numberAt years b s) ≡ 0
+  number-at : (b : ℕ) → b < bitsHeld (kindIn s) → bitAt b (fieldMapIn s) ≡ true → wrongNumber (fieldIn edition s b) (numberAt years b s) ≡ 0
   number-at b h e =
-      let n = all-right (fields-by-bits (kindIn s) (fieldMapIn s) (fieldsIn years s) (a .passes .head .known)) (a .no-field-refused) b h in
-      sym (wrong-number (fieldIn s b) (numberAt years b s)) ∙ (rw (e, number-of years s (passes-both years s (a .passes)) (between years s a) b) at n)
+      let n = all-right (fields-by-bits edition (kindIn s) (fieldMapIn s) (fieldsIn years s) (a .passes .head .known)) (a .no-field-refused) b h in
+      sym (wrong-number (fieldIn edition s b) (numberAt years b s)) ∙
+      (rw (e, number-of years s (passes-both edition years s (a .passes)) (between edition years s a) b) at n)
 
   never-absent : (b : ℕ) → b < bitsHeld (kindIn s) → bitAt b (fieldMapIn s) ≡ false
-      → needed (rulesAt (kindIn s) (curved (entriesOf (kindIn s)) (fieldMapIn s)) b) ≡ true → ⊥
+      → needed (rulesAt edition (kindIn s) (curved (entriesOf edition (kindIn s)) (fieldMapIn s)) b) ≡ true → ⊥
   never-absent b h e k =
-      let c = curved (entriesOf (kindIn s)) (fieldMapIn s) in
-      let m = with-bits (rulesIn s) (fieldMapIn s) (fieldsIn years s) .miss ∙ ap (λ (l : List Rule). misses l (fieldMapIn s)) (rules-by-bit (kindIn s) (a .passes .head .known) c) in
-      not-both (bitAt b (fieldMapIn s)) (needed-stands (bitsHeld (kindIn s)) (rulesAt (kindIn s) c) (fieldMapIn s) (each-has-bit (kindIn s) c) (sym m ∙ no-miss years s a) b h k) e
+      let c = curved (entriesOf edition (kindIn s)) (fieldMapIn s) in
+      let m = with-bits (rulesIn edition s) (fieldMapIn s) (fieldsIn years s) .miss
+      ∙ ap (λ (l : List Rule). misses l (fieldMapIn s)) (rules-by-bit edition (kindIn s) (a .passes .head .known) c) in
+      not-both (bitAt b (fieldMapIn s))
+      (needed-stands (bitsHeld (kindIn s)) (rulesAt edition (kindIn s) c) (fieldMapIn s) (each-has-bit edition (kindIn s) c) (sym m ∙ no-miss edition years s a) b h k) e
 
-  lacked-unset : (b : ℕ) → fieldIn s b ≡ lacked → bitAt b (fieldMapIn s) ≡ false
+  lacked-unset : (b : ℕ) → fieldIn edition s b ≡ lacked → bitAt b (fieldMapIn s) ≡ false
   lacked-unset b e =
-      never-so (bitAt b (fieldMapIn s)) (λ t. not-both _ (lacks-exactly (kindIn s) (fieldMapIn s) (a .passes .head .known) .1 (record { at = b; stands = t; holds = e })) (a .passes .lack))
+      never-so (bitAt b (fieldMapIn s))
+      (λ t. not-both _ (lacks-exactly edition (kindIn s) (fieldMapIn s) (a .passes .head .known) .1 (record { at = b; stands = t; holds = e })) (a .passes .lack))
 
-  bit-read : (b : ℕ) (x : Field) → fieldIn s b ≡ x → NamedAt (bitSlots (rulesIn s) (slotsOf (siteIn years s))) (siteIn years s) b x → BitRead years s (siteIn years s) b x
+  bit-read : (b : ℕ) (x : Field) → fieldIn edition s b ≡ x
+      → NamedAt (bitSlots (rulesIn edition s) (slotsOf (siteIn edition years s))) (siteIn edition years s) b x
+      → BitRead years s (siteIn edition years s) b x
   bit-read b lacked e n = lacked-unset b e
   bit-read b (field value low high absence) e n =
-      let c = curved (entriesOf (kindIn s)) (fieldMapIn s) in
-      let h = among (kindIn s) b (λ l. let z : _≡_ {A = ℕ} 0 1 = cc in omega arith) in
+      let c = curved (entriesOf edition (kindIn s)) (fieldMapIn s) in
+      let h = among edition (kindIn s) b (λ l. let z : _≡_ {A = ℕ} 0 1 = cc in omega arith) in
       let is = n ∙ slot-at b h in
       let right : bitAt b (fieldMapIn s) ≡ true → (inside low high (numberAt years b s) ≡ true) × (isUsual absence (numberAt years b s) ≡ false) =
       λ t. value-taken _ _ (rw e at (number-at b h t)) in
@@ -295,10 +314,10 @@ module _ (years : ℕ) (s : List ℕ) (a : Accepted years s) where
         at-most = λ t. leb-true (numberAt years b s) high (and-right (leb low (numberAt years b s)) _ (right t .0));
         not-spelled = λ t. right t .1;
         absent-as = λ t.
-            let q : value (siteIn years s) ≡ absentOf (ruleFor low high absence c) = rw (t, e) at is in
+            let q : value (siteIn edition years s) ≡ absentOf (ruleFor low high absence c) = rw (t, e) at is in
             let ne : needed (ruleFor low high absence c) ≡ true → ⊥ = rw e at (never-absent b h t) in
             let w = absent-for low high absence c ne in
-            rw (← curved-by-six (kindIn s) (fieldMapIn s) (a .passes .head .known) (no-miss years s a), q) w;
+            rw (← curved-by-six edition (kindIn s) (fieldMapIn s) (a .passes .head .known) (no-miss edition years s a), q) w;
       }
 
   -- the later values of a traffic
@@ -313,38 +332,47 @@ module _ (years : ℕ) (s : List ℕ) (a : Accepted years s) where
         not-given = λ i h. later-absent laterYears later values i h;
       }
 
-  fields-in : FieldsRead years s (siteIn years s) (lengthIn years s)
+  fields-in : FieldsRead edition years s (siteIn edition years s) (lengthIn edition years s)
   fields-in =
-      let c = curved (entriesOf (kindIn s)) (fieldMapIn s) in
-      let none : (b : ℕ) → bitAt b (fieldMapIn s) ≡ true → fieldIn s b ≡ lacked → ⊥ = λ b t e. not-both _ t (lacked-unset b e) in
-      let both = passes-both years s (a .passes) in
+      let c = curved (entriesOf edition (kindIn s)) (fieldMapIn s) in
+      let none : (b : ℕ) → bitAt b (fieldMapIn s) ≡ true → fieldIn edition s b ≡ lacked → ⊥ = λ b t e. not-both _ t (lacked-unset b e) in
+      let both = passes-both edition years s (a .passes) in
       let most = later-most years s (a .passes .head .years-in) in
       record {
         kind-is = refl;
-        bits = λ b. bit-read b (fieldIn s b) refl (named-at (rowsOf (kindIn s)) _ (siteIn years s) (named (kindIn s) (a .passes .head .known) c (siteIn years s)) b);
-        others = rw (others-are (kindIn s) (a .passes .head .known) (siteIn years s), slots-again years s a) (others-absent c (entriesOf (kindIn s)) (fieldMapIn s) (fieldsIn years s) (a .passes .lack));
-        yearly-is = yearly-again years s a ∙ sym (yearly-told s);
-        later-traffic = rw (later-told years s, later-slots-again years s a) (later-years 0 (laterIn years s) (laterAt s) (most .0) (and-left (laterAllowed (laterIn years s) (laterAt s)) _ (a .later-in)) (later-of years s));
-        later-minor = rw (minor-told years s, minor-slots-again years s a) (later-years 1 (laterMinorIn years s) (laterMinorAt years s) (most .1) (and-right (laterAllowed (laterIn years s) (laterAt s)) _ (a .later-in)) (minor-of years s both));
-        length-is = end-of years s both (words-standing (kindIn s) (fieldMapIn s) (a .passes .head .known) none);
+        bits = λ b. bit-read b (fieldIn edition s b) refl
+            (named-at (rowsOf edition (kindIn s)) _ (siteIn edition years s) (named edition (kindIn s) (a .passes .head .known) c (siteIn edition years s)) b);
+        others =
+            rw (others-are edition (kindIn s) (a .passes .head .known) (siteIn edition years s), slots-again edition years s a)
+            (others-absent c (entriesOf edition (kindIn s)) (fieldMapIn s) (fieldsIn years s) (a .passes .lack));
+        yearly-is = yearly-again edition years s a ∙ sym (yearly-told s);
+        later-traffic =
+            rw (later-told years s, later-slots-again edition years s a)
+            (later-years 0 (laterIn years s) (laterAt s) (most .0) (and-left (laterAllowed (laterIn years s) (laterAt s)) _ (a .later-in)) (later-of years s));
+        later-minor =
+            rw (minor-told years s, minor-slots-again edition years s a)
+            (later-years 1 (laterMinorIn years s) (laterMinorAt years s) (most .1) (and-right (laterAllowed (laterIn years s) (laterAt s)) _ (a .later-in)) (minor-of years s both));
+        length-is = end-of edition years s both (words-standing edition (kindIn s) (fieldMapIn s) (a .passes .head .known) none);
       }
 
 -- A RECORD THAT IS READ HAS THE FIELDS OF DOCUMENT 01, bit by bit
-pub fields-read : (years : ℕ) (s : List ℕ) (site : Site) (n : ℕ) → readSite years s ≡ Read site n → FieldsRead years s site n
-fields-read years s site n e = let r = reading years s site n e in rw (← r .site-is, ← r .length-is) (fields-in years s (r .accepts))
+pub fields-read : (edition years : ℕ) (s : List ℕ) (site : Site) (n : ℕ) → readSite edition years s ≡ Read site n → FieldsRead edition years s site n
+fields-read edition years s site n e =
+    let r = reading edition years s site n e in rw (← r .site-is, ← r .length-is) (fields-in edition years s (r .accepts))
 
 -- "Without bit 2 there is no history; a standing 0 is a history of none", of every kind
-pub history-read : (years : ℕ) (s : List ℕ) (site : Site) (n : ℕ) → readSite years s ≡ Read site n
+pub history-read : (edition years : ℕ) (s : List ℕ) (site : Site) (n : ℕ) → readSite edition years s ≡ Read site n
     → site .observed ≡ cond (bitAt 2 (fieldMapIn s)) (Number (numberAt years 2 s)) Absent
 unfolding fieldAt
-history-read years s site n e = by (kindIn s) (fields-read years s site n e .bits 2)
+history-read edition years s site n e = by (kindIn s) (fields-read edition years s site n e .bits 2)
   where
     told : FieldRead years s site 2 (λ x. x .observed) 0 500 no-number → (b : Bool) → bitAt 2 (fieldMapIn s) ≡ b
         → site .observed ≡ cond b (Number (numberAt years 2 s)) Absent
     told r true t = r .standing-is t
     told r false t = r .absent-as t
 
-    by : (kind : ℕ) → BitRead years s site 2 (fieldAt (rowsOf kind) 2) → site .observed ≡ cond (bitAt 2 (fieldMapIn s)) (Number (numberAt years 2 s)) Absent
+    by : (kind : ℕ) → BitRead years s site 2 (fieldAt (rowsOf edition kind) 2)
+        → site .observed ≡ cond (bitAt 2 (fieldMapIn s)) (Number (numberAt years 2 s)) Absent
     by zero r = told r _ refl
     by (suc zero) r = told r _ refl
     by (suc (suc zero)) r = told r _ refl

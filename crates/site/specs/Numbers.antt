@@ -1,7 +1,7 @@
 -- A site's numbers by its kind, as the model takes them, and their ranges where the site is valid.
 use Prim.Native.Nat.{ℕ, zero, suc, _≤_, _<_}
 use mathlib.Core.Path.{_≡_, refl, sym, ap}
-use mathlib.Core.Bool.{true, not}
+use mathlib.Core.Bool.{Bool, true, false, not}
 use mathlib.Core.List.{[]}
 use mathlib.Core.Logic.{_⊎_, inl, inr}
 use native.Mathlib.Nat.{le-trans, le-of-eq}
@@ -15,7 +15,7 @@ use Rattle.site.specs.declared.values.Slot.the-variants.{Absent, Number}
 use Rattle.site.specs.declared.numbers.Segment.{Segment}
 use Rattle.site.specs.declared.numbers.Crossing.{Crossing}
 use Rattle.site.specs.Rules as rules
-use Rattle.site.specs.Rules.{absent}
+use Rattle.site.specs.Rules.{hasSight, absent}
 use Rattle.site.specs.Yearly.{yearly}
 use Rattle.site.specs.Writing.{Valid}
 use Rattle.site.specs.Tested.{by-kind, top}
@@ -132,7 +132,7 @@ pub record CrossingSizes (v : Crossing) : Type 0 where
 traffic-sizes : (slot : Slot) → Obeys rules.traffic slot → TrafficSizes (number slot)
 traffic-sizes slot h = record { least = obeys-least rules.traffic slot h; most = obeys-most rules.traffic slot h }
 
-module _ (years : ℕ) (site : Site) (valid : Valid years site) where
+module _ (edition years : ℕ) (site : Site) (valid : Valid edition years site) where
   -- a road that has a curve length is no straight one
   bend-of : (traffic : ℕ) → StraightRoad site ⊎ CurvedRoad site → not (absent (site .«curve_length»)) ≡ true → CurveSizes (segmentOf traffic site)
   bend-of traffic (inl s) e = let straight = s .«curve_length» in let z : _≡_ {A = ℕ} 0 1 = cc in absurd (omega arith)
@@ -146,7 +146,7 @@ module _ (years : ℕ) (site : Site) (valid : Valid years site) where
   }
 
   pub segment-sizes : site .kind ≡ 0 → (traffic : ℕ) → TrafficSizes traffic → SegmentSizes (segmentOf traffic site)
-  segment-sizes e traffic sizes = let r = segment-ranges years site valid e in record {
+  segment-sizes e traffic sizes = let r = segment-ranges edition years site valid e in record {
     traffic = sizes;
     length-least = obeys-least rules.segmentLength (site .length) (r .length);
     length-most = obeys-most rules.segmentLength (site .length) (r .length);
@@ -176,13 +176,17 @@ record CrossingRules (site : Site) : Type 0 where
   right-most : top right ≤ 2
   sight-most : top sight ≤ 4
 
-crossing-rules : (years : ℕ) (site : Site) → Valid years site → 1 ≤ site .kind → CrossingRules site
-crossing-rules years site v from =
+sight-top : (most : ℕ) → most ≤ 4 → (sight : Bool) → top (rules.limitedSight sight most) ≤ 4
+sight-top most h true = h
+sight-top most h false = lit≤ tt
+
+crossing-rules : (edition years : ℕ) (site : Site) → Valid edition years site → 1 ≤ site .kind → CrossingRules site
+crossing-rules edition years site v from =
     by-crossing (λ kind. site .kind ≡ kind → CrossingRules site)
-    (λ e. of _ _ _ _ (three-leg-ranges years site v e) (lit≤ tt) (lit≤ tt) (lit≤ tt) (lit≤ tt))
-    (λ e. of _ _ _ _ (four-leg-ranges years site v e) (lit≤ tt) (lit≤ tt) (lit≤ tt) (lit≤ tt))
-    (λ e. of _ _ _ _ (signal-ranges years site v e) (lit≤ tt) (lit≤ tt) (lit≤ tt) (lit≤ tt))
-    (site .kind) from (valid-kind years site v) refl
+    (λ e. of _ _ _ _ (three-leg-ranges edition years site v e) (lit≤ tt) (lit≤ tt) (lit≤ tt) (sight-top 2 (lit≤ tt) (hasSight edition)))
+    (λ e. of _ _ _ _ (four-leg-ranges edition years site v e) (lit≤ tt) (lit≤ tt) (lit≤ tt) (sight-top 4 (lit≤ tt) (hasSight edition)))
+    (λ e. of _ _ _ _ (signal-ranges edition years site v e) (lit≤ tt) (lit≤ tt) (lit≤ tt) (lit≤ tt))
+    (site .kind) from (valid-kind edition years site v) refl
   where
     of : (angle left right sight : Rule) → CrossingRanges angle left right sight site → top angle ≤ 60 → top left ≤ 2
         → top right ≤ 2 → top sight ≤ 4 → CrossingRules site
@@ -198,11 +202,11 @@ crossing-rules years site v from =
       sight-most = s;
     }
 
-module _ (years : ℕ) (site : Site) (valid : Valid years site) where
+module _ (edition years : ℕ) (site : Site) (valid : Valid edition years site) where
   pub crossing-sizes : 1 ≤ site .kind → (traffic minor : ℕ) → TrafficSizes traffic → TrafficSizes minor → CrossingSizes (crossingOf traffic minor site)
-  crossing-sizes from traffic minor sizes minor-sizes = let r = crossing-rules years site valid from in let c = r .obeyed in record {
+  crossing-sizes from traffic minor sizes minor-sizes = let r = crossing-rules edition years site valid from in let c = r .obeyed in record {
     kind-least = from;
-    kind-most = valid-kind years site valid;
+    kind-most = valid-kind edition years site valid;
     traffic = sizes;
     minor = minor-sizes;
     skew-most = le-trans (obeys-most (r .angle) (site .skew) (c .skew)) (r .angle-most);
@@ -212,7 +216,7 @@ module _ (years : ℕ) (site : Site) (valid : Valid years site) where
   }
 
   pub crossing-minor : 1 ≤ site .kind → TrafficSizes (number (site .«minor_traffic»))
-  crossing-minor from = traffic-sizes (site .«minor_traffic») (crossing-rules years site valid from .obeyed .«minor_traffic»)
+  crossing-minor from = traffic-sizes (site .«minor_traffic») (crossing-rules edition years site valid from .obeyed .«minor_traffic»)
 
   -- OF EVERY KIND
   by-ranges : {P : Type 0} → (site .kind ≡ 0 → P) → (1 ≤ site .kind → P) → P
@@ -224,17 +228,17 @@ module _ (years : ℕ) (site : Site) (valid : Valid years site) where
 
   pub site-traffic : TrafficSizes (number (site .traffic))
   site-traffic =
-      by-ranges (λ e. traffic-sizes (site .traffic) (segment-ranges years site valid e .traffic))
-      (λ from. traffic-sizes (site .traffic) (crossing-rules years site valid from .obeyed .traffic))
+      by-ranges (λ e. traffic-sizes (site .traffic) (segment-ranges edition years site valid e .traffic))
+      (λ from. traffic-sizes (site .traffic) (crossing-rules edition years site valid from .obeyed .traffic))
 
   pub observed-most : number (site .observed) ≤ 500
   observed-most =
-      by-ranges (λ e. obeys-most rules.observed (site .observed) (segment-ranges years site valid e .observed))
-      (λ from. obeys-most rules.observed (site .observed) (crossing-rules years site valid from .obeyed .observed))
+      by-ranges (λ e. obeys-most rules.observed (site .observed) (segment-ranges edition years site valid e .observed))
+      (λ from. obeys-most rules.observed (site .observed) (crossing-rules edition years site valid from .obeyed .observed))
 
   -- THE TRAFFIC OF A LATER YEAR of a site that has one for each year
   pub later-traffic-sizes : yearly site ≡ true → (i : ℕ) → suc i < years → TrafficSizes (number (laterTraffic site i))
-  later-traffic-sizes e i h = traffic-sizes (laterTraffic site i) (valid-later years site valid i .traffic-given e h)
+  later-traffic-sizes e i h = traffic-sizes (laterTraffic site i) (valid-later edition years site valid i .traffic-given e h)
 
   pub later-minor-sizes : yearly site ≡ true → 1 ≤ site .kind → (i : ℕ) → suc i < years → TrafficSizes (number (laterMinorTraffic site i))
-  later-minor-sizes e from i h = traffic-sizes (laterMinorTraffic site i) (valid-later years site valid i .minor-given e from h)
+  later-minor-sizes e from i h = traffic-sizes (laterMinorTraffic site i) (valid-later edition years site valid i .minor-given e from h)

@@ -30,10 +30,10 @@ matched-both zero map e =
 matched-both (suc kind) map e =
     record { zeroth = eqb-true (map % 2) 1 (and-left (bitAt 0 map) _ e); first = eqb-true (map / 2 % 2) 1 (and-right (bitAt 0 map) _ e) }
 
-pub passes-both : (years : ℕ) (s : List ℕ) → MapPasses years s → BothStand (fieldMapIn s)
-passes-both years s p =
-    let m = or-left (misses (rulesIn s) (fieldMapIn s)) _ (p .miss) in
-    matched-both (kindIn s) (fieldMapIn s) (not-false (mapMatched (kindIn s) (fieldMapIn s)) (sym (misses-by-bits (kindIn s) (fieldMapIn s) (p .head .known)) ∙ m))
+pub passes-both : (edition years : ℕ) (s : List ℕ) → MapPasses edition years s → BothStand (fieldMapIn s)
+passes-both edition years s p =
+    let m = or-left (misses (rulesIn edition s) (fieldMapIn s)) _ (p .miss) in
+    matched-both (kindIn s) (fieldMapIn s) (not-false (mapMatched (kindIn s) (fieldMapIn s)) (sym (misses-by-bits edition (kindIn s) (fieldMapIn s) (p .head .known)) ∙ m))
 
 -- one number each: the bits that stand
 below-ones : (b map : ℕ) → numbersBelow (λ c. 1) b map ≡ standing b map
@@ -97,6 +97,7 @@ minor-of years s both i =
     ap word (drop-drop (2 * i) (7 + 2 * laterIn years s) s ∙ ap (λ (k : ℕ). drop k s) (sym e))
 
 -- where the fields end
-pub end-of : (years : ℕ) (s : List ℕ) → BothStand (fieldMapIn s) → words (rulesIn s) (fieldMapIn s) ≡ standing mapBits (fieldMapIn s) → lengthIn years s ≡ fieldsEnd years s
-end-of years s both e =
+pub end-of : (edition years : ℕ) (s : List ℕ) → BothStand (fieldMapIn s) → words (rulesIn edition s) (fieldMapIn s) ≡ standing mapBits (fieldMapIn s)
+    → lengthIn edition years s ≡ fieldsEnd years s
+end-of edition years s both e =
     omega (arith, below-more (kindIn s) (laterTold years s) (fieldMapIn s) both 13, later-told years s, minor-told years s)

@@ -19,41 +19,42 @@ use Rattle.site.specs.RecordCauses.{RecordCause, refused-by-cause}
 use Rattle.site.specs.Theorems.{RecordLength, read-length}
 
 -- the site reader: its answer, document 01's number for it, what is so of a site that it reads, and why it refuses
-pub record ReadsSite (years : ℕ) (part : List ℕ) (answer : SiteAnswer) : Type 0 where
-  pub answer-is : answer ≡ readSite years part
-  pub number-is : readNumber answer ≡ refusalOf years part
+pub record ReadsSite (edition years : ℕ) (part : List ℕ) (answer : SiteAnswer) : Type 0 where
+  pub answer-is : answer ≡ readSite edition years part
+  pub number-is : readNumber answer ≡ refusalOf edition years part
   pub place-is : readPlace answer ≡ 0
-  pub valid : (site : Site) (n : ℕ) → answer ≡ Read site n → Valid years site
+  pub valid : (site : Site) (n : ℕ) → answer ≡ Read site n → Valid edition years site
   pub bounds : (site : Site) (n : ℕ) → answer ≡ Read site n → RecordLength part n
-  pub fields : (site : Site) (n : ℕ) → answer ≡ Read site n → FieldsRead years part site n
-  pub cause : (number : ℕ) → answer ≡ Refused number → RecordCause years part number
+  pub fields : (site : Site) (n : ℕ) → answer ≡ Read site n → FieldsRead edition years part site n
+  pub cause : (number : ℕ) → answer ≡ Refused number → RecordCause edition years part number
 
-pub reads-site : (years : ℕ) (part : List ℕ) (answer : SiteAnswer) → answer ≡ readSite years part → ReadsSite years part answer
-reads-site years part answer e =
+pub reads-site : (edition years : ℕ) (part : List ℕ) (answer : SiteAnswer) → answer ≡ readSite edition years part → ReadsSite edition years part answer
+reads-site edition years part answer e =
     record {
       answer-is = e;
-      number-is = ap readNumber e ∙ number-read years part;
+      number-is = ap readNumber e ∙ number-read edition years part;
       place-is = refl;
-      valid = λ site n q. read-valid years part site n (sym e ∙ q);
-      bounds = λ site n q. read-length years part site n (sym e ∙ q);
-      fields = λ site n q. fields-read years part site n (sym e ∙ q);
-      cause = λ number q. refused-by-cause years part number .0 (sym e ∙ q);
+      valid = λ site n q. read-valid edition years part site n (sym e ∙ q);
+      bounds = λ site n q. read-length edition years part site n (sym e ∙ q);
+      fields = λ site n q. fields-read edition years part site n (sym e ∙ q);
+      cause = λ number q. refused-by-cause edition years part number .0 (sym e ∙ q);
     }
 
 -- the site writer: its answer, document 01's number for it, and the buffer afterwards, byte for byte
-pub record WritesSite (years : ℕ) (site : Site) (before afterwards : List ℕ) (answer : WriteAnswer) : Type 0 where
-  pub answer-is : answer ≡ writeAnswer years site (length before)
-  pub number-is : writeNumber answer ≡ writeRefusal years site (length before)
+pub record WritesSite (edition years : ℕ) (site : Site) (before afterwards : List ℕ) (answer : WriteAnswer) : Type 0 where
+  pub answer-is : answer ≡ writeAnswer edition years site (length before)
+  pub number-is : writeNumber answer ≡ writeRefusal edition years site (length before)
   pub place-is : writePlace answer ≡ 0
-  pub buffer-is : afterwards ≡ writeInto years site before
+  pub buffer-is : afterwards ≡ writeInto edition years site before
 
-pub number-written : (years : ℕ) (site : Site) (room : ℕ) → writeNumber (writeAnswer years site room) ≡ writeRefusal years site room
+pub number-written : (edition years : ℕ) (site : Site) (room : ℕ) → writeNumber (writeAnswer edition years site room) ≡ writeRefusal edition years site room
 unfolding writeAnswer
-number-written years site room =
-    number-of-answer writeNumber (writeRefusal years site room) (Written (length (recordOf site))) (Unwritten (writeRefusal years site room)) refl refl
+number-written edition years site room =
+    number-of-answer writeNumber (writeRefusal edition years site room) (Written (length (recordOf edition site)))
+    (Unwritten (writeRefusal edition years site room)) refl refl
 
-pub writes-site : (years : ℕ) (site : Site) (before afterwards : List ℕ) (answer : WriteAnswer)
-    → answer ≡ writeAnswer years site (length before) → afterwards ≡ writeInto years site before
-    → WritesSite years site before afterwards answer
-writes-site years site before afterwards answer e b =
-    record { answer-is = e; number-is = ap writeNumber e ∙ number-written years site (length before); place-is = refl; buffer-is = b }
+pub writes-site : (edition years : ℕ) (site : Site) (before afterwards : List ℕ) (answer : WriteAnswer)
+    → answer ≡ writeAnswer edition years site (length before) → afterwards ≡ writeInto edition years site before
+    → WritesSite edition years site before afterwards answer
+writes-site edition years site before afterwards answer e b =
+    record { answer-is = e; number-is = ap writeNumber e ∙ number-written edition years site (length before); place-is = refl; buffer-is = b }

@@ -15,7 +15,7 @@ use Rattle.site.specs.declared.values.Slot.{Slot}
 use Rattle.site.specs.declared.values.Slot.the-variants.{Absent, Number}
 use Rattle.site.specs.declared.values.Site.{Site}
 use Rattle.site.specs.Rules as rules
-use Rattle.site.specs.Rules.{entriesOf, lastKind, yearsKnown, segment, crossing, inside, settled, settle}
+use Rattle.site.specs.Rules.{hasSight, entriesOf, lastKind, editionKnown, yearsKnown, segment, crossing, inside, settled, settle}
 use Rattle.site.specs.Yearly.{laterSlots, yearly, laterGiven, laterMinor}
 use Rattle.site.specs.Writing.{slotsOf, curveHeld, rulesHeld, fits, allFit, laterFits, laterSound, soundSite, sound, Valid}
 use Rattle.laws.specs.Truth.{and-left, and-right, not-both, never-so}
@@ -108,23 +108,27 @@ pub record CrossingRanges (angle left right sight : Rule) (site : Site) : Type 0
   pub «limited_sight» : Obeys sight (site .«limited_sight»)
 
 -- what the tests of a site come to
-pub record Tests (years : ℕ) (site : Site) : Type 0 where
+pub record Tests (edition years : ℕ) (site : Site) : Type 0 where
+  pub edition-in : editionKnown edition ≡ true
   pub years-in : yearsKnown years ≡ true
   pub known : leb (site .kind) lastKind ≡ true
-  pub fit : allFit (rulesHeld (site .kind) (slotsOf site)) (slotsOf site) ≡ true
+  pub fit : allFit (rulesHeld edition (site .kind) (slotsOf site)) (slotsOf site) ≡ true
   pub later-traffic : laterFits (laterGiven years site) (laterSlots (site .«later_traffic»)) ≡ true
   pub later-minor : laterFits (laterMinor (site .kind) (laterGiven years site)) (laterSlots (site .«later_minor»)) ≡ true
 
-pub tests : (years : ℕ) (site : Site) → Valid years site → Tests years site
+pub tests : (edition years : ℕ) (site : Site) → Valid edition years site → Tests edition years site
 unfolding sound soundSite
-tests years site v =
-    let y = and-left (yearsKnown years) _ (v .is-sound) in
-    let s = and-right (yearsKnown years) _ (v .is-sound) in
+tests edition years site v =
+    let x = and-left (editionKnown edition) _ (v .is-sound) in
+    let s0 = and-right (editionKnown edition) _ (v .is-sound) in
+    let y = and-left (yearsKnown years) _ s0 in
+    let s = and-right (yearsKnown years) _ s0 in
     let k = and-left (leb (site .kind) lastKind) _ s in
     let s1 = and-right (leb (site .kind) lastKind) _ s in
-    let f = and-left (allFit (rulesHeld (site .kind) (slotsOf site)) (slotsOf site)) _ s1 in
-    let both = and-right (allFit (rulesHeld (site .kind) (slotsOf site)) (slotsOf site)) _ s1 in
+    let f = and-left (allFit (rulesHeld edition (site .kind) (slotsOf site)) (slotsOf site)) _ s1 in
+    let both = and-right (allFit (rulesHeld edition (site .kind) (slotsOf site)) (slotsOf site)) _ s1 in
     record {
+      edition-in = x;
       years-in = y;
       known = k;
       fit = f;
@@ -132,17 +136,17 @@ tests years site v =
       later-minor = and-right (laterFits (laterGiven years site) (laterSlots (site .«later_traffic»))) _ both;
     }
 
-pub sound-by : (years : ℕ) (site : Site) → Tests years site → Valid years site
+pub sound-by : (edition years : ℕ) (site : Site) → Tests edition years site → Valid edition years site
 unfolding sound soundSite
-sound-by years site t =
-    record { is-sound = rw (t .years-in, t .known, t .fit, t .later-traffic, t .later-minor) }
+sound-by edition years site t =
+    record { is-sound = rw (t .edition-in, t .years-in, t .known, t .fit, t .later-traffic, t .later-minor) }
 
-pub valid-fits : (years : ℕ) (site : Site) → Valid years site → (kind : ℕ) → site .kind ≡ kind
-    → allFit (rulesHeld kind (slotsOf site)) (slotsOf site) ≡ true
-valid-fits years site v kind e = rw e at (tests years site v .fit)
+pub valid-fits : (edition years : ℕ) (site : Site) → Valid edition years site → (kind : ℕ) → site .kind ≡ kind
+    → allFit (rulesHeld edition kind (slotsOf site)) (slotsOf site) ≡ true
+valid-fits edition years site v kind e = rw e at (tests edition years site v .fit)
 
-pub valid-kind : (years : ℕ) (site : Site) → Valid years site → site .kind ≤ lastKind
-valid-kind years site v = leb-true (site .kind) lastKind (tests years site v .known)
+pub valid-kind : (edition years : ℕ) (site : Site) → Valid edition years site → site .kind ≤ lastKind
+valid-kind edition years site v = leb-true (site .kind) lastKind (tests edition years site v .known)
 
 road-by : (site : Site) (c : Bool)
     → Obeys (settled c (OnCurve rules.curveLength)) (site .«curve_length») → Obeys (settled c (OnCurve rules.radius)) (site .radius)
@@ -172,9 +176,9 @@ segment-by site c e =
       «hazard_rating» = r11 .1 .1 .1 .1 .0;
     }
 
-pub segment-ranges : (years : ℕ) (site : Site) → Valid years site → site .kind ≡ 0 → SegmentRanges site
+pub segment-ranges : (edition years : ℕ) (site : Site) → Valid edition years site → site .kind ≡ 0 → SegmentRanges site
 unfolding entriesOf
-segment-ranges years site v e = segment-by site (curveHeld segment (slotsOf site)) (valid-fits years site v 0 e)
+segment-ranges edition years site v e = segment-by site (curveHeld segment (slotsOf site)) (valid-fits edition years site v 0 e)
 
 crossing-by : (site : Site) (angle left right sight : Rule) (c : Bool)
     → allFit (settle c (crossing angle left right sight)) (slotsOf site) ≡ true
@@ -196,25 +200,27 @@ crossing-by site angle left right sight c e =
     }
 
 -- kind 1, 3ST
-pub three-leg-ranges : (years : ℕ) (site : Site) → Valid years site → site .kind ≡ 1
-    → CrossingRanges rules.skew (rules.turnLanes 1) (rules.turnLanes 1) (rules.limitedSight 2) site
+pub three-leg-ranges : (edition years : ℕ) (site : Site) → Valid edition years site → site .kind ≡ 1
+    → CrossingRanges rules.skew (rules.turnLanes 1) (rules.turnLanes 1) (rules.limitedSight (hasSight edition) 2) site
 unfolding entriesOf
-three-leg-ranges years site v e =
-    crossing-by site rules.skew (rules.turnLanes 1) (rules.turnLanes 1) (rules.limitedSight 2) (curveHeld (entriesOf 1) (slotsOf site)) (valid-fits years site v 1 e)
+three-leg-ranges edition years site v e =
+    crossing-by site rules.skew (rules.turnLanes 1) (rules.turnLanes 1) (rules.limitedSight (hasSight edition) 2)
+    (curveHeld (entriesOf edition 1) (slotsOf site)) (valid-fits edition years site v 1 e)
 
 -- kind 2, 4ST
-pub four-leg-ranges : (years : ℕ) (site : Site) → Valid years site → site .kind ≡ 2
-    → CrossingRanges rules.skew (rules.turnLanes 2) (rules.turnLanes 2) (rules.limitedSight 4) site
+pub four-leg-ranges : (edition years : ℕ) (site : Site) → Valid edition years site → site .kind ≡ 2
+    → CrossingRanges rules.skew (rules.turnLanes 2) (rules.turnLanes 2) (rules.limitedSight (hasSight edition) 4) site
 unfolding entriesOf
-four-leg-ranges years site v e =
-    crossing-by site rules.skew (rules.turnLanes 2) (rules.turnLanes 2) (rules.limitedSight 4) (curveHeld (entriesOf 2) (slotsOf site)) (valid-fits years site v 2 e)
+four-leg-ranges edition years site v e =
+    crossing-by site rules.skew (rules.turnLanes 2) (rules.turnLanes 2) (rules.limitedSight (hasSight edition) 4)
+    (curveHeld (entriesOf edition 2) (slotsOf site)) (valid-fits edition years site v 2 e)
 
 -- kind 3, 4SG
-pub signal-ranges : (years : ℕ) (site : Site) → Valid years site → site .kind ≡ 3
+pub signal-ranges : (edition years : ℕ) (site : Site) → Valid edition years site → site .kind ≡ 3
     → CrossingRanges Lacking (rules.turnLanes 2) (rules.turnLanes 2) Lacking site
 unfolding entriesOf
-signal-ranges years site v e =
-    crossing-by site Lacking (rules.turnLanes 2) (rules.turnLanes 2) Lacking (curveHeld (entriesOf 3) (slotsOf site)) (valid-fits years site v 3 e)
+signal-ranges edition years site v e =
+    crossing-by site Lacking (rules.turnLanes 2) (rules.turnLanes 2) Lacking (curveHeld (entriesOf edition 3) (slotsOf site)) (valid-fits edition years site v 3 e)
 
 -- THE LATER YEARS of a traffic: so many hold a number in its range, and the years after them none
 pub record YearsHeld (later : ℕ) (slots : List Slot) : Type 0 where
@@ -321,8 +327,8 @@ module _ (years : ℕ) (site : Site) where
   pub later-sound-exactly : (laterSound years site ≡ true) ↔ ((i : ℕ) → YearHeld years site i)
   later-sound-exactly = (held-by, sound-held)
 
-  pub valid-later : Valid years site → (i : ℕ) → YearHeld years site i
-  valid-later v = let t = tests years site v in held-by (rw (t .later-traffic, t .later-minor))
+pub valid-later : (edition years : ℕ) (site : Site) → Valid edition years site → (i : ℕ) → YearHeld years site i
+valid-later edition years site v = let t = tests edition years site v in held-by years site (rw (t .later-traffic, t .later-minor))
 
 -- THE SITES THAT IT REFUSES: a year is missing, or holds a number past the last year ("with Y = 1": every later year is), beside a
 -- second year that holds none, or outside the range; and so of the minor traffic, which at a segment holds none
@@ -430,6 +436,7 @@ module _ (years : ℕ) (site : Site) where
   pub later-wrong-exactly : (laterSound years site ≡ false) ↔ WrongLater years site
   later-wrong-exactly = (some-wrong, λ w. never-so (laterSound years site) (λ e. never-held w (held-by years site e)))
 
-  -- so each of them is refused
-  pub wrong-later : WrongLater years site → sound years site ≡ false
-  wrong-later w = never-so (sound years site) (λ e. never-held w (valid-later years site (record { is-sound = e })))
+-- so each of them is refused, in every edition
+pub wrong-later : (edition years : ℕ) (site : Site) → WrongLater years site → sound edition years site ≡ false
+wrong-later edition years site w =
+    never-so (sound edition years site) (λ e. never-held years site w (valid-later edition years site (record { is-sound = e })))

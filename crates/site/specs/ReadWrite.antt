@@ -133,14 +133,14 @@ straight-read (OnCurve rule ∷ entries) map s r e =
     rw (or-left (eqb (map % 2) 1) (curved entries (map / 2)) e′)
     (straight-read entries (map / 2) (drop (2 * (map % 2)) s) (and-right (entryRight (OnCurve rule)) _ r) (or-right (eqb (map % 2) 1) _ e′))
 
-same-curve : (kind map : ℕ) (s : List ℕ) → kind ≤ lastKind
-    → curveHeld (entriesOf kind) (fieldsValues (rulesRead kind map) map s) ≡ curved (entriesOf kind) map
-same-curve kind map s hk = by (curved (entriesOf kind) map) refl
+same-curve : (edition kind map : ℕ) (s : List ℕ) → kind ≤ lastKind
+    → curveHeld (entriesOf edition kind) (fieldsValues (rulesRead edition kind map) map s) ≡ curved (entriesOf edition kind) map
+same-curve edition kind map s hk = by (curved (entriesOf edition kind) map) refl
   where
-    by : (c : Bool) → curved (entriesOf kind) map ≡ c
-        → curveHeld (entriesOf kind) (fieldsValues (settle c (entriesOf kind)) map s) ≡ c
-    by true e = curve-read (entriesOf kind) map s e
-    by false e = straight-read (entriesOf kind) map s (tested-rules kind false hk .entries-right) e
+    by : (c : Bool) → curved (entriesOf edition kind) map ≡ c
+        → curveHeld (entriesOf edition kind) (fieldsValues (settle c (entriesOf edition kind)) map s) ≡ c
+    by true e = curve-read (entriesOf edition kind) map s e
+    by false e = straight-read (entriesOf edition kind) map s (tested-rules edition kind false hk .entries-right) e
 
 -- the slots of a site are those that it was made of
 pub slots-of-site : (kind : ℕ) (slots : List Slot) (traffic minor : Later) → length slots ≡ slotCount → slotsOf (siteOf kind slots traffic minor) ≡ slots
@@ -152,7 +152,7 @@ header [] bytes h = let z : ⊥ = omega arith in absurd z
 header (k ∷ s) bytes h = ap (λ (l : List ℕ). k ∷ l) (bytes-of-word s (λ i. bytes (suc i)) (omega arith))
 
 -- what an accepted record's site says to the writer
-module _ (years : ℕ) (s : List ℕ) (a : Accepted years s) where
+module _ (edition years : ℕ) (s : List ℕ) (a : Accepted edition years s) where
   abbrev later : ℕ
   later = laterIn years s
 
@@ -160,25 +160,26 @@ module _ (years : ℕ) (s : List ℕ) (a : Accepted years s) where
   minor = laterMinorIn years s
 
   abbrev rules : List Rule
-  rules = rulesIn s
+  rules = rulesIn edition s
 
   abbrev pub valuesRead : List Slot
-  valuesRead = fieldsValues (rulesIn s) (fieldMapIn s) (fieldsIn years s)
+  valuesRead = fieldsValues (rulesIn edition s) (fieldMapIn s) (fieldsIn years s)
 
-  pub no-miss : misses (rulesIn s) (fieldMapIn s) ≡ false
-  no-miss = or-left (misses (rulesIn s) (fieldMapIn s)) _ (a .passes .miss)
+  pub no-miss : misses (rulesIn edition s) (fieldMapIn s) ≡ false
+  no-miss = or-left (misses (rulesIn edition s) (fieldMapIn s)) _ (a .passes .miss)
 
   pub between : 4 + 2 * later + 2 * minor ≤ length (drop 3 s)
-  between = fields-long years s (a .passes) (a .full)
+  between = fields-long edition years s (a .passes) (a .full)
 
   fields : RewrittenFields rules (fieldMapIn s) (fieldsIn years s)
   fields =
       let full : 2 * words rules (fieldMapIn s) ≤ length (fieldsIn years s) =
       omega (arith, a .full, length-drop 3 s, between, length-gathered later minor (drop 3 s) between) in
-      rewritten-fields rules (fieldMapIn s) (fieldsIn years s) (tested-rules _ _ (a .passes .head .known) .rights) full (a .passes .lack) no-miss (a .no-field-refused)
+      rewritten-fields rules (fieldMapIn s) (fieldsIn years s) (tested-rules edition _ _ (a .passes .head .known) .rights) full (a .passes .lack) no-miss
+      (a .no-field-refused)
 
   values-count : length valuesRead ≡ slotCount
-  values-count = fields .count ∙ tested-rules _ _ (a .passes .head .known) .count
+  values-count = fields .count ∙ tested-rules edition _ _ (a .passes .head .known) .count
 
   pub traffic-again : LaterRewritten laterYears later (laterAt s)
   traffic-again =
@@ -190,34 +191,35 @@ module _ (years : ℕ) (s : List ℕ) (a : Accepted years s) where
       later-rewritten laterYears minor (laterMinorAt years s) (later-most years s (a .passes .head .years-in) .1)
       (omega (arith, between, length-drop 3 s, length-drop (7 + 2 * later) s)) (and-right (laterAllowed later (laterAt s)) _ (a .later-in))
 
-  pub slots-again : slotsOf (siteIn years s) ≡ valuesRead
-  slots-again = slots-of-site (kindIn s) valuesRead (siteIn years s .«later_traffic») (siteIn years s .«later_minor») values-count
+  pub slots-again : slotsOf (siteIn edition years s) ≡ valuesRead
+  slots-again = slots-of-site (kindIn s) valuesRead (siteIn edition years s .«later_traffic») (siteIn edition years s .«later_minor») values-count
 
-  pub later-slots-again : laterSlots (siteIn years s .«later_traffic») ≡ laterRead laterYears later (laterAt s)
+  pub later-slots-again : laterSlots (siteIn edition years s .«later_traffic») ≡ laterRead laterYears later (laterAt s)
   later-slots-again = later-slots-of (laterRead laterYears later (laterAt s)) (traffic-again .count)
 
-  pub minor-slots-again : laterSlots (siteIn years s .«later_minor») ≡ laterRead laterYears minor (laterMinorAt years s)
+  pub minor-slots-again : laterSlots (siteIn edition years s .«later_minor») ≡ laterRead laterYears minor (laterMinorAt years s)
   minor-slots-again = later-slots-of (laterRead laterYears minor (laterMinorAt years s)) (minor-again .count)
 
-  rules-again : rulesHeld (kindIn s) valuesRead ≡ rules
-  rules-again = ap (λ (c : Bool). settle c (entriesOf (kindIn s))) (same-curve (kindIn s) (fieldMapIn s) (fieldsIn years s) (a .passes .head .known))
+  rules-again : rulesHeld edition (kindIn s) valuesRead ≡ rules
+  rules-again =
+      ap (λ (c : Bool). settle c (entriesOf edition (kindIn s))) (same-curve edition (kindIn s) (fieldMapIn s) (fieldsIn years s) (a .passes .head .known))
 
   -- the site has later values exactly where bit 15 stands
-  pub yearly-again : yearly (siteIn years s) ≡ eqb (yearlyBit (mapIn s)) 1
+  pub yearly-again : yearly (siteIn edition years s) ≡ eqb (yearlyBit (mapIn s)) 1
   yearly-again = by (yearlyBit (mapIn s)) (bit-most (mapIn s)) refl
     where
-      by : (bit : ℕ) → bit ≤ 1 → yearlyBit (mapIn s) ≡ bit → yearly (siteIn years s) ≡ eqb bit 1
+      by : (bit : ℕ) → bit ≤ 1 → yearlyBit (mapIn s) ≡ bit → yearly (siteIn edition years s) ≡ eqb bit 1
       by zero h e =
           let none : later ≤ 0 = rw e (omega arith) in
           rw (later-absent laterYears later (laterAt s) 0 none)
       by (suc zero) h e =
-          let one : eqb years 1 ≡ false = rw e at (or-right (misses (rulesIn s) (fieldMapIn s)) _ (a .passes .miss)) in
+          let one : eqb years 1 ≡ false = rw e at (or-right (misses (rulesIn edition s) (fieldMapIn s)) _ (a .passes .miss)) in
           let w = years-within years (a .passes .head .years-in) in
           let some : 0 < later = rw e (omega (arith, w .0, eqb-false years 1 one)) in
           rw (later-given laterYears later (laterAt s) (later-most years s (a .passes .head .years-in) .0) 0 some)
       by (suc (suc bit)) h e = absurd (omega arith)
 
-  pub given-again : laterGiven years (siteIn years s) ≡ later
+  pub given-again : laterGiven years (siteIn edition years s) ≡ later
   given-again = rw yearly-again (by (yearlyBit (mapIn s)) (bit-most (mapIn s)))
     where
       by : (bit : ℕ) → bit ≤ 1 → cond (eqb bit 1) (years - 1) 0 ≡ bit * (years - 1)
@@ -225,9 +227,10 @@ module _ (years : ℕ) (s : List ℕ) (a : Accepted years s) where
       by (suc zero) h = omega arith
       by (suc (suc bit)) h = absurd (omega arith)
 
-  pub valid-again : Valid years (siteIn years s)
+  pub valid-again : Valid edition years (siteIn edition years s)
   valid-again =
-      sound-by years (siteIn years s) (record {
+      sound-by edition years (siteIn edition years s) (record {
+        edition-in = a .passes .head .edition-in;
         years-in = a .passes .head .years-in;
         known = le-leb (kindIn s) lastKind (a .passes .head .known);
         fit = rw (slots-again, rules-again) (fields .fit);
@@ -239,10 +242,10 @@ module _ (years : ℕ) (s : List ℕ) (a : Accepted years s) where
   spread-is : Bytes s → spreadBytes rules valuesRead (take (2 * later) (laterAt s)) (take (2 * minor) (laterMinorAt years s))
       ≡ take (2 * (words rules (fieldMapIn s) + (later + minor))) (drop 3 s)
   spread-is bytes =
-      let count = tested-rules _ _ (a .passes .head .known) .count in
-      let lead = rules-lead (kindIn s) _ (a .passes .head .known) in
+      let count = tested-rules edition _ _ (a .passes .head .known) .count in
+      let lead = rules-lead edition (kindIn s) _ (a .passes .head .known) in
       let w = 2 * words rules (fieldMapIn s) - 4 in
-      let two = words-least (kindIn s) (fieldMapIn s) (a .passes .head .known) no-miss in
+      let two = words-least edition (kindIn s) (fieldMapIn s) (a .passes .head .known) no-miss in
       let e : 2 * words rules (fieldMapIn s) ≡ 4 + w = omega arith in
       let e′ : 2 * (words rules (fieldMapIn s) + (later + minor)) ≡ 4 + 2 * later + 2 * minor + w = omega arith in
       let g : 7 + 2 * later ≡ 3 + (4 + 2 * later) = omega arith in
@@ -261,18 +264,18 @@ module _ (years : ℕ) (s : List ℕ) (a : Accepted years s) where
       by (suc zero) h e = omega arith
       by (suc (suc bit)) h e = absurd (omega arith)
 
-  parts-again : recordOf (siteIn years s)
+  parts-again : recordOf edition (siteIn edition years s)
       ≡ recordBy rules (kindIn s) valuesRead (eqb (yearlyBit (mapIn s)) 1) (laterRead laterYears later (laterAt s)) (laterRead laterYears minor (laterMinorAt years s))
   parts-again =
       let k = kindIn s in
-      let x = siteIn years s in
-      ap (λ (l : List Slot). recordBy (rulesHeld k l) k l (yearly x) (laterSlots (x .«later_traffic»)) (laterSlots (x .«later_minor»))) slots-again
+      let x = siteIn edition years s in
+      ap (λ (l : List Slot). recordBy (rulesHeld edition k l) k l (yearly x) (laterSlots (x .«later_traffic»)) (laterSlots (x .«later_minor»))) slots-again
       ∙ ap (λ (l : List Rule). recordBy l k valuesRead (yearly x) (laterSlots (x .«later_traffic»)) (laterSlots (x .«later_minor»))) rules-again
       ∙ ap (λ (b : Bool). recordBy rules k valuesRead b (laterSlots (x .«later_traffic»)) (laterSlots (x .«later_minor»))) yearly-again
       ∙ ap (λ (l : List Slot). recordBy rules k valuesRead (eqb (yearlyBit (mapIn s)) 1) l (laterSlots (x .«later_minor»))) later-slots-again
       ∙ ap (λ (l : List Slot). recordBy rules k valuesRead (eqb (yearlyBit (mapIn s)) 1) (laterRead laterYears later (laterAt s)) l) minor-slots-again
 
-  pub record-again : Bytes s → recordOf (siteIn years s) ≡ take (lengthIn years s) s
+  pub record-again : Bytes s → recordOf edition (siteIn edition years s) ≡ take (lengthIn edition years s) s
   unfolding recordBy
   record-again bytes =
       let from : (k : ℕ) → Bytes (drop k s) = λ k i. rw getD-drop (bytes (k + i)) in
@@ -288,11 +291,12 @@ module _ (years : ℕ) (s : List ℕ) (a : Accepted years s) where
       ∙ sym (take-add 3 (2 * (words rules (fieldMapIn s) + (later + minor))) s)
 
 -- a site that is read is one that the writer takes
-pub read-valid : (years : ℕ) (s : List ℕ) (site : Site) (n : ℕ) → readSite years s ≡ Read site n → Valid years site
-read-valid years s site n e = let r = reading years s site n e in rw (← r .site-is) (valid-again years s (r .accepts))
+pub read-valid : (edition years : ℕ) (s : List ℕ) (site : Site) (n : ℕ) → readSite edition years s ≡ Read site n → Valid edition years site
+read-valid edition years s site n e = let r = reading edition years s site n e in rw (← r .site-is) (valid-again edition years s (r .accepts))
 
 -- every accepted record is written back as the same bytes
-pub read-write : (years : ℕ) (s : List ℕ) (site : Site) (n : ℕ) → Bytes s → readSite years s ≡ Read site n → recordOf site ≡ take n s
-read-write years s site n bytes e =
-    let r = reading years s site n e in
-    rw (← r .site-is, ← r .length-is) (record-again years s (r .accepts) bytes)
+pub read-write : (edition years : ℕ) (s : List ℕ) (site : Site) (n : ℕ) → Bytes s → readSite edition years s ≡ Read site n
+    → recordOf edition site ≡ take n s
+read-write edition years s site n bytes e =
+    let r = reading edition years s site n e in
+    rw (← r .site-is, ← r .length-is) (record-again edition years s (r .accepts) bytes)

@@ -11,7 +11,8 @@ use Rattle.site.specs.declared.values.Slot.the-variants.{Absent, Number}
 use Rattle.site.specs.declared.values.Later.{Later}
 use Rattle.site.specs.declared.values.Site.{Site}
 use Rattle.site.specs.declared.values.SiteAnswer.{SiteAnswer}
-use Rattle.site.specs.Rules.{entriesOf, lastKind, yearsKnown, laterYears, traffic, allows, absentOf, needed, lacking, bits, ruleOf, onCurve, settle, holds}
+use Rattle.site.specs.Rules.{entriesOf, lastKind, editionKnown, yearsKnown, laterYears, traffic, allows, absentOf, needed, lacking, bits}
+use Rattle.site.specs.Rules.{ruleOf, onCurve, settle, holds}
 use Rattle.site.specs.Yearly.{laterOf, laterMinor}
 use Rattle.site.specs.Answers.{readAnswer}
 
@@ -56,8 +57,8 @@ curveBitStands entry map = onCurve entry && stands (ruleOf entry) map
 abbrev pub curved : List Entry → ℕ → Bool
 curved entries map = anyField ruleOf curveBitStands (λ (left : ℕ). false) entries map
 
-abbrev pub rulesRead : ℕ → ℕ → List Rule
-rulesRead kind map = settle (curved (entriesOf kind) map) (entriesOf kind)
+abbrev pub rulesRead : (edition kind map : ℕ) → List Rule
+rulesRead edition kind map = settle (curved (entriesOf edition kind) map) (entriesOf edition kind)
 
 -- "then two bytes for each bit that stands": the two-byte numbers of a field, and of a record
 abbrev pub fieldWords : Rule → ℕ → ℕ
@@ -138,8 +139,8 @@ mapIn s = word (drop 1 s)
 abbrev pub fieldMapIn : List ℕ → ℕ
 fieldMapIn s = fieldMap (mapIn s)
 
-abbrev pub rulesIn : List ℕ → List Rule
-rulesIn s = rulesRead (kindIn s) (fieldMapIn s)
+abbrev pub rulesIn : (edition : ℕ) → List ℕ → List Rule
+rulesIn edition s = rulesRead edition (kindIn s) (fieldMapIn s)
 
 -- "each traffic field is followed by Y − 1 more values": how many follow the major traffic, and the minor
 abbrev pub laterIn : (years : ℕ) → List ℕ → ℕ
@@ -175,12 +176,12 @@ laterAllowed (suc later) s = allows traffic (word s) && laterAllowed later (drop
 abbrev pub allLaterAllowed : (years : ℕ) → List ℕ → Bool
 allLaterAllowed years s = laterAllowed (laterIn years s) (laterAt s) && laterAllowed (laterMinorIn years s) (laterMinorAt years s)
 
-abbrev pub lengthIn : (years : ℕ) → List ℕ → ℕ
-lengthIn years s = 3 + 2 * (words (rulesIn s) (fieldMapIn s) + (laterIn years s + laterMinorIn years s))
+abbrev pub lengthIn : (edition years : ℕ) → List ℕ → ℕ
+lengthIn edition years s = 3 + 2 * (words (rulesIn edition s) (fieldMapIn s) + (laterIn years s + laterMinorIn years s))
 
-abbrev pub siteIn : (years : ℕ) → List ℕ → Site
-siteIn years s =
-    siteOf (kindIn s) (fieldsValues (rulesIn s) (fieldMapIn s) (fieldsIn years s))
+abbrev pub siteIn : (edition years : ℕ) → List ℕ → Site
+siteIn edition years s =
+    siteOf (kindIn s) (fieldsValues (rulesIn edition s) (fieldMapIn s) (fieldsIn years s))
     (laterOf (laterRead laterYears (laterIn years s) (laterAt s)))
     (laterOf (laterRead laterYears (laterMinorIn years s) (laterMinorAt years s)))
 
@@ -188,28 +189,30 @@ siteIn years s =
 abbrev pub yearlyInOne : (years : ℕ) → List ℕ → Bool
 yearlyInOne years s = eqb (yearlyBit (mapIn s)) 1 && eqb years 1
 
-abbrev pub missesIn : (years : ℕ) → List ℕ → Bool
-missesIn years s = misses (rulesIn s) (fieldMapIn s) || yearlyInOne years s
+abbrev pub missesIn : (edition years : ℕ) → List ℕ → Bool
+missesIn edition years s = misses (rulesIn edition s) (fieldMapIn s) || yearlyInOne years s
 
 -- "6, 7, all fields present (1), then field by field 8, 9": the first refusal after the kind, or 0. A later value outside its range is
 -- 8 in its turn: what stands before it has no default, so that no other number can come first
-unfoldable pub recordNumber : (years : ℕ) → List ℕ → ℕ
-recordNumber years s =
-    cond (lacks (rulesIn s) (fieldMapIn s)) 6
-    (cond (missesIn years s) 7
-    (cond (ltb (length s) (lengthIn years s)) 1
-    (cond (allLaterAllowed years s) (fieldsNumber (rulesIn s) (fieldMapIn s) (fieldsIn years s)) 8)))
+unfoldable pub recordNumber : (edition years : ℕ) → List ℕ → ℕ
+recordNumber edition years s =
+    cond (lacks (rulesIn edition s) (fieldMapIn s)) 6
+    (cond (missesIn edition years s) 7
+    (cond (ltb (length s) (lengthIn edition years s)) 1
+    (cond (allLaterAllowed years s) (fieldsNumber (rulesIn edition s) (fieldMapIn s) (fieldsIn years s)) 8)))
 
--- "Where a request hands .. the years to the site reader .., one outside its limits is .. 4 at place 0, tried first"; then "kind
--- and map present (1), 5, 6, 7, all fields present (1), then field by field 8, 9"
-unfoldable pub refusalOf : (years : ℕ) → List ℕ → ℕ
-refusalOf years s =
-    cond (yearsKnown years)
+-- "Where a request hands the edition or the years to the site reader .., one outside its limits is 3 or 4 at place 0, tried first";
+-- then "kind and map present (1), 5, 6, 7, all fields present (1), then field by field 8, 9"
+unfoldable pub refusalOf : (edition years : ℕ) → List ℕ → ℕ
+refusalOf edition years s =
+    cond (editionKnown edition)
+    (cond (yearsKnown years)
     (cond (ltb (length s) 3) 1
     (cond (ltb lastKind (kindIn s)) 5
-    (recordNumber years s)))
-    4
+    (recordNumber edition years s)))
+    4)
+    3
 
--- what the site reader answers for a part, in a project of so many years
-unfoldable pub readSite : (years : ℕ) → List ℕ → SiteAnswer
-readSite years s = readAnswer (refusalOf years s) (siteIn years s) (lengthIn years s)
+-- what the site reader answers for a part, in a project of an edition and of so many years
+unfoldable pub readSite : (edition years : ℕ) → List ℕ → SiteAnswer
+readSite edition years s = readAnswer (refusalOf edition years s) (siteIn edition years s) (lengthIn edition years s)

@@ -80,9 +80,13 @@ skew = Default 0 60 0
 abbrev pub turnLanes : ℕ → Rule
 turnLanes most = Default 0 most 0
 
--- "quadrants with limited sight (0), up to 2 at 3ST and 4 at 4ST"
-abbrev pub limitedSight : ℕ → Rule
-limitedSight most = Default 0 most 0
+-- document 02, request 6: "Bit 6 of a crossing gets 6 in edition 2": the editions whose stop crossings have it
+abbrev pub hasSight : (edition : ℕ) → Bool
+hasSight edition = leb edition 1
+
+-- "quadrants with limited sight (0), up to 2 at 3ST and 4 at 4ST", where the edition has the bit
+abbrev pub limitedSight : (sight : Bool) (most : ℕ) → Rule
+limitedSight sight most = cond sight (Default 0 most 0) Lacking
 
 -- The fields in the order of a site's slots, which is the rising order of the bits of each kind. A foreign field takes no
 -- bit, so that bit 3 of a segment is the lane width and bit 3 of a crossing the skew.
@@ -136,18 +140,21 @@ crossing angle left right sight =
     ∷ Always sight
     ∷ []
 
--- "kind byte (0 segment, 1 3ST, 2 4ST, 3 4SG)"; "4SG lacks bits 3 and 6"
-abbrev pub table : List (List Entry)
-table =
+-- "kind byte (0 segment, 1 3ST, 2 4ST, 3 4SG)"; "4SG lacks bits 3 and 6". Editions differ in limited sight alone
+abbrev pub table : (sight : Bool) → List (List Entry)
+table sight =
     segment
-    ∷ crossing skew (turnLanes 1) (turnLanes 1) (limitedSight 2)
-    ∷ crossing skew (turnLanes 2) (turnLanes 2) (limitedSight 4)
+    ∷ crossing skew (turnLanes 1) (turnLanes 1) (limitedSight sight 2)
+    ∷ crossing skew (turnLanes 2) (turnLanes 2) (limitedSight sight 4)
     ∷ crossing Lacking (turnLanes 2) (turnLanes 2) Lacking
     ∷ []
 
--- the rules of a kind, one for each slot of a site
-unfoldable pub entriesOf : ℕ → List Entry
-entriesOf kind = getD table kind []
+-- the rules of a kind, one for each slot of a site, and in an edition
+abbrev pub entriesBy : (sight : Bool) (kind : ℕ) → List Entry
+entriesBy sight kind = getD (table sight) kind []
+
+unfoldable pub entriesOf : (edition kind : ℕ) → List Entry
+entriesOf edition kind = entriesBy (hasSight edition) kind
 
 -- "kind above 3"
 abbrev pub lastKind : ℕ
@@ -160,6 +167,13 @@ slotCount = 20
 -- a value lies from low to high
 abbrev pub inside : ℕ → ℕ → ℕ → Bool
 inside low high value = leb low value && leb value high
+
+-- "edition, 1", and document 02, request 6: "3 now means neither 1 nor 2"
+abbrev pub lastEdition : ℕ
+lastEdition = 2
+
+abbrev pub editionKnown : ℕ → Bool
+editionKnown edition = inside 1 lastEdition edition
 
 -- "years Y, 1 to 10"
 abbrev pub mostYears : ℕ

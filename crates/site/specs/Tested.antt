@@ -1,18 +1,19 @@
 -- The table of rules passes one test, which every law below rests on: a new field or kind touches the table and this.
 use mathlib.Core.Path.{_≡_, refl, sym, _∙_}
-use mathlib.Core.Bool.{Bool, true, false, _&&_, _||_, not, true≢false}
+use mathlib.Core.Bool.{Bool, true, false, _&&_, _||_, not, and-false, true≢false}
 use mathlib.Core.List.{List, [], _∷_}
-use Prim.Native.Nat.{ℕ, zero, suc, _+_, _≤_}
+use Prim.Native.Nat.{ℕ, zero, suc, _+_, _<_, _≤_}
 use native.Mathlib.Omega.{arith}
 use lib.ListN.{length, getD, length-map}
 use lib.Dec.{leb, ltb, eqb}
-use borrow.Author.Tests.{eqb-true, leb-true}
+use borrow.Author.Tests.{eqb-true, leb-true, lt-leb}
 use Rattle.site.specs.declared.rules.Rule.{Rule}
 use Rattle.site.specs.declared.rules.Rule.the-variants.{Foreign, Lacking, Needed, Optional, Default}
 use Rattle.site.specs.declared.rules.Entry.{Entry}
 use Rattle.site.specs.declared.rules.Entry.the-variants.{Always, OnCurve}
 use Rattle.site.specs.declared.values.Slot.the-variants.{Absent}
-use Rattle.site.specs.Rules.{entriesOf, lastKind, slotCount, allows, absentOf, needed, lacking, bits, ruleOf, onCurve, settled, settle}
+use Rattle.site.specs.Rules.{hasSight, entriesBy, entriesOf, lastKind, editionKnown, slotCount, allows, absentOf, needed, lacking, bits}
+use Rattle.site.specs.Rules.{ruleOf, onCurve, settled, settle}
 use Rattle.site.specs.Writing.{fits}
 use Rattle.laws.specs.Truth.{and-left, and-right}
 
@@ -23,6 +24,26 @@ by-kind P segment threeLegStop fourLegStop signal (suc zero) h = threeLegStop
 by-kind P segment threeLegStop fourLegStop signal (suc (suc zero)) h = fourLegStop
 by-kind P segment threeLegStop fourLegStop signal (suc (suc (suc zero))) h = signal
 by-kind P segment threeLegStop fourLegStop signal (suc (suc (suc (suc kind)))) h = absurd (omega arith)
+
+-- 1 and 2 are the editions
+pub unknown-neither : (edition : ℕ) → editionKnown edition ≡ false → (edition ≡ 1 → ⊥) × (edition ≡ 2 → ⊥)
+unknown-neither edition e = (λ one. true≢false (rw one at e), λ two. true≢false (rw two at e))
+
+pub neither-unknown : (edition : ℕ) → (edition ≡ 1 → ⊥) → (edition ≡ 2 → ⊥) → editionKnown edition ≡ false
+neither-unknown zero one two = refl
+neither-unknown (suc zero) one two = absurd (one refl)
+neither-unknown (suc (suc zero)) one two = absurd (two refl)
+neither-unknown (suc (suc (suc edition))) one two =
+    let more : 2 < suc (suc (suc edition)) = omega arith in rw (lt-leb _ _ more) (and-false (leb 1 (suc (suc (suc edition)))))
+
+-- and an edition has limited sight at stop crossings, or lacks it
+pub by-rules : (P : Bool → ℕ → Type 0) → ((sight : Bool) → P sight 0) → P true 1 → P false 1 → P true 2 → P false 2
+    → ((sight : Bool) → P sight 3) → (edition kind : ℕ) → kind ≤ lastKind → P (hasSight edition) kind
+by-rules P segment threeLegStop threeLegStop′ fourLegStop fourLegStop′ signal edition = by (hasSight edition)
+  where
+    by : (sight : Bool) (kind : ℕ) → kind ≤ lastKind → P sight kind
+    by true = by-kind (P true) (segment true) threeLegStop fourLegStop (signal true)
+    by false = by-kind (P false) (segment false) threeLegStop′ fourLegStop′ (signal false)
 
 -- what an absent field is read as is within its rule, unless the field is needed: a default lies in its range
 abbrev pub right : Rule → Bool
@@ -68,9 +89,9 @@ tested entries =
     && (leb (bitCount (settle true entries)) 15
     && (every entryRight entries && ((not (hasCurve entries) || needsCurve entries) && every (λ entry. topLow (ruleOf entry)) entries)))
 
-pub table-tested : (kind : ℕ) → kind ≤ lastKind → tested (entriesOf kind) ≡ true
+pub table-tested : (edition kind : ℕ) → kind ≤ lastKind → tested (entriesOf edition kind) ≡ true
 unfolding entriesOf every bitCount hasCurve needsCurve
-table-tested = by-kind (λ kind. tested (entriesOf kind) ≡ true) refl refl refl refl
+table-tested = by-rules (λ sight kind. tested (entriesBy sight kind) ≡ true) (λ sight. refl) refl refl refl refl (λ sight. refl)
 
 not-or : (a b : Bool) → (not a || b) ≡ true → a ≡ true → b ≡ true
 not-or true b e p = e
@@ -121,10 +142,10 @@ pub record TestedRules (entries : List Entry) (curved : Bool) : Type 0 where
   pub needs-curve : hasCurve entries ≡ true → needsCurve entries ≡ true
   pub tops-low : every topLow (settle curved entries) ≡ true
 
-pub tested-rules : (kind : ℕ) (curved : Bool) → kind ≤ lastKind → TestedRules (entriesOf kind) curved
-tested-rules kind curved h =
-    let entries = entriesOf kind in
-    let t = table-tested kind h in
+pub tested-rules : (edition kind : ℕ) (curved : Bool) → kind ≤ lastKind → TestedRules (entriesOf edition kind) curved
+tested-rules edition kind curved h =
+    let entries = entriesOf edition kind in
+    let t = table-tested edition kind h in
     let c = and-left (eqb (length entries) slotCount) _ t in
     let t1 = and-right (eqb (length entries) slotCount) _ t in
     let b = and-left (leb (bitCount (settle true entries)) 15) _ t1 in
@@ -149,12 +170,13 @@ leads rules =
     needed (getD rules 0 Foreign)
     && ((needed (getD rules 1 Foreign) && eqb (bits (getD rules 2 Foreign)) 0) || (eqb (bits (getD rules 1 Foreign)) 0 && needed (getD rules 2 Foreign)))
 
-pub rules-lead : (kind : ℕ) (curved : Bool) → kind ≤ lastKind → leads (settle curved (entriesOf kind)) ≡ true
+pub rules-lead : (edition kind : ℕ) (curved : Bool) → kind ≤ lastKind → leads (settle curved (entriesOf edition kind)) ≡ true
 unfolding entriesOf
-rules-lead kind curved = by-kind (λ kind. leads (settle curved (entriesOf kind)) ≡ true) refl refl refl refl kind
+rules-lead edition kind curved =
+    by-rules (λ sight kind. leads (settle curved (entriesBy sight kind)) ≡ true) (λ sight. refl) refl refl refl refl (λ sight. refl) edition kind
 
-pub entries-count : (kind : ℕ) → kind ≤ lastKind → length (entriesOf kind) ≡ slotCount
-entries-count kind h = sym (length-map (entriesOf kind) (settled true)) ∙ tested-rules kind true h .count
+pub entries-count : (edition kind : ℕ) → kind ≤ lastKind → length (entriesOf edition kind) ≡ slotCount
+entries-count edition kind h = sym (length-map (entriesOf edition kind) (settled true)) ∙ tested-rules edition kind true h .count
 
 -- a rule's own laws, each by the cases of a rule
 pub bits-most : (rule : Rule) → bits rule ≤ 1

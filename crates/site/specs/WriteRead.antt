@@ -20,7 +20,8 @@ use Rattle.site.specs.declared.values.Site.{Site}
 use Rattle.site.specs.declared.values.SiteAnswer.the-variants.{Read}
 use Rattle.site.specs.Yearly.{laterSlots, laterOf, laterGiven, laterMinor}
 use Rattle.site.specs.Yearly as years-given
-use Rattle.site.specs.Rules.{entriesOf, lastKind, yearsKnown, laterYears, slotCount, allows, absentOf, needed, lacking, bits, settle, absent, holds}
+use Rattle.site.specs.Rules.{entriesOf, lastKind, editionKnown, yearsKnown, laterYears, slotCount, allows, absentOf, needed, lacking, bits}
+use Rattle.site.specs.Rules.{settle, absent, holds}
 use Rattle.site.specs.Record.{bitOf, stands, lackedBitStands, neededBitAbsent, anyField, lacks, misses, curved, rulesRead}
 use Rattle.site.specs.Record.{words, fieldNumber, fieldValue, after, fieldsNumber, fieldsValues, siteOf, yearlyBit, mapIn, fieldMapIn}
 use Rattle.site.specs.Record.{rulesIn, laterIn, laterMinorIn, fieldsIn, laterRead, laterAt, laterMinorAt, lengthIn, siteIn, readSite}
@@ -235,18 +236,19 @@ held-has (Always rule ∷ entries) (slot ∷ slots) h = held-has entries slots h
 held-has (OnCurve rule ∷ entries) (slot ∷ slots) h = refl
 
 -- the curve of a site is the curve of its record
-curve-kept : (kind : ℕ) (slots : List Slot) → kind ≤ lastKind → length slots ≡ slotCount
-    → allFit (rulesHeld kind slots) slots ≡ true
-    → curved (entriesOf kind) (mapOf (rulesHeld kind slots) slots) ≡ curveHeld (entriesOf kind) slots
-curve-kept kind slots hk l f = by (curveHeld (entriesOf kind) slots) refl f
+curve-kept : (edition kind : ℕ) (slots : List Slot) → kind ≤ lastKind → length slots ≡ slotCount
+    → allFit (rulesHeld edition kind slots) slots ≡ true
+    → curved (entriesOf edition kind) (mapOf (rulesHeld edition kind slots) slots) ≡ curveHeld (entriesOf edition kind) slots
+curve-kept edition kind slots hk l f = by (curveHeld (entriesOf edition kind) slots) refl f
   where
-    same : length slots ≡ length (entriesOf kind)
-    same = l ∙ sym (entries-count kind hk)
+    same : length slots ≡ length (entriesOf edition kind)
+    same = l ∙ sym (entries-count edition kind hk)
 
-    by : (c : Bool) → curveHeld (entriesOf kind) slots ≡ c → allFit (settle c (entriesOf kind)) slots ≡ true
-        → curved (entriesOf kind) (mapOf (settle c (entriesOf kind)) slots) ≡ c
-    by true q g = curve-written (entriesOf kind) slots same g (tested-rules kind true hk .needs-curve (held-has (entriesOf kind) slots q))
-    by false q g = straight-written (entriesOf kind) slots (tested-rules kind false hk .entries-right) same q
+    by : (c : Bool) → curveHeld (entriesOf edition kind) slots ≡ c → allFit (settle c (entriesOf edition kind)) slots ≡ true
+        → curved (entriesOf edition kind) (mapOf (settle c (entriesOf edition kind)) slots) ≡ c
+    by true q g =
+        curve-written (entriesOf edition kind) slots same g (tested-rules edition kind true hk .needs-curve (held-has (entriesOf edition kind) slots q))
+    by false q g = straight-written (entriesOf edition kind) slots (tested-rules edition kind false hk .entries-right) same q
 
 -- every slot is within its rule
 all-fit-at : (rules : List Rule) (slots : List Slot) → allFit rules slots ≡ true → length slots ≡ length rules
@@ -330,12 +332,12 @@ module _ (rules : List Rule) (slots : List Slot) where
           )
 
 -- A RECORD READ BACK, with later values after each traffic or without
-module _ (years kind : ℕ) (slots : List Slot) (yearly : Bool) (traffic minor : List Slot) (t : List ℕ) (known : yearsKnown years ≡ true)
-    (hk : kind ≤ lastKind) (l : length slots ≡ slotCount) (f : allFit (rulesHeld kind slots) slots ≡ true)
+module _ (edition years kind : ℕ) (slots : List Slot) (yearly : Bool) (traffic minor : List Slot) (t : List ℕ) (kept : editionKnown edition ≡ true) (known : yearsKnown years ≡ true)
+    (hk : kind ≤ lastKind) (l : length slots ≡ slotCount) (f : allFit (rulesHeld edition kind slots) slots ≡ true)
     (lt : length traffic ≡ laterYears) (lm : length minor ≡ laterYears) (spans : (yearly && eqb years 1) ≡ false)
     (ft : laterFits (cond yearly (years - 1) 0) traffic ≡ true) (fm : laterFits (laterMinor kind (cond yearly (years - 1) 0)) minor ≡ true) where
   abbrev rules : List Rule
-  rules = rulesHeld kind slots
+  rules = rulesHeld edition kind slots
 
   abbrev map : ℕ
   map = mapOf rules slots
@@ -352,14 +354,14 @@ module _ (years kind : ℕ) (slots : List Slot) (yearly : Bool) (traffic minor :
   abbrev whole : List ℕ
   whole = kind ∷ (map + cond yearly 32768 0) / 256 ∷ (map + cond yearly 32768 0) % 256 ∷ fields
 
-  same-rules : rulesRead kind map ≡ rules
-  same-rules = ap (λ (c : Bool). settle c (entriesOf kind)) (curve-kept kind slots hk l f)
+  same-rules : rulesRead edition kind map ≡ rules
+  same-rules = ap (λ (c : Bool). settle c (entriesOf edition kind)) (curve-kept edition kind slots hk l f)
 
   rules-count : length rules ≡ slotCount
-  rules-count = tested-rules _ _ hk .count
+  rules-count = tested-rules edition _ _ hk .count
 
   small : map < 32768
-  small = map-small rules slots 0 (tested-rules _ _ hk .few)
+  small = map-small rules slots 0 (tested-rules edition _ _ hk .few)
 
   map-is : fieldMapIn whole ≡ map
   map-is = rw (two-bytes (map + cond yearly 32768 0)) (fields-of-whole map small yearly)
@@ -375,10 +377,10 @@ module _ (years kind : ℕ) (slots : List Slot) (yearly : Bool) (traffic minor :
       by false = omega arith
 
   first-two : length (firstField rules slots) ≡ 2
-  first-two = first-long rules slots rules-count l (rules-lead _ _ hk) f
+  first-two = first-long rules slots rules-count l (rules-lead edition _ _ hk) f
 
   second-two : length (secondField rules slots) ≡ 2
-  second-two = second-long rules slots rules-count l (rules-lead _ _ hk) f
+  second-two = second-long rules slots rules-count l (rules-lead edition _ _ hk) f
 
   traffic-back : LaterReadBack laterYears later traffic (secondField rules slots ++ (laterBytes minor ++ others))
   traffic-back = later-read-back laterYears later traffic _ lt ft
@@ -418,7 +420,7 @@ module _ (years kind : ℕ) (slots : List Slot) (yearly : Bool) (traffic minor :
   fields-back : FieldsReadBack rules slots t
   fields-back = fields-read-back rules slots t f (l ∙ sym rules-count)
 
-  words-are : words (rulesIn whole) (fieldMapIn whole) ≡ words rules map
+  words-are : words (rulesIn edition whole) (fieldMapIn whole) ≡ words rules map
   words-are = rw (map-is, same-rules) refl
 
   spread-long : length (spreadBytes rules slots (laterBytes traffic) (laterBytes minor)) ≡ 2 * (words rules map + (later + laterMinor kind later))
@@ -448,14 +450,14 @@ module _ (years kind : ℕ) (slots : List Slot) (yearly : Bool) (traffic minor :
         minor-back .long,
       )
 
-  length-is : lengthIn years whole ≡ 3 + length (spreadBytes rules slots (laterBytes traffic) (laterBytes minor))
+  length-is : lengthIn edition years whole ≡ 3 + length (spreadBytes rules slots (laterBytes traffic) (laterBytes minor))
   length-is = rw (words-are, later-is) (omega (arith, spread-long))
 
-  accepts : Accepted years whole
+  accepts : Accepted edition years whole
   accepts =
       record {
         passes = record {
-          head = record { years-in = known; long = omega arith; known = hk };
+          head = record { edition-in = kept; years-in = known; long = omega arith; known = hk };
           lack = rw (map-is, same-rules) (fields-back .lack);
           miss = rw (map-is, same-rules, fields-back .miss, bit-is) (several yearly spans);
         };
@@ -473,20 +475,21 @@ module _ (years kind : ℕ) (slots : List Slot) (yearly : Bool) (traffic minor :
       several true e = e
       several false e = refl
 
-  site-is : siteIn years whole ≡ siteOf kind slots (laterOf traffic) (laterOf minor)
+  site-is : siteIn edition years whole ≡ siteOf kind slots (laterOf traffic) (laterOf minor)
   site-is =
-      let values : fieldsValues (rulesIn whole) (fieldMapIn whole) (fieldsIn years whole) ≡ slots = rw (fields-are, map-is, same-rules) (fields-back .values) in
+      let values : fieldsValues (rulesIn edition whole) (fieldMapIn whole) (fieldsIn years whole) ≡ slots =
+      rw (fields-are, map-is, same-rules) (fields-back .values) in
       ap (λ (x : List Slot). siteOf kind x (laterOf (laterRead laterYears (laterIn years whole) (laterAt whole))) (laterOf (laterRead laterYears (laterMinorIn years whole) (laterMinorAt years whole)))) values
       ∙ ap (λ (x : List Slot). siteOf kind slots (laterOf x) (laterOf (laterRead laterYears (laterMinorIn years whole) (laterMinorAt years whole)))) traffic-read
       ∙ ap (λ (x : List Slot). siteOf kind slots (laterOf traffic) (laterOf x)) minor-read
 
-  read-back : readSite years (recordBy rules kind slots yearly traffic minor ++ t)
+  read-back : readSite edition years (recordBy rules kind slots yearly traffic minor ++ t)
       ≡ Read (siteOf kind slots (laterOf traffic) (laterOf minor)) (length (recordBy rules kind slots yearly traffic minor))
   unfolding recordBy
   read-back =
-      ap (λ (x : List ℕ). readSite years (kind ∷ (map + cond yearly 32768 0) / 256 ∷ (map + cond yearly 32768 0) % 256 ∷ x))
+      ap (λ (x : List ℕ). readSite edition years (kind ∷ (map + cond yearly 32768 0) / 256 ∷ (map + cond yearly 32768 0) % 256 ∷ x))
       (spread-parts rules slots (laterBytes traffic) (laterBytes minor) t)
-      ∙ accept years whole accepts ∙ ap (λ (x : Site). Read x (lengthIn years whole)) site-is
+      ∙ accept edition years whole accepts ∙ ap (λ (x : Site). Read x (lengthIn edition years whole)) site-is
       ∙ ap (Read (siteOf kind slots (laterOf traffic) (laterOf minor))) (length-is ∙ omega arith)
 
 first-absent : (slot : Slot) (later : ℕ) (slots : List Slot) → later ≡ 0 → laterFits later (slot ∷ slots) ≡ true → absent slot ≡ true
@@ -495,8 +498,8 @@ first-absent slot zero slots z e = and-left (absent slot) _ e
 first-absent slot (suc later) slots z e = absurd (omega arith)
 
 -- a site with later values is one of several years
-several-years : (years : ℕ) (site : Site) → Valid years site → (years-given.yearly site && eqb years 1) ≡ false
-several-years years site v = by (site .«later_traffic» .second) refl (eqb years 1) refl
+several-years : (edition years : ℕ) (site : Site) → Valid edition years site → (years-given.yearly site && eqb years 1) ≡ false
+several-years edition years site v = by (site .«later_traffic» .second) refl (eqb years 1) refl
   where
     by : (slot : Slot) → site .«later_traffic» .second ≡ slot → (b : Bool) → eqb years 1 ≡ b → (not (absent slot) && b) ≡ false
     by Absent e b q = refl
@@ -504,12 +507,13 @@ several-years years site v = by (site .«later_traffic» .second) refl (eqb year
     by (Number value) e true q =
         let one = eqb-true years 1 q in
         let none : laterGiven years site ≡ 0 = rw e (omega arith) in
-        let z = first-absent (site .«later_traffic» .second) (laterGiven years site) _ none (tests years site v .later-traffic) in
+        let z = first-absent (site .«later_traffic» .second) (laterGiven years site) _ none (tests edition years site v .later-traffic) in
         absurd (true≢false (sym (rw e at z)))
 
 -- for every site that the writer takes: what it emits, followed by any bytes, reads back as the same site
-pub write-read : (years : ℕ) (site : Site) (t : List ℕ) → Valid years site → readSite years (recordOf site ++ t) ≡ Read site (length (recordOf site))
-write-read years site t v =
-    let c = tests years site v in
-    read-back years (site .kind) (slotsOf site) (years-given.yearly site) (laterSlots (site .«later_traffic»)) (laterSlots (site .«later_minor»)) t
-    (c .years-in) (valid-kind years site v) refl (c .fit) refl refl (several-years years site v) (c .later-traffic) (c .later-minor)
+pub write-read : (edition years : ℕ) (site : Site) (t : List ℕ) → Valid edition years site
+    → readSite edition years (recordOf edition site ++ t) ≡ Read site (length (recordOf edition site))
+write-read edition years site t v =
+    let c = tests edition years site v in
+    read-back edition years (site .kind) (slotsOf site) (years-given.yearly site) (laterSlots (site .«later_traffic»)) (laterSlots (site .«later_minor»)) t
+    (c .edition-in) (c .years-in) (valid-kind edition years site v) refl (c .fit) refl refl (several-years edition years site v) (c .later-traffic) (c .later-minor)

@@ -14,7 +14,7 @@ use Rattle.site.specs.declared.values.Site.{Site}
 use Rattle.site.specs.declared.values.Measure.{Measure}
 use Rattle.site.specs.declared.values.Measure.the-variants.{Length, OutsideRange}
 use Rattle.site.specs.declared.values.WriteAnswer.{WriteAnswer}
-use Rattle.site.specs.Rules.{entriesOf, lastKind, yearsKnown, traffic, allows, absentOf, needed, bits, onCurve, settle, absent, holds}
+use Rattle.site.specs.Rules.{entriesOf, lastKind, editionKnown, yearsKnown, traffic, allows, absentOf, needed, bits, onCurve, settle, absent, holds}
 use Rattle.site.specs.Yearly.{laterSlots, yearly, laterGiven, laterMinor}
 use Rattle.site.specs.Answers.{wroteAnswer}
 use Rattle.laws.specs.Lent.{laid}
@@ -50,8 +50,8 @@ curveHeld [] slots = false
 curveHeld (entry ∷ entries) [] = false
 curveHeld (entry ∷ entries) (slot ∷ slots) = (onCurve entry && not (absent slot)) || curveHeld entries slots
 
-abbrev pub rulesHeld : ℕ → List Slot → List Rule
-rulesHeld kind slots = settle (curveHeld (entriesOf kind) slots) (entriesOf kind)
+abbrev pub rulesHeld : (edition kind : ℕ) → List Slot → List Rule
+rulesHeld edition kind slots = settle (curveHeld (entriesOf edition kind) slots) (entriesOf edition kind)
 
 -- a slot is within its rule: a number that the rule takes, or absent where the reader can leave it so
 abbrev pub fits : Rule → Slot → Bool
@@ -111,9 +111,9 @@ unfoldable pub recordBy : List Rule → (kind : ℕ) → List Slot → (yearly :
 recordBy rules kind slots yearly traffic minor =
     kind ∷ (twoBytes (mapOf rules slots + cond yearly 32768 0) ++ spreadBytes rules slots (laterBytes traffic) (laterBytes minor))
 
-abbrev pub recordOf : Site → List ℕ
-recordOf site =
-    recordBy (rulesHeld (site .kind) (slotsOf site)) (site .kind) (slotsOf site)
+abbrev pub recordOf : (edition : ℕ) → Site → List ℕ
+recordOf edition site =
+    recordBy (rulesHeld edition (site .kind) (slotsOf site)) (site .kind) (slotsOf site)
     (yearly site) (laterSlots (site .«later_traffic»)) (laterSlots (site .«later_minor»))
 
 -- "The site writer counts yearly values with Y = 1, or not Y − 1 of them for each traffic field, as outside the range": the first
@@ -130,32 +130,34 @@ laterSound years site =
 
 -- nothing of a site is outside its range: "a kind above 3, a value that the kind lacks, half a curve, or a spiral or D on a
 -- straight road counts as outside its range"
-unfoldable pub soundSite : (years : ℕ) → Site → Bool
-soundSite years site =
-    leb (site .kind) lastKind && (allFit (rulesHeld (site .kind) (slotsOf site)) (slotsOf site) && laterSound years site)
+unfoldable pub soundSite : (edition years : ℕ) → Site → Bool
+soundSite edition years site =
+    leb (site .kind) lastKind && (allFit (rulesHeld edition (site .kind) (slotsOf site)) (slotsOf site) && laterSound years site)
 
--- nor are the years
-unfoldable pub sound : (years : ℕ) → Site → Bool
-sound years site = yearsKnown years && soundSite years site
+-- nor are the edition and the years
+unfoldable pub sound : (edition years : ℕ) → Site → Bool
+sound edition years site = editionKnown edition && (yearsKnown years && soundSite edition years site)
 
--- a site that the writer takes, and a record can be read as, in a project of so many years
-pub record Valid (years : ℕ) (site : Site) : Type 0 where
-  pub is-sound : sound years site ≡ true
+-- a site that the writer takes, and a record can be read as, in a project of an edition and of so many years
+pub record Valid (edition years : ℕ) (site : Site) : Type 0 where
+  pub is-sound : sound edition years site ≡ true
 
 -- what a site measures: the length of its record
-unfoldable pub measureOf : (years : ℕ) → Site → Measure
-measureOf years site = cond (sound years site) (Length (length (recordOf site))) OutsideRange
+unfoldable pub measureOf : (edition years : ℕ) → Site → Measure
+measureOf edition years site = cond (sound edition years site) (Length (length (recordOf edition site))) OutsideRange
 
--- years "outside its limits is .. 4 .., tried first"; then "It refuses only with 8, then 10": the writer's number where the buffer has
--- so much room
-unfoldable pub writeRefusal : (years : ℕ) → Site → ℕ → ℕ
-writeRefusal years site room =
-    cond (yearsKnown years) (cond (soundSite years site) (cond (leb (length (recordOf site)) room) 0 10) 8) 4
+-- an edition or years "outside its limits is 3 or 4 .., tried first"; then "It refuses only with 8, then 10": the writer's number where
+-- the buffer has so much room
+unfoldable pub writeRefusal : (edition years : ℕ) → Site → ℕ → ℕ
+writeRefusal edition years site room =
+    cond (editionKnown edition)
+    (cond (yearsKnown years) (cond (soundSite edition years site) (cond (leb (length (recordOf edition site)) room) 0 10) 8) 4)
+    3
 
 -- what the site writer answers
-unfoldable pub writeAnswer : (years : ℕ) → Site → ℕ → WriteAnswer
-writeAnswer years site room = wroteAnswer (writeRefusal years site room) (length (recordOf site))
+unfoldable pub writeAnswer : (edition years : ℕ) → Site → ℕ → WriteAnswer
+writeAnswer edition years site room = wroteAnswer (writeRefusal edition years site room) (length (recordOf edition site))
 
 -- the buffer afterwards
-unfoldable pub writeInto : (years : ℕ) → Site → List ℕ → List ℕ
-writeInto years site before = cond (sound years site) (laid (recordOf site) before) before
+unfoldable pub writeInto : (edition years : ℕ) → Site → List ℕ → List ℕ
+writeInto edition years site before = cond (sound edition years site) (laid (recordOf edition site) before) before

@@ -4,7 +4,10 @@ ghost use mathlib.Core.Path.{_≡_};
 ghost use Prim.Native.Nat.{_≤_};
 ghost use lib.ListN.{length};
 ghost use Rattle.site.specs.Rules.{segment, crossing, entriesOf, lastKind, slotCount, inside, allows, absentOf};
-ghost use Rattle.site.specs.Rules.{needed, lacking, bits, ruleOf, onCurve, settled, settle, absent, holds, yearsKnown};
+ghost use Rattle.site.specs.Rules.{needed, lacking, bits, ruleOf, onCurve, settled, settle, absent, holds, editionKnown, yearsKnown};
+ghost use Rattle.site.specs.Rules.{hasSight};
+ghost use mathlib.Core.Bool.{cond};
+ghost use Rattle.site.specs.declared.rules.Rule.the-variants as rule;
 use crate::values::Slot;
 
 // What a kind says of a field. Ranges are from the first number to the second; the third is the
@@ -39,6 +42,8 @@ use Rule::Optional;
 pub const SLOTS: usize = 20;
 
 pub const LAST_KIND: u8 = 3;
+
+const LAST_EDITION: u64 = 2;
 
 const MOST_YEARS: u64 = 10;
 
@@ -134,15 +139,27 @@ fn crossing_entries(angle: Rule, left: Rule, right: Rule, sight: Rule) -> [Entry
     entries
 }
 
-// The table of rules: 0 segment, 1 3ST, 2 4ST, 3 4SG.
-pub fn entries_of(kind: u8) -> [Entry; SLOTS]
+// A stop crossing's rule of limited sight, which edition 1 alone has.
+fn sight_rule(edition: u64, quadrants: Rule) -> Rule
+    ensures { λ r. ⌜ r ≡ cond (hasSight edition) quadrants rule.Lacking ⌝ }
+{
+    if edition <= 1 { quadrants } else { Lacking }
+}
+
+// The table of rules in an edition: 0 segment, 1 3ST, 2 4ST, 3 4SG.
+pub fn entries_of(edition: u64, kind: u8) -> [Entry; SLOTS]
     requires { ⌜ kind ≤ lastKind ⌝ }
-    ensures { λ r. ⌜ r ≡ entriesOf kind ⌝ }
+    ensures { λ r. ⌜ r ≡ entriesOf edition kind ⌝ }
 {
     match kind {
         0 => segment_entries(),
-        1 => crossing_entries(SKEW, ONE_LANE, ONE_LANE, TWO_QUADRANTS),
-        2 => crossing_entries(SKEW, TWO_LANES, TWO_LANES, FOUR_QUADRANTS),
+        1 => crossing_entries(SKEW, ONE_LANE, ONE_LANE, sight_rule(edition, TWO_QUADRANTS)),
+        2 => crossing_entries(
+            SKEW,
+            TWO_LANES,
+            TWO_LANES,
+            sight_rule(edition, FOUR_QUADRANTS),
+        ),
         _ => crossing_entries(Lacking, TWO_LANES, TWO_LANES, Lacking),
     }
 }
@@ -151,6 +168,13 @@ fn is_inside(low: u16, high: u16, value: u16) -> bool
     ensures { λ r. ⌜ r ≡ inside low high value ⌝ }
 {
     low <= value && value <= high
+}
+
+// Whether there is such an edition.
+pub fn is_edition_known(edition: u64) -> bool
+    ensures { λ r. ⌜ r ≡ editionKnown edition ⌝ }
+{
+    1 <= edition && edition <= LAST_EDITION
 }
 
 // Whether a project can have so many years.

@@ -293,19 +293,31 @@ fn later_in(years: u64, yearly: usize) -> usize
     if yearly == 0 { 0 } else { years as usize - 1 }
 }
 
+// The rules by which a kind and a map are read in an edition.
+fn rules_read(edition: u64, kind: u8, map: u16) -> [Rule; SLOTS]
+    requires { ⌜ kind ≤ lastKind ⌝ }
+    ensures { λ r. ⌜ r ≡ rulesRead edition kind map ⌝ }
+{
+    let entries = rules::entries_of(edition, kind);
+    rules::settle_rules(is_curved(entries, map), entries)
+}
+
 // A record whose kind and map are there, by the rules that they choose.
 fn read_record(
+    edition: u64,
     years: u64,
     kind: u8,
-    rules: [Rule; SLOTS],
     map: u16,
     yearly: usize,
     part: &[u8],
 ) -> SiteAnswer
-    requires { ⌜ (yearsKnown years ≡ true) × (length rules ≡ slotCount) × (yearly ≤ 1) × (kind ≤ lastKind) ⌝ }
-    requires { ⌜ Parts (now part) kind map yearly rules ⌝ }
-    ensures { λ r. ⌜ r ≡ readAnswer (recordNumber years (now (part .entry))) (siteIn years (now (part .entry))) (lengthIn years (now (part .entry))) ⌝ }
+    requires { ⌜ (yearsKnown years ≡ true) × (yearly ≤ 1) × (kind ≤ lastKind) × Parts (now part) kind map yearly ⌝ }
+    ensures { λ r. ⌜
+        r ≡ readAnswer (recordNumber edition years (now (part .entry))) (siteIn edition years (now (part .entry)))
+        (lengthIn edition years (now (part .entry)))
+        ⌝ }
 {
+    let rules = rules_read(edition, kind, map);
     let fault = map_number(rules, map);
     if fault != 0 {
         return SiteAnswer::Refused(fault);
@@ -321,19 +333,14 @@ fn read_record(
     read_present(kind, rules, map, part, later)
 }
 
-// The rules by which a kind and a map are read.
-fn rules_read(kind: u8, map: u16) -> [Rule; SLOTS]
-    requires { ⌜ kind ≤ lastKind ⌝ }
-    ensures { λ r. ⌜ r ≡ rulesRead kind map ⌝ }
+// The record that a part starts with, in a project of an edition and of so many years: its site and its length, or document 01's 1
+// or 3 to 9.
+pub fn read_site(edition: u64, years: u64, part: &[u8]) -> SiteAnswer
+    ensures { λ r. ⌜ ReadsSite edition years (now (part .entry)) r ⌝ }
 {
-    let entries = rules::entries_of(kind);
-    rules::settle_rules(is_curved(entries, map), entries)
-}
-
-// The record that a part starts with, in a project of so many years: its site and its length, or document 01's 1 or 4 to 9.
-pub fn read_site(years: u64, part: &[u8]) -> SiteAnswer
-    ensures { λ r. ⌜ ReadsSite years (now (part .entry)) r ⌝ }
-{
+    if !rules::is_edition_known(edition) {
+        return SiteAnswer::Refused(3);
+    }
     if !rules::are_years_known(years) {
         return SiteAnswer::Refused(4);
     }
@@ -345,12 +352,11 @@ pub fn read_site(years: u64, part: &[u8]) -> SiteAnswer
         return SiteAnswer::Refused(5);
     }
     let whole = word_at(part, 1);
-    let map = field_map(whole);
     read_record(
+        edition,
         years,
         kind,
-        rules_read(kind, map),
-        map,
+        field_map(whole),
         yearly_bit(whole),
         part,
     )

@@ -16,7 +16,7 @@ use Rattle.site.specs.declared.values.Measure.the-variants.{Length, OutsideRang
 use Rattle.site.specs.declared.values.WriteAnswer.the-variants.{Written, Unwritten}
 use Rattle.site.specs.declared.rules.Rule.the-variants.{Foreign}
 use Rattle.site.specs.declared.values.Slot.the-variants.{Absent}
-use Rattle.site.specs.Rules.{lastKind, yearsKnown, laterYears, slotCount}
+use Rattle.site.specs.Rules.{lastKind, editionKnown, yearsKnown, laterYears, slotCount}
 use Rattle.site.specs.Yearly.{laterSlots, yearly, laterGiven, laterMinor}
 use Rattle.laws.specs.Truth.{and-left, and-right}
 use Rattle.site.specs.Writing.{slotsOf, rulesHeld, allFit, mapOf, twoBytes, fieldBytes, bytesOf, laterBytes, spreadBytes, recordBy, recordOf, laterFits, laterSound, soundSite}
@@ -28,55 +28,68 @@ use Rattle.site.specs.LaterLaws.{later-read-back}
 use Rattle.site.specs.Theorems.{ten-exactly, zero-exactly}
 use Rattle.site.specs.Promises.{WritesSite, writes-site}
 
--- years outside their limits, a kind above the last, or later years that are not right are outside their range
-pub years-outside : (years : ℕ) (site : Site) → yearsKnown years ≡ false → sound years site ≡ false
-unfolding sound
-years-outside years site e = rw e
+-- an edition or years outside their limits, a kind above the last, or later years that are not right are outside their range
+module _ (edition years : ℕ) (site : Site) where
+  not-measured : sound edition years site ≡ false → OutsideRange ≡ measureOf edition years site
+  unfolding measureOf
+  not-measured e = rw e
 
-pub kind-outside : (years : ℕ) (site : Site) → lastKind < site .kind → sound years site ≡ false
-unfolding sound soundSite
-kind-outside years site h = rw (lt-leb (site .kind) lastKind h) (and-false (yearsKnown years))
+  pub edition-outside : editionKnown edition ≡ false → OutsideRange ≡ measureOf edition years site
+  unfolding sound
+  edition-outside e = not-measured (rw e)
 
-pub later-outside : (years : ℕ) (site : Site) → laterSound years site ≡ false → sound years site ≡ false
-unfolding sound soundSite
-later-outside years site e =
-    rw e (by (yearsKnown years) (leb (site .kind) lastKind) (allFit (rulesHeld (site .kind) (slotsOf site)) (slotsOf site)))
-  where
-    by : (a b c : Bool) → (a && (b && (c && false))) ≡ false
-    by true true true = refl
-    by true true false = refl
-    by true false c = refl
-    by false b c = refl
+  pub years-outside : yearsKnown years ≡ false → OutsideRange ≡ measureOf edition years site
+  unfolding sound
+  years-outside e = not-measured (rw e (and-false (editionKnown edition)))
 
-pub not-measured : (years : ℕ) (site : Site) → sound years site ≡ false → OutsideRange ≡ measureOf years site
-unfolding measureOf
-not-measured years site e = rw e
+  pub kind-outside : lastKind < site .kind → OutsideRange ≡ measureOf edition years site
+  unfolding sound soundSite
+  kind-outside h = not-measured (rw (lt-leb (site .kind) lastKind h) (by (editionKnown edition) (yearsKnown years)))
+    where
+      by : (a b : Bool) → (a && (b && false)) ≡ false
+      by true true = refl
+      by true false = refl
+      by false b = refl
+
+  pub later-outside : laterSound years site ≡ false → OutsideRange ≡ measureOf edition years site
+  unfolding sound soundSite
+  later-outside e =
+      not-measured
+      (rw e (by (editionKnown edition) (yearsKnown years) (leb (site .kind) lastKind) (allFit (rulesHeld edition (site .kind) (slotsOf site)) (slotsOf site))))
+    where
+      by : (a b c d : Bool) → (a && (b && (c && (d && false)))) ≡ false
+      by true true true true = refl
+      by true true true false = refl
+      by true true false d = refl
+      by true false c d = refl
+      by false b c d = refl
 
 -- of any other the slots are found, and the rules that they are held to
-pub record Found (site : Site) (slots : List Slot) (rules : List Rule) : Type 0 where
+pub record Found (edition : ℕ) (site : Site) (slots : List Slot) (rules : List Rule) : Type 0 where
   pub kind-known : site .kind ≤ lastKind
   pub slots-are : slots ≡ slotsOf site
-  pub rules-are : rules ≡ rulesHeld (site .kind) slots
+  pub rules-are : rules ≡ rulesHeld edition (site .kind) slots
 
-pub found : (site : Site) (slots : List Slot) (rules : List Rule) → site .kind ≤ lastKind → slots ≡ slotsOf site → rules ≡ rulesHeld (site .kind) slots
-    → Found site slots rules
-found site slots rules k s r = record { kind-known = k; slots-are = s; rules-are = r }
+pub found : (edition : ℕ) (site : Site) (slots : List Slot) (rules : List Rule) → site .kind ≤ lastKind → slots ≡ slotsOf site
+    → rules ≡ rulesHeld edition (site .kind) slots
+    → Found edition site slots rules
+found edition site slots rules k s r = record { kind-known = k; slots-are = s; rules-are = r }
 
-module _ {site : Site} {slots : List Slot} {rules : List Rule} (f : Found site slots rules) where
+module _ {edition : ℕ} {site : Site} {slots : List Slot} {rules : List Rule} (f : Found edition site slots rules) where
   pub bits-few : bitCount rules ≤ 15
-  bits-few = rw (f .rules-are) (tested-rules _ _ (f .kind-known) .few)
+  bits-few = rw (f .rules-are) (tested-rules edition _ _ (f .kind-known) .few)
 
   rules-count : length rules ≡ slotCount
-  rules-count = rw (f .rules-are) (tested-rules _ _ (f .kind-known) .count)
+  rules-count = rw (f .rules-are) (tested-rules edition _ _ (f .kind-known) .count)
 
   slots-count : length slots ≡ slotCount
   slots-count = ap length (f .slots-are)
 
-  record-is : recordOf site
+  record-is : recordOf edition site
       ≡ recordBy rules (site .kind) slots (yearly site) (laterSlots (site .«later_traffic»)) (laterSlots (site .«later_minor»))
   record-is = rw (f .rules-are, f .slots-are) refl
 
-  pub spread-long : length (recordOf site)
+  pub spread-long : length (recordOf edition site)
       ≡ 3 + length (spreadBytes rules slots (laterBytes (laterSlots (site .«later_traffic»))) (laterBytes (laterSlots (site .«later_minor»))))
   unfolding recordBy
   spread-long = omega (arith, ap length record-is)
@@ -85,7 +98,7 @@ module _ {site : Site} {slots : List Slot} {rules : List Rule} (f : Found site s
   pub all-put : (before : List ℕ) {head after : List ℕ} (map : ℕ) {place : ℕ} → map ≡ mapOf rules slots + cond (yearly site) 32768 0
       → head ≡ sets before 0 (site .kind ∷ twoBytes map)
       → Puts head 3 (spreadBytes rules slots (laterBytes (laterSlots (site .«later_traffic»))) (laterBytes (laterSlots (site .«later_minor»)))) place after
-      → (place ≡ length (recordOf site)) × (after ≡ sets before 0 (recordOf site))
+      → (place ≡ length (recordOf edition site)) × (after ≡ sets before 0 (recordOf edition site))
   unfolding recordBy
   all-put before map m h p =
       let spread = spreadBytes rules slots (laterBytes (laterSlots (site .«later_traffic»))) (laterBytes (laterSlots (site .«later_minor»))) in
@@ -111,7 +124,7 @@ module _ {site : Site} {slots : List Slot} {rules : List Rule} (f : Found site s
         later-read-back laterYears (laterMinor (site .kind) given) (laterSlots (site .«later_minor»)) [] refl
         (and-right (laterFits given (laterSlots (site .«later_traffic»))) _ later) .long
 
-    record-long : length (recordOf site) ≡ 3 + 2 * (given + laterMinor (site .kind) given) + length (bytesOf rules slots)
+    record-long : length (recordOf edition site) ≡ 3 + 2 * (given + laterMinor (site .kind) given) + length (bytesOf rules slots)
     unfolding recordBy spreadBytes
     record-long =
         let first = firstField rules slots in
@@ -123,7 +136,7 @@ module _ {site : Site} {slots : List Slot} {rules : List Rule} (f : Found site s
           traffic-long,
           minor-long,
           ap length (bytes-parts rules slots rules-count slots-count),
-          ap (λ (x : List Slot). length (spreadBytes (rulesHeld (site .kind) x) x traffic minor)) (f .slots-are),
+          ap (λ (x : List Slot). length (spreadBytes (rulesHeld edition (site .kind) x) x traffic minor)) (f .slots-are),
           ap (λ (x : List Rule). length (spreadBytes x slots traffic minor)) (f .rules-are),
           length-append first (secondField rules slots ++ rest),
           length-append (secondField rules slots) rest,
@@ -136,38 +149,43 @@ module _ {site : Site} {slots : List Slot} {rules : List Rule} (f : Found site s
         )
 
     -- and their measure is the site's
-    module _ (known : yearsKnown years ≡ true) where
-      slots-tell : sound years site ≡ allFit rules slots
+    module _ (kept : editionKnown edition ≡ true) (known : yearsKnown years ≡ true) where
+      slots-tell : sound edition years site ≡ allFit rules slots
       unfolding sound soundSite
-      slots-tell = rw (known, f .rules-are, f .slots-are, le-leb (site .kind) lastKind (f .kind-known), later) (and-true _)
+      slots-tell = rw (kept, known, f .rules-are, f .slots-are, le-leb (site .kind) lastKind (f .kind-known), later) (and-true _)
 
-      pub measured-by : measureOf years site
+      pub measured-by : measureOf edition years site
           ≡ cond (allFit rules slots) (Length (3 + 2 * (given + laterMinor (site .kind) given) + length (bytesOf rules slots))) OutsideRange
       unfolding measureOf
       measured-by = rw (slots-tell, record-long)
 
 -- the writer's answers
-module _ (years : ℕ) (site : Site) (before : List ℕ) where
-  pub years-refused : yearsKnown years ≡ false → WritesSite years site before before (Unwritten 4)
+module _ (edition years : ℕ) (site : Site) (before : List ℕ) where
+  pub edition-refused : editionKnown edition ≡ false → WritesSite edition years site before before (Unwritten 3)
   unfolding writeRefusal writeAnswer writeInto sound
-  years-refused e = writes-site years site before before (Unwritten 4) (rw e) (rw e)
+  edition-refused e = writes-site edition years site before before (Unwritten 3) (rw e) (rw e)
 
-  pub outside : yearsKnown years ≡ true → sound years site ≡ false → WritesSite years site before before (Unwritten 8)
+  pub years-refused : editionKnown edition ≡ true → yearsKnown years ≡ false → WritesSite edition years site before before (Unwritten 4)
   unfolding writeRefusal writeAnswer writeInto sound
-  outside y e =
-      let f : soundSite years site ≡ false = rw y at e in
-      writes-site years site before before (Unwritten 8) (rw (y, f)) (rw (y, f))
+  years-refused x e = writes-site edition years site before before (Unwritten 4) (rw (x, e)) (rw (x, e))
 
-  pub room-refused : Valid years site → length before < length (recordOf site) → WritesSite years site before before (Unwritten 10)
+  pub outside : editionKnown edition ≡ true → yearsKnown years ≡ true → sound edition years site ≡ false
+      → WritesSite edition years site before before (Unwritten 8)
+  unfolding writeRefusal writeAnswer writeInto sound
+  outside x y e =
+      let f : soundSite edition years site ≡ false = rw (x, y) at e in
+      writes-site edition years site before before (Unwritten 8) (rw (x, y, f)) (rw (x, y, f))
+
+  pub room-refused : Valid edition years site → length before < length (recordOf edition site) → WritesSite edition years site before before (Unwritten 10)
   unfolding writeAnswer writeInto
   room-refused v h =
-      let l = lt-leb (length (recordOf site)) (length before) h in
-      writes-site years site before before (Unwritten 10) (rw (ten-exactly years site (length before) .1 (v, h))) (rw (v .is-sound, l))
+      let l = lt-leb (length (recordOf edition site)) (length before) h in
+      writes-site edition years site before before (Unwritten 10) (rw (ten-exactly edition years site (length before) .1 (v, h))) (rw (v .is-sound, l))
 
-  pub all-written : Valid years site → length (recordOf site) ≤ length before
-      → WritesSite years site before (sets before 0 (recordOf site)) (Written (length (recordOf site)))
+  pub all-written : Valid edition years site → length (recordOf edition site) ≤ length before
+      → WritesSite edition years site before (sets before 0 (recordOf edition site)) (Written (length (recordOf edition site)))
   unfolding writeAnswer writeInto
   all-written v h =
-      let l = le-leb (length (recordOf site)) (length before) h in
-      writes-site years site before _ (Written (length (recordOf site))) (rw (zero-exactly years site (length before) .1 (v, h)))
-      (rw (v .is-sound, l) (sets-laid (recordOf site) before h))
+      let l = le-leb (length (recordOf edition site)) (length before) h in
+      writes-site edition years site before _ (Written (length (recordOf edition site))) (rw (zero-exactly edition years site (length before) .1 (v, h)))
+      (rw (v .is-sound, l) (sets-laid (recordOf edition site) before h))

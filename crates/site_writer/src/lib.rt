@@ -51,12 +51,12 @@ fn holds_curve(entries: [Entry; SLOTS], slots: [Slot; SLOTS]) -> bool
     false
 }
 
-// The rules by which a site is written.
-fn rules_held(kind: u8, slots: [Slot; SLOTS]) -> [Rule; SLOTS]
+// The rules by which a site is written in an edition.
+fn rules_held(edition: u64, kind: u8, slots: [Slot; SLOTS]) -> [Rule; SLOTS]
     requires { ⌜ (kind ≤ lastKind) × (length slots ≡ slotCount) ⌝ }
-    ensures { λ r. ⌜ r ≡ rulesHeld kind slots ⌝ }
+    ensures { λ r. ⌜ r ≡ rulesHeld edition kind slots ⌝ }
 {
-    let entries = rules::entries_of(kind);
+    let entries = rules::entries_of(edition, kind);
     rules::settle_rules(holds_curve(entries, slots), entries)
 }
 
@@ -270,9 +270,12 @@ fn is_later_sound(years: u64, site: Site) -> bool
 }
 
 // The length of a site's record, where nothing of it is outside its range.
-pub fn measure_site(years: u64, site: Site) -> Measure
-    ensures { λ r. ⌜ r ≡ measureOf years site ⌝ }
+pub fn measure_site(edition: u64, years: u64, site: Site) -> Measure
+    ensures { λ r. ⌜ r ≡ measureOf edition years site ⌝ }
 {
+    if !rules::is_edition_known(edition) {
+        return Measure::OutsideRange;
+    }
     if !rules::are_years_known(years) {
         return Measure::OutsideRange;
     }
@@ -286,14 +289,14 @@ pub fn measure_site(years: u64, site: Site) -> Measure
     let slots = values::slots_of(site);
     let later = later_given(years, site);
     let more = 2 * (later + values::minor_later(kind, later));
-    measure_slots(rules_held(kind, slots), slots, more)
+    measure_slots(rules_held(edition, kind, slots), slots, more)
 }
 
 // Whether nothing of a site is outside its range.
-pub fn is_sound(years: u64, site: Site) -> bool
-    ensures { λ r. ⌜ r ≡ sound years site ⌝ }
+pub fn is_sound(edition: u64, years: u64, site: Site) -> bool
+    ensures { λ r. ⌜ r ≡ sound edition years site ⌝ }
 {
-    let measure = measure_site(years, site);
+    let measure = measure_site(edition, years, site);
     match measure {
         Measure::OutsideRange => false,
         Measure::Length(_) => true,
@@ -317,15 +320,15 @@ fn put_head(kind: u8, map: u16, buffer: &mut [u8])
 }
 
 // Writes the record of a valid site from the start of a buffer that has space for it, and answers its length.
-pub fn put_record(years: u64, site: Site, buffer: &mut [u8]) -> usize
-    requires { ⌜ Valid years site × (length (recordOf site) ≤ length (now buffer)) ⌝ }
-    ensures { λ r. ⌜ (r ≡ length (recordOf site)) × (now (buffer .exit) ≡ sets (now (buffer .entry)) 0 (recordOf site)) ⌝ }
+pub fn put_record(edition: u64, years: u64, site: Site, buffer: &mut [u8]) -> usize
+    requires { ⌜ Valid edition years site × (length (recordOf edition site) ≤ length (now buffer)) ⌝ }
+    ensures { λ r. ⌜ (r ≡ length (recordOf edition site)) × (now (buffer .exit) ≡ sets (now (buffer .entry)) 0 (recordOf edition site)) ⌝ }
 {
     let kind = site.kind;
     let traffic = site.later_traffic;
     let minor = site.later_minor;
     let slots = values::slots_of(site);
-    let rules = rules_held(kind, slots);
+    let rules = rules_held(edition, kind, slots);
     let later = later_given(years, site);
     put_head(
         kind,
@@ -343,21 +346,24 @@ pub fn put_record(years: u64, site: Site, buffer: &mut [u8]) -> usize
     )
 }
 
-// Writes the record of a site from the start of the buffer: its length, or document 01's 4, 8 or 10.
-pub fn write_site(years: u64, site: Site, buffer: &mut [u8]) -> WriteAnswer
-    ensures { λ r. ⌜ WritesSite years site (now (buffer .entry)) (now (buffer .exit)) r ⌝ }
+// Writes the record of a site from the start of the buffer: its length, or document 01's 3, 4, 8 or 10.
+pub fn write_site(edition: u64, years: u64, site: Site, buffer: &mut [u8]) -> WriteAnswer
+    ensures { λ r. ⌜ WritesSite edition years site (now (buffer .entry)) (now (buffer .exit)) r ⌝ }
 {
+    if !rules::is_edition_known(edition) {
+        return WriteAnswer::Unwritten(3);
+    }
     if !rules::are_years_known(years) {
         return WriteAnswer::Unwritten(4);
     }
-    let measure = measure_site(years, site);
+    let measure = measure_site(edition, years, site);
     match measure {
         Measure::OutsideRange => WriteAnswer::Unwritten(8),
         Measure::Length(n) => {
             if buffer.len() < n {
                 return WriteAnswer::Unwritten(10);
             }
-            WriteAnswer::Written(put_record(years, site, buffer))
+            WriteAnswer::Written(put_record(edition, years, site, buffer))
         }
     }
 }

@@ -82,9 +82,10 @@ module _ (numbers : List ℕ) where
   enough-numbers h kind slots p q = rw (le-leb siteNumbers (length numbers) h, p, q)
 
 -- the writer's answer for that site, told by its number and its length
-module _ (years : ℕ) (numbers before afterwards : List ℕ) (n : ℕ) (site : Site) (es : site ≡ siteFrom numbers) (answer : WriteAnswer)
-    (w : WritesSite years site before afterwards answer) where
-  pub written-numbers : (same : WriteAnswer) → answer ≡ same → WritesNumbers years numbers before afterwards n (writeLength same n) (writeNumber same)
+module _ (edition years : ℕ) (numbers before afterwards : List ℕ) (n : ℕ) (site : Site) (es : site ≡ siteFrom numbers) (answer : WriteAnswer)
+    (w : WritesSite edition years site before afterwards answer) where
+  pub written-numbers : (same : WriteAnswer) → answer ≡ same
+      → WritesNumbers edition years numbers before afterwards n (writeLength same n) (writeNumber same)
   written-numbers same e =
-      let a : same ≡ writeAnswer years (siteFrom numbers) (length before) = rw (← es) (sym e ∙ w .answer-is) in
+      let a : same ≡ writeAnswer edition years (siteFrom numbers) (length before) = rw (← es) (sym e ∙ w .answer-is) in
       record { number-is = ap writeNumber a; buffer-is = rw (← es) (w .buffer-is); length-is = ap (λ (x : WriteAnswer). writeLength x n) a }

@@ -94,10 +94,10 @@ unfolding every
 every-more [] more e f = f
 every-more (slot ∷ slots) more e f = rw (and-left (low slot) _ e) (every-more slots more (and-right (low slot) _ e) f)
 
-valid-low : (years : ℕ) (site : Site) → Valid years site → every low (allSlots site) ≡ true
-valid-low years site valid =
-    let t = tests years site valid in
-    let s = tested-rules (site .kind) (curveHeld (entriesOf (site .kind)) (slotsOf site)) (valid-kind years site valid) in
+valid-low : (edition years : ℕ) (site : Site) → Valid edition years site → every low (allSlots site) ≡ true
+valid-low edition years site valid =
+    let t = tests edition years site valid in
+    let s = tested-rules edition (site .kind) (curveHeld (entriesOf edition (site .kind)) (slotsOf site)) (valid-kind edition years site valid) in
     every-more (slotsOf site) _ (fits-low _ (slotsOf site) (t .fit) (s .tops-low) (omega (arith, s .count)))
     (every-more (laterSlots (site .«later_traffic»)) _ (later-low _ _ (t .later-traffic)) (later-low _ _ (t .later-minor)))
 
@@ -127,16 +127,17 @@ unfolding firsts
 slots-of-all kind slots e = parts-again slotCount laterYears laterYears slots e
 
 -- THE SITE THAT A RUN STARTS WITH: kind and codes of a valid site, whatever follows them, are read as that site
-pub site-read : (years : ℕ) (site : Site) (rest : List ℕ) → Valid years site → siteFrom (site .kind ∷ (map code (allSlots site) ++ rest)) ≡ site
+pub site-read : (edition years : ℕ) (site : Site) (rest : List ℕ) → Valid edition years site
+    → siteFrom (site .kind ∷ (map code (allSlots site) ++ rest)) ≡ site
 unfolding siteFrom
-site-read years site rest valid =
-    let kind = valid-kind years site valid in
+site-read edition years site rest valid =
+    let kind = valid-kind edition years site valid in
     rw (le-leb siteNumbers (length (site .kind ∷ (map code (allSlots site) ++ rest))) (omega arith), lt-ltb (site .kind) 256 (omega arith))
-    (ap (siteOfAll (site .kind)) (slots-read (allSlots site) (valid-low years site valid)))
+    (ap (siteOfAll (site .kind)) (slots-read (allSlots site) (valid-low edition years site valid)))
 
 -- the numbers of a site that is outside no range are those that it was read from
-module _ (years : ℕ) (numbers : List ℕ) (within : sound years (siteFrom numbers) ≡ true) where
-  valid : Valid years (siteFrom numbers)
+module _ (edition years : ℕ) (numbers : List ℕ) (within : sound edition years (siteFrom numbers) ≡ true) where
+  valid : Valid edition years (siteFrom numbers)
   valid = record { is-sound = within }
 
   pub enough : siteNumbers ≤ length numbers
@@ -144,7 +145,7 @@ module _ (years : ℕ) (numbers : List ℕ) (within : sound years (siteFrom numb
   enough =
       by-contra siteNumbers (length numbers) (λ h.
       let kind : siteFrom numbers .kind ≡ 255 = rw (lt-leb siteNumbers (length numbers) h) in
-      omega (arith, kind, valid-kind years (siteFrom numbers) valid))
+      omega (arith, kind, valid-kind edition years (siteFrom numbers) valid))
 
   slots-count : length (map slotFrom (slotNumbers numbers)) ≡ allCount
   slots-count = length-map (slotNumbers numbers) slotFrom ∙ length-take-le allCount (drop 1 numbers) (omega (arith, length-drop 1 numbers, enough))
@@ -160,13 +161,13 @@ module _ (years : ℕ) (numbers : List ℕ) (within : sound years (siteFrom numb
   kind-small =
       lt-of-not-le (λ h.
       let e : kindFrom (getD numbers 0 0) ≡ 255 = rw (le-ltb (getD numbers 0 0) 256 h) in
-      omega (arith, e, kind-from, valid-kind years (siteFrom numbers) valid))
+      omega (arith, e, kind-from, valid-kind edition years (siteFrom numbers) valid))
 
   slots-again : allSlots (siteFrom numbers) ≡ map slotFrom (slotNumbers numbers)
   slots-again = rw from-parts (slots-of-all (kindFrom (getD numbers 0 0)) (map slotFrom (slotNumbers numbers)) slots-count)
 
   numbers-kept : map code (map slotFrom (slotNumbers numbers)) ≡ slotNumbers numbers
-  numbers-kept = numbers-again (slotNumbers numbers) (sym (ap (every low) slots-again) ∙ valid-low years (siteFrom numbers) valid)
+  numbers-kept = numbers-again (slotNumbers numbers) (sym (ap (every low) slots-again) ∙ valid-low edition years (siteFrom numbers) valid)
 
   pub slots-small : (i : ℕ) → getD (slotNumbers numbers) i 0 ≤ 65536
   slots-small i =

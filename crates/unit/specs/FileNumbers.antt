@@ -8,7 +8,7 @@ use Rattle.laws.specs.Quotient.{quotientUp}
 use Rattle.site.specs.declared.values.Site.{Site}
 use Rattle.header.specs.declared.Header.{Header}
 use Rattle.project_writer.specs.declared.course.FileAnswer.{FileAnswer}
-use Rattle.project_writer.specs.declared.course.FileAnswer.the-variants.{Written, OutsideLimits, OutsideRange, TooShort}
+use Rattle.project_writer.specs.declared.course.FileAnswer.the-variants.{Written, EditionUnknown, OutsideLimits, OutsideRange, TooShort}
 use Rattle.project_writer.specs.ProjectFile.{fileAnswer, fileNumber, fileValue, bufferAfter}
 use Rattle.project_writer.specs.Causes.{FileCause}
 use Rattle.project_writer.specs.Promise.{WritesProject, writes-project}
@@ -49,6 +49,7 @@ module _ {header : Header} {numbers before afterwards : List ℕ} where
     where
       by : (answer : FileAnswer) → 0 ≡ fileNumber answer → n ≡ fileValue answer → Written n ≡ answer
       by (Written m) e v = ap Written v
+      by EditionUnknown e v = absurd (omega arith)
       by OutsideLimits e v = absurd (omega arith)
       by (OutsideRange index) e v = absurd (omega arith)
       by TooShort e v = absurd (omega arith)

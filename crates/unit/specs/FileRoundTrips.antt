@@ -9,7 +9,7 @@ use Rattle.laws.specs.Lent.{laidOver}
 use Rattle.site.specs.declared.values.Site.{Site}
 use Rattle.site.specs.Digits.{Bytes}
 use Rattle.header.specs.declared.Header.{Header}
-use Rattle.header.specs.Header.{headerIn, countIn, firstEdition}
+use Rattle.header.specs.Header.{headerIn, countIn}
 use Rattle.model.specs.Coefficients.{coefficientsOf}
 use Rattle.line.specs.declared.Line.{Line}
 use Rattle.line.specs.Line.{siteLine}
@@ -30,7 +30,7 @@ use Rattle.unit.specs.Given.{sitesRun, given-again}
 
 -- the lines of a header's values and a list of sites
 abbrev pub linesOf : Header → List Site → List Line
-linesOf header sites = map (siteLine (coefficientsOf firstEdition) header) sites
+linesOf header sites = map (siteLine (coefficientsOf (header .edition)) header) sites
 
 -- WHAT IS WRITTEN IS REPORTED: "accepted by the reader, where its report has space, with the same sites in the same order"
 pub record ReportedBack (header : Header) (sites : List Site) (bytes : List ℕ) (room : ℕ) : Type 0 where
@@ -46,11 +46,12 @@ module _ {header : Header} {sites : List Site} {before afterwards : List ℕ} {n
   written-reported w room space =
       rw (w .buffer-is)
       (let back = buffer-accepted header sites before n (sym (w .answer-is)) in
+      let edition = ap (λ (h : Header). h .edition) (back .header-is) in
       record {
         answer-is = rw (back .accepted, le-leb (reportLength (length sites)) room space);
         header-is = back .header-is;
         sites-are = back .sites-are;
-        lines-are = rw (back .header-is, back .sites-are);
+        lines-are = rw (back .header-is, edition, back .sites-are);
       })
 
 -- at the calls: the reader takes the bytes that the writer left, and makes the report of the sites that were given
@@ -98,4 +99,4 @@ module _ {file run report : List ℕ} {count : ℕ} (r : ReadsProject file run r
 
   -- and there are numbers that give its sites
   pub file-given : sitesGiven (sitesRun (sitesIn file)) ≡ sitesIn file
-  file-given = given-again _ (sitesIn file) (writable-sound (headerIn file) (sitesIn file) (accepted-writable file (countIn file) accepted))
+  file-given = given-again _ _ (sitesIn file) (writable-sound (headerIn file) (sitesIn file) (accepted-writable file (countIn file) accepted))

@@ -67,10 +67,10 @@ unfoldable pub sitesRun : List Site → List ℕ
 sitesRun [] = []
 sitesRun (site ∷ sites) = siteRun site ++ sitesRun sites
 
-pub given-again : (years : ℕ) (sites : List Site) → soundSites years sites ≡ length sites → sitesGiven (sitesRun sites) ≡ sites
+pub given-again : (edition years : ℕ) (sites : List Site) → soundSites edition years sites ≡ length sites → sitesGiven (sitesRun sites) ≡ sites
 unfolding sitesRun sitesGiven givenFrom
-given-again years [] e = rw (quotient-up-zero siteNumbers (omega arith))
-given-again years (site ∷ sites) e =
-    let all = all-sound years site sites e in
+given-again edition years [] e = rw (quotient-up-zero siteNumbers (omega arith))
+given-again edition years (site ∷ sites) e =
+    let all = all-sound edition years site sites e in
     let rest = sitesRun sites in
-    given-more (siteRun site) rest refl ∙ rw (site-read years site rest (all .0), given-again years sites (all .1))
+    given-more (siteRun site) rest refl ∙ rw (site-read edition years site rest (all .0), given-again edition years sites (all .1))

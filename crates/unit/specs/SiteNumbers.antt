@@ -66,13 +66,13 @@ unfoldable pub siteFrom : List ℕ → Site
 siteFrom numbers =
     cond (leb siteNumbers (length numbers)) (siteOfAll (kindFrom (getD numbers 0 0)) (map slotFrom (slotNumbers numbers))) (siteOfAll 255 [])
 
--- a site read into a lent run of numbers, in a project of so many years: the number, and the run afterwards
-abbrev pub ReadsNumbers : (years : ℕ) (part before afterwards : List ℕ) (number : ℕ) → Type 0
-ReadsNumbers years part before afterwards number =
-    LendsValues (readNumber (readSite years part)) (readValues (readSite years part)) before afterwards number
+-- a site read into a lent run of numbers, in a project of an edition and of so many years: the number, and the run afterwards
+abbrev pub ReadsNumbers : (edition years : ℕ) (part before afterwards : List ℕ) (number : ℕ) → Type 0
+ReadsNumbers edition years part before afterwards number =
+    LendsValues (readNumber (readSite edition years part)) (readValues (readSite edition years part)) before afterwards number
 
 -- a site written from a lent run of numbers: the number, the buffer and the record's length afterwards
-pub record WritesNumbers (years : ℕ) (numbers before afterwards : List ℕ) (length-before length-after number : ℕ) : Type 0 where
-  pub number-is : number ≡ writeNumber (writeAnswer years (siteFrom numbers) (length before))
-  pub buffer-is : afterwards ≡ writeInto years (siteFrom numbers) before
-  pub length-is : length-after ≡ writeLength (writeAnswer years (siteFrom numbers) (length before)) length-before
+pub record WritesNumbers (edition years : ℕ) (numbers before afterwards : List ℕ) (length-before length-after number : ℕ) : Type 0 where
+  pub number-is : number ≡ writeNumber (writeAnswer edition years (siteFrom numbers) (length before))
+  pub buffer-is : afterwards ≡ writeInto edition years (siteFrom numbers) before
+  pub length-is : length-after ≡ writeLength (writeAnswer edition years (siteFrom numbers) (length before)) length-before

@@ -62,14 +62,14 @@ fn put_site(site: Site, n: usize, values: &mut [u64])
     values[SITE_NUMBERS] = n as u64;
 }
 
-// Reads the record that a part starts with, in a project of so many years: 0, with the site in values[0] to values[38], the
-// record's length in values[39] and the rest of values as it was; or 4 where years is outside its limits, or 1 or 5 to 9, then 10
-// where values has fewer than 40 numbers, and values as it was.
+// Reads the record that a part starts with, in a project of an edition and of so many years: 0, with the site in values[0] to
+// values[38], the record's length in values[39] and the rest of values as it was; or 3 where there is no such edition, then 4 where
+// years is outside its limits, or 1 or 5 to 9, then 10 where values has fewer than 40 numbers, and values as it was.
 #[no_mangle]
-pub extern "C" fn crash_site_read(years: u64, part: &[u8], values: &mut [u64]) -> u64
-    ensures { λ r. ⌜ ReadsNumbers years (now (part .entry)) (now (values .entry)) (now (values .exit)) r ⌝ }
+pub extern "C" fn crash_site_read(edition: u64, years: u64, part: &[u8], values: &mut [u64]) -> u64
+    ensures { λ r. ⌜ ReadsNumbers edition years (now (part .entry)) (now (values .entry)) (now (values .exit)) r ⌝ }
 {
-    let answer = site_reader::read_site(years, part);
+    let answer = site_reader::read_site(edition, years, part);
     match answer {
         SiteAnswer::Refused(number) => number as u64,
         SiteAnswer::Read(site, n) => {
@@ -130,20 +130,22 @@ pub fn site_from(values: &[u64]) -> Site
     site_of_all(kind, slots_from(&values[1..SITE_NUMBERS]))
 }
 
-// Writes the record of a site from the start of the buffer, in a project of so many years: 0, with the record's length in written
-// and the rest of the buffer as it was; or 4 where years is outside its limits, then 8 where the site is outside its range, then
-// 10 where the buffer is shorter than the record, and buffer and written as they were. The site is the first 39 numbers of values,
-// and what follows them bears on nothing; fewer numbers, a kind above 255 or a slot above 65,536 are outside their range: 8.
+// Writes the record of a site from the start of the buffer, in a project of an edition and of so many years: 0, with the record's
+// length in written and the rest of the buffer as it was; or 3 where there is no such edition, then 4 where years is outside its
+// limits, then 8 where the site is outside its range, then 10 where the buffer is shorter than the record, and buffer and written as
+// they were. The site is the first 39 numbers of values, and what follows them bears on nothing; fewer numbers, a kind above 255 or a
+// slot above 65,536 are outside their range: 8.
 #[no_mangle]
 pub extern "C" fn crash_site_write(
+    edition: u64,
     years: u64,
     values: &[u64],
     buffer: &mut [u8],
     written: &mut u64,
 ) -> u64
-    ensures { λ r. ⌜ WritesNumbers years (now (values .entry)) (now (buffer .entry)) (now (buffer .exit)) (now (written .entry)) (now (written .exit)) r ⌝ }
+    ensures { λ r. ⌜ WritesNumbers edition years (now (values .entry)) (now (buffer .entry)) (now (buffer .exit)) (now (written .entry)) (now (written .exit)) r ⌝ }
 {
-    let answer = site_writer::write_site(years, site_from(values), buffer);
+    let answer = site_writer::write_site(edition, years, site_from(values), buffer);
     match answer {
         WriteAnswer::Unwritten(number) => number as u64,
         WriteAnswer::Written(n) => {

@@ -13,12 +13,12 @@ struct balls {
     arf_t end;
 };
 
-static void balls_init(struct balls *b)
+static void balls_init(struct balls *b, const struct header *header)
 {
     for (int rating = 1; rating <= HAZARD_RATINGS; rating++) {
         arb_ptr hazard = b->hazard[rating - 1];
         arb_init(hazard);
-        arb_set_si(hazard, hazard_exponent(rating));
+        arb_set_si(hazard, hazard_exponent(header, rating));
         arb_div_ui(hazard, hazard, 10000, PRECISION);
         arb_exp(hazard, hazard, PRECISION);
     }
@@ -45,17 +45,17 @@ static void set_product(arb_t ball, const struct product *product)
         arb_mul_ui(ball, ball, product->part[i], PRECISION);
 }
 
-/* (0.2 + c DD) / (0.2 + 5c) is (40 + 10 DD - DD ln A) / (90 - 5 ln A), and 1 at five driveways. */
-static void times_driveways(struct balls *b, const struct site *site)
+/* (0.2 + c DD) / (0.2 + 5c) is (200 + 50 DD - 5 DD ln A) / (450 - 25 ln A), with the edition's number for 200. */
+static void times_driveways(struct balls *b, const struct edition *edition, const struct site *site)
 {
-    if (site->driveways == 5)
+    if (is_plain_access(edition, site))
         return;
     arb_log_ui(b->log, site->traffic, PRECISION);
-    arb_mul_si(b->part, b->log, -(slong)site->driveways, PRECISION);
-    arb_add_ui(b->part, b->part, 40 + 10 * site->driveways, PRECISION);
+    arb_mul_si(b->part, b->log, -5 * (slong)site->driveways, PRECISION);
+    arb_add_ui(b->part, b->part, edition->driveways + 50 * site->driveways, PRECISION);
     arb_mul(b->over, b->over, b->part, PRECISION);
-    arb_mul_si(b->part, b->log, -5, PRECISION);
-    arb_add_ui(b->part, b->part, 90, PRECISION);
+    arb_mul_si(b->part, b->log, -25, PRECISION);
+    arb_add_ui(b->part, b->part, edition->driveways + 250, PRECISION);
     arb_mul(b->under, b->under, b->part, PRECISION);
 }
 
@@ -65,20 +65,20 @@ static void predict_segment(struct balls *b, const struct header *header, const 
     set_product(b->over, &exact.over);
     set_product(b->under, &exact.under);
     arb_mul(b->over, b->over, b->hazard[site->hazard_rating - 1], PRECISION);
-    times_driveways(b, site);
+    times_driveways(b, edition_of(header), site);
     arb_div(b->predicted, b->over, b->under, PRECISION);
 }
 
 /* The two powers and the exponentials are one exponential. */
 static void predict_crossing(struct balls *b, const struct header *header, const struct site *site)
 {
-    const struct crossing *crossing = crossing_of(site);
+    const struct crossing *crossing = crossing_of(header, site);
     struct exact exact = crossing_exact(header, site);
     arb_log_ui(b->log, site->traffic, PRECISION);
     arb_mul_ui(b->part, b->log, crossing->major, PRECISION);
     arb_log_ui(b->log, site->minor_traffic, PRECISION);
     arb_addmul_ui(b->part, b->log, crossing->minor, PRECISION);
-    arb_add_si(b->part, b->part, crossing_exponent(site), PRECISION);
+    arb_add_si(b->part, b->part, crossing_exponent(crossing, site), PRECISION);
     arb_div_ui(b->part, b->part, 10000, PRECISION);
     arb_exp(b->part, b->part, PRECISION);
     set_product(b->over, &exact.over);
@@ -113,16 +113,16 @@ static void predict(struct balls *b, const struct header *header, const struct s
     arb_set(b->predicted, b->sum);
 }
 
-static void expect(struct balls *b, const struct site *site)
+static void expect(struct balls *b, const struct header *header, const struct site *site)
 {
-    uint64_t k = K[site->kind];
+    struct overdispersion k = overdispersion_of(header, site);
     if (site->observed == ABSENT) {
         arb_set(b->expected, b->predicted);
         return;
     }
-    arb_mul_ui(b->under, b->predicted, k, PRECISION);
-    arb_add_ui(b->under, b->under, 100, PRECISION);
-    arb_mul_ui(b->over, b->predicted, 100 + k * site->observed, PRECISION);
+    arb_mul_ui(b->under, b->predicted, k.over, PRECISION);
+    arb_add_ui(b->under, b->under, k.under, PRECISION);
+    arb_mul_ui(b->over, b->predicted, k.under + k.over * site->observed, PRECISION);
     arb_div(b->expected, b->over, b->under, PRECISION);
 }
 
@@ -140,10 +140,10 @@ static void ends_of(struct balls *b, double *ends, const arb_t ball)
 void arb_lines(const struct header *header, const struct site *sites, size_t n, double (*ends)[4])
 {
     struct balls balls;
-    balls_init(&balls);
+    balls_init(&balls, header);
     for (size_t i = 0; i < n; i++) {
         predict(&balls, header, &sites[i]);
-        expect(&balls, &sites[i]);
+        expect(&balls, header, &sites[i]);
         if (ends) {
             ends_of(&balls, &ends[i][0], balls.predicted);
             ends_of(&balls, &ends[i][2], balls.expected);

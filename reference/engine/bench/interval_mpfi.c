@@ -9,12 +9,12 @@ struct intervals {
     mpfr_t end;
 };
 
-static void intervals_init(struct intervals *v)
+static void intervals_init(struct intervals *v, const struct header *header)
 {
     for (int rating = 1; rating <= HAZARD_RATINGS; rating++) {
         mpfi_ptr hazard = v->hazard[rating - 1];
         mpfi_init2(hazard, PRECISION);
-        mpfi_set_si(hazard, hazard_exponent(rating));
+        mpfi_set_si(hazard, hazard_exponent(header, rating));
         mpfi_div_ui(hazard, hazard, 10000);
         mpfi_exp(hazard, hazard);
     }
@@ -47,17 +47,17 @@ static void log_of(mpfi_t interval, uint64_t whole)
     mpfi_log(interval, interval);
 }
 
-/* (0.2 + c DD) / (0.2 + 5c) is (40 + 10 DD - DD ln A) / (90 - 5 ln A), and 1 at five driveways. */
-static void times_driveways(struct intervals *v, const struct site *site)
+/* (0.2 + c DD) / (0.2 + 5c) is (200 + 50 DD - 5 DD ln A) / (450 - 25 ln A), with the edition's number for 200. */
+static void times_driveways(struct intervals *v, const struct edition *edition, const struct site *site)
 {
-    if (site->driveways == 5)
+    if (is_plain_access(edition, site))
         return;
     log_of(v->log, site->traffic);
-    mpfi_mul_ui(v->part, v->log, site->driveways);
-    mpfi_ui_sub(v->part, 40 + 10 * site->driveways, v->part);
+    mpfi_mul_ui(v->part, v->log, 5 * site->driveways);
+    mpfi_ui_sub(v->part, edition->driveways + 50 * site->driveways, v->part);
     mpfi_mul(v->over, v->over, v->part);
-    mpfi_mul_ui(v->part, v->log, 5);
-    mpfi_ui_sub(v->part, 90, v->part);
+    mpfi_mul_ui(v->part, v->log, 25);
+    mpfi_ui_sub(v->part, edition->driveways + 250, v->part);
     mpfi_mul(v->under, v->under, v->part);
 }
 
@@ -67,21 +67,21 @@ static void predict_segment(struct intervals *v, const struct header *header, co
     set_product(v->over, &exact.over);
     set_product(v->under, &exact.under);
     mpfi_mul(v->over, v->over, v->hazard[site->hazard_rating - 1]);
-    times_driveways(v, site);
+    times_driveways(v, edition_of(header), site);
     mpfi_div(v->predicted, v->over, v->under);
 }
 
 /* The two powers and the exponentials are one exponential. */
 static void predict_crossing(struct intervals *v, const struct header *header, const struct site *site)
 {
-    const struct crossing *crossing = crossing_of(site);
+    const struct crossing *crossing = crossing_of(header, site);
     struct exact exact = crossing_exact(header, site);
     log_of(v->part, site->traffic);
     mpfi_mul_ui(v->part, v->part, crossing->major);
     log_of(v->log, site->minor_traffic);
     mpfi_mul_ui(v->log, v->log, crossing->minor);
     mpfi_add(v->part, v->part, v->log);
-    mpfi_add_si(v->part, v->part, crossing_exponent(site));
+    mpfi_add_si(v->part, v->part, crossing_exponent(crossing, site));
     mpfi_div_ui(v->part, v->part, 10000);
     mpfi_exp(v->part, v->part);
     set_product(v->over, &exact.over);
@@ -116,16 +116,16 @@ static void predict(struct intervals *v, const struct header *header, const stru
     mpfi_set(v->predicted, v->sum);
 }
 
-static void expect(struct intervals *v, const struct site *site)
+static void expect(struct intervals *v, const struct header *header, const struct site *site)
 {
-    uint64_t k = K[site->kind];
+    struct overdispersion k = overdispersion_of(header, site);
     if (site->observed == ABSENT) {
         mpfi_set(v->expected, v->predicted);
         return;
     }
-    mpfi_mul_ui(v->under, v->predicted, k);
-    mpfi_add_ui(v->under, v->under, 100);
-    mpfi_mul_ui(v->over, v->predicted, 100 + k * site->observed);
+    mpfi_mul_ui(v->under, v->predicted, k.over);
+    mpfi_add_ui(v->under, v->under, k.under);
+    mpfi_mul_ui(v->over, v->predicted, k.under + k.over * site->observed);
     mpfi_div(v->expected, v->over, v->under);
 }
 
@@ -143,10 +143,10 @@ static void ends_of(struct intervals *v, double *ends, mpfi_srcptr interval)
 void mpfi_lines(const struct header *header, const struct site *sites, size_t n, double (*ends)[4])
 {
     struct intervals intervals;
-    intervals_init(&intervals);
+    intervals_init(&intervals, header);
     for (size_t i = 0; i < n; i++) {
         predict(&intervals, header, &sites[i]);
-        expect(&intervals, &sites[i]);
+        expect(&intervals, header, &sites[i]);
         if (ends) {
             ends_of(&intervals, &ends[i][0], intervals.predicted);
             ends_of(&intervals, &ends[i][2], intervals.expected);

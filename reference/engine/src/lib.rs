@@ -18,6 +18,7 @@ extern "C" {
 
 /// The numbers of a call that lends a bracket or a line.
 pub const DONE: u64 = 0;
+pub const NO_EDITION: u64 = 3;
 pub const OUTSIDE_LIMITS: u64 = 4;
 pub const OUT_OF_RANGE: u64 = 8;
 pub const TOO_SHORT: u64 = 10;

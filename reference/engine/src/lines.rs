@@ -7,6 +7,7 @@ use reference::record::Site;
 
 extern "C" {
     fn crash_line(
+        edition: u64,
         years: u64,
         segments: u64,
         crossings: u64,
@@ -18,12 +19,13 @@ extern "C" {
 }
 
 /// The number of the line's call, which writes to the start of `line`. The
-/// header is its years, segment calibration and crossing calibration.
-pub fn line_into(header: [u64; 3], values: &[u64], line: &mut [u64]) -> u64 {
-    let [years, segments, crossings] = header;
+/// header is its edition, years, segment calibration and crossing calibration.
+pub fn line_into(header: [u64; 4], values: &[u64], line: &mut [u64]) -> u64 {
+    let [edition, years, segments, crossings] = header;
     // SAFETY: each pointer and length are those of one slice.
     unsafe {
         crash_line(
+            edition,
             years,
             segments,
             crossings,

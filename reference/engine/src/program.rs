@@ -3,8 +3,8 @@
 
 use reference::lines;
 use reference::project::{encode_header, Header};
-use reference::record::{write_site, Site};
-use reference::rules::EDITION;
+use reference::record::Site;
+use reference::rules::EDITION_ONE;
 use std::io::Write;
 use std::process::{Command, Stdio};
 
@@ -29,25 +29,36 @@ pub enum Job {
 
 pub const JOBS: usize = Job::Records as usize + 1;
 
-/// The header of its rounds.
-pub const ROUNDS_HEADER: Header = Header {
-    edition: EDITION,
-    years: 5,
-    segment_calibration: 1_100,
-    crossing_calibration: 900,
-};
+/// The bytes of its input before the records: a count for each job, and the
+/// edition of the records.
+pub const ROUNDS_HEAD: usize = 2 * (JOBS + 1);
+
+/// The header of its rounds over an edition's records.
+pub fn rounds_header(edition: u8) -> Header {
+    Header {
+        edition,
+        years: 5,
+        segment_calibration: 1_100,
+        crossing_calibration: 900,
+    }
+}
 
 /// The input of `rounds`: the rounds of the jobs that are asked for, and the
-/// records.
-pub fn rounds_of(asked: &[(Job, u16)], sites: &[Site]) -> Vec<u8> {
+/// records of an edition.
+pub fn rounds_of(asked: &[(Job, u16)], edition: u8, sites: &[Site]) -> Vec<u8> {
     let mut counts = [0; JOBS];
     for (job, rounds) in asked {
         counts[*job as usize] = *rounds;
     }
-    let mut input: Vec<u8> = counts.into_iter().flat_map(u16::to_be_bytes).collect();
-    let years = ROUNDS_HEADER.years.into();
+    let numbers = counts.into_iter().chain([edition.into()]);
+    let mut input: Vec<u8> = numbers.flat_map(u16::to_be_bytes).collect();
+    let header = rounds_header(edition);
     for site in sites {
-        input.extend(write_site(years, site, usize::MAX).expect("a site that the writer takes"));
+        input.extend(
+            header
+                .write_site(site)
+                .expect("a site that the writer takes"),
+        );
     }
     input
 }
@@ -67,9 +78,8 @@ pub fn rounds(input: &[u8]) -> String {
     String::from_utf8(output.stdout).expect("text")
 }
 
-/// A header at its upper limits.
-const HEAD: &str = "edition 1
-    years 10
+/// A header at its upper limits, after its edition.
+const HEAD: &str = "years 10
     segment-calibration 9999
     crossing-calibration 9999
     ";
@@ -77,30 +87,37 @@ const HEAD: &str = "edition 1
 /// A site with the longest record: every field, and both traffics year by year.
 const FULL: &str = "4st traffic 19999,257,2001,4999,401,9999,14999,255,1999,17999 \
     minor-traffic 19999,399,255,17999,257,2001,4999,14999,9999,401 observed 500 skew 59 \
-    left-turn-lanes 1 right-turn-lanes 1 limited-quadrants 3";
+    left-turn-lanes 1 right-turn-lanes 1";
+
+/// The field that edition 1 alone has beside them.
+const FULL_SIGHT: &str = " limited-quadrants 3";
 
 /// A site with the most crashes, and without a history, so that all four of its
 /// numbers have as many digits as any.
 const WORST: &str = "segment traffic 20000 length 20000 lane 8 shoulder 0 curve-length 1 \
     radius 100 deficiency 100 grade 12 driveways 50 hazard-rating 7";
 
-/// The file of so many sites like this one, even of more than a project may
-/// have.
-fn repeated(site: &str, sites: usize) -> Vec<u8> {
-    let project = lines::parse(&format!("{HEAD}{site}")).expect("a project's lines");
-    let years = project.header.years.into();
-    let record = write_site(years, &project.sites[0], usize::MAX);
+/// An edition's file of so many sites like this one, even of more than a project
+/// may have.
+fn repeated(edition: u8, site: &str, sites: usize) -> Vec<u8> {
+    let project = lines::parse(&format!("edition {edition}\n{HEAD}{site}"));
+    let project = project.expect("a project's lines");
+    let record = project.header.write_site(&project.sites[0]);
     let record = record.expect("a site that the writer takes");
     let count = u16::try_from(sites).expect("a count of two bytes");
     [encode_header(&project.header, count), record.repeat(sites)].concat()
 }
 
-/// The longest file of so many sites.
-pub fn full_project(sites: usize) -> Vec<u8> {
-    repeated(FULL, sites)
+/// An edition's longest file of so many sites; edition 1's are the longest.
+pub fn full_project(edition: u8, sites: usize) -> Vec<u8> {
+    if edition == EDITION_ONE {
+        repeated(edition, &format!("{FULL}{FULL_SIGHT}"), sites)
+    } else {
+        repeated(edition, FULL, sites)
+    }
 }
 
-/// A file of so many sites with the longest report.
-pub fn longest_report(sites: usize) -> Vec<u8> {
-    repeated(WORST, sites)
+/// An edition's file of so many sites with the longest report.
+pub fn longest_report(edition: u8, sites: usize) -> Vec<u8> {
+    repeated(edition, WORST, sites)
 }

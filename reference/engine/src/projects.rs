@@ -12,6 +12,7 @@ extern "C" {
         value: *mut u64,
     ) -> u64;
     fn crash_project_write(
+        edition: u64,
         years: u64,
         segments: u64,
         crossings: u64,
@@ -57,15 +58,16 @@ pub fn project_into(file: &[u8], report: &mut [u64]) -> Result<usize, Refusal> {
 
 /// Writes a file to the start of `buffer`: the count of bytes written, or the
 /// refusal, whose place is a site's index where a site is refused. The header is
-/// its years, segment calibration and crossing calibration, and `sites` the
-/// numbers of each site in turn.
-pub fn file_into(header: [u64; 3], sites: &[u64], buffer: &mut [u8]) -> Result<usize, Refusal> {
-    let [years, segments, crossings] = header;
+/// its edition, years, segment calibration and crossing calibration, and `sites`
+/// the numbers of each site in turn.
+pub fn file_into(header: [u64; 4], sites: &[u64], buffer: &mut [u8]) -> Result<usize, Refusal> {
+    let [edition, years, segments, crossings] = header;
     let mut value = UNWRITTEN;
     // SAFETY: each pointer and length are those of one slice, and `value` is
     // one number.
     let number = unsafe {
         crash_project_write(
+            edition,
             years,
             segments,
             crossings,
@@ -81,7 +83,7 @@ pub fn file_into(header: [u64; 3], sites: &[u64], buffer: &mut [u8]) -> Result<u
 
 /// The file of a header's numbers and sites' numbers, in a buffer of `room`
 /// bytes. No two neighbours among the bytes that a call has to leave are alike.
-pub fn write_file(header: [u64; 3], sites: &[u64], room: usize) -> Result<Vec<u8>, Refusal> {
+pub fn write_file(header: [u64; 4], sites: &[u64], room: usize) -> Result<Vec<u8>, Refusal> {
     let before: Vec<u8> = (0..room).map(|at| (at * 151 + 0xA5) as u8).collect();
     let mut buffer = before.clone();
     let answer = file_into(header, sites, &mut buffer);

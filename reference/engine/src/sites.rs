@@ -5,6 +5,7 @@ use reference::rules::{Field, LATER_YEARS, TRAFFIC_FIELDS};
 
 extern "C" {
     fn crash_site_read(
+        edition: u64,
         years: u64,
         part: *const u8,
         part_len: usize,
@@ -12,6 +13,7 @@ extern "C" {
         values_len: usize,
     ) -> u64;
     fn crash_site_write(
+        edition: u64,
         years: u64,
         values: *const u64,
         values_len: usize,
@@ -90,10 +92,11 @@ fn site_of(numbers: &[u64]) -> Site {
 }
 
 /// The number of the reader's call, which writes to the start of `values`.
-pub fn read_into(years: u64, part: &[u8], values: &mut [u64]) -> u64 {
+pub fn read_into(edition: u64, years: u64, part: &[u8], values: &mut [u64]) -> u64 {
     // SAFETY: each pointer and length are those of one slice.
     unsafe {
         crash_site_read(
+            edition,
             years,
             part.as_ptr(),
             part.len(),
@@ -104,10 +107,10 @@ pub fn read_into(years: u64, part: &[u8], values: &mut [u64]) -> u64 {
 }
 
 /// The site and the record's length, or the number of the refusal.
-pub fn read_site(years: u64, part: &[u8]) -> Result<(Site, usize), u8> {
+pub fn read_site(edition: u64, years: u64, part: &[u8]) -> Result<(Site, usize), u8> {
     const UNTOUCHED: [u64; READ_NUMBERS + 1] = [u64::MAX; READ_NUMBERS + 1];
     let mut values = UNTOUCHED;
-    let number = read_into(years, part, &mut values);
+    let number = read_into(edition, years, part, &mut values);
     assert_eq!(values[READ_NUMBERS], u64::MAX, "the rest stays as it was");
     if number == 0 {
         let (site, length) = values.split_at(SITE_NUMBERS);
@@ -118,13 +121,19 @@ pub fn read_site(years: u64, part: &[u8]) -> Result<(Site, usize), u8> {
 }
 
 /// The record of a run of numbers in a buffer of `room` bytes.
-pub fn write_numbers(years: u64, numbers: &[u64], room: usize) -> Result<Vec<u8>, u8> {
+pub fn write_numbers(
+    edition: u64,
+    years: u64,
+    numbers: &[u64],
+    room: usize,
+) -> Result<Vec<u8>, u8> {
     let mut buffer = vec![UNTOUCHED; room];
     let mut written = u64::MAX;
     // SAFETY: each pointer and length are those of one slice, and `written`
     // is one number.
     let number = unsafe {
         crash_site_write(
+            edition,
             years,
             numbers.as_ptr(),
             numbers.len(),
@@ -144,6 +153,6 @@ pub fn write_numbers(years: u64, numbers: &[u64], room: usize) -> Result<Vec<u8>
 }
 
 /// The record of a site in a buffer of `room` bytes.
-pub fn write_site(years: u64, site: &Site, room: usize) -> Result<Vec<u8>, u8> {
-    write_numbers(years, &numbers_of(site), room)
+pub fn write_site(edition: u64, years: u64, site: &Site, room: usize) -> Result<Vec<u8>, u8> {
+    write_numbers(edition, years, &numbers_of(site), room)
 }

@@ -5,6 +5,7 @@ use engine::program::{rounds, rounds_of, Job};
 use engine::{power_into, Bracket, EXPONENTIAL_PARTS, LOGARITHM_PARTS, POWER_PARTS};
 use reference::estimates::{self, Estimates};
 use reference::rational::Rational;
+use reference::rules::EDITION_ONE;
 
 /// The exponents that the engine stores, in hundredths.
 const EXPONENTS: [u64; 5] = [79, 49, 60, 61, 20];
@@ -84,7 +85,7 @@ fn both_forms_of_a_power_have_the_ends_of_the_call() {
     }
     let printed = format!("{}\n0\n", sum % (1 << 32));
     for form in [Job::Powers, Job::PowersByEnds] {
-        assert_eq!(rounds(&rounds_of(&[(form, 1)], &[])), printed);
+        assert_eq!(rounds(&rounds_of(&[(form, 1)], EDITION_ONE, &[])), printed);
     }
 }
 

@@ -1,11 +1,11 @@
 //! The C example, compiled against the header and the archive, prints the demo
-//! corridor's report, and refusals as the program does, and finds each file
+//! corridor's report by each edition, and refusals as the program does, and finds each file
 //! again that it writes from a file's sites.
 
 use engine::program::full_project;
 use engine::projects::project_into;
 use reference::report::print_report;
-use reference::rules::MOST_SITES;
+use reference::rules::{EDITIONS, MOST_SITES};
 use std::fs;
 use std::path::{Path, PathBuf};
 use std::process::Command;
@@ -49,13 +49,12 @@ fn printed(program: &Path, project: &Path) -> String {
 
 #[test]
 fn demo_corridor() {
-    let report =
-        fs::read_to_string(root().join("demo/corridor.report")).expect("the stored report");
     let program = compiled("corridor");
-    assert_eq!(
-        printed(&program, &root().join("demo/corridor.project")),
-        report
-    );
+    for name in ["corridor", "corridor_manual"] {
+        let file = |kind: &str| root().join("demo").join(name).with_extension(kind);
+        let report = fs::read_to_string(file("report")).expect("the stored report");
+        assert_eq!(printed(&program, &file("project")), report, "{name}");
+    }
 }
 
 /// A project file of the tests' own.
@@ -67,18 +66,20 @@ fn stored(name: &str, bytes: &[u8]) -> PathBuf {
 
 #[test]
 fn refused_file() {
-    let project = stored("refused.project", &[2, 1, 0, 1, 0, 1, 0, 0]);
+    let project = stored("refused.project", &[3, 1, 0, 1, 0, 1, 0, 0]);
     assert_eq!(printed(&compiled("refused"), &project), "refused 3 at 0\n");
 }
 
 #[test]
 fn surveys_of_no_site_and_of_the_most() {
     let program = compiled("surveys");
-    for sites in [0, 1, MOST_SITES] {
-        let file = full_project(sites);
-        let mut report = vec![0; 4 * (sites + 1)];
-        assert_eq!(project_into(&file, &mut report), Ok(report.len()));
-        let project = stored("survey.project", &file);
-        assert_eq!(printed(&program, &project), print_report(&report));
+    for edition in EDITIONS {
+        for sites in [0, 1, MOST_SITES] {
+            let file = full_project(edition, sites);
+            let mut report = vec![0; 4 * (sites + 1)];
+            assert_eq!(project_into(&file, &mut report), Ok(report.len()));
+            let project = stored("survey.project", &file);
+            assert_eq!(printed(&program, &project), print_report(&report));
+        }
     }
 }

@@ -9,7 +9,7 @@ use engine::sites::{read_into, write_numbers};
 use engine::{power_into, DONE, EXPONENTIAL_PARTS, LOGARITHM_PARTS, POWER_PARTS, TOO_SHORT};
 use reference::checker::{EXPECTED_EACH, PREDICTED_EACH, WIDTH_PARTS};
 use reference::record::{cause, Refusal};
-use reference::rules::{MOST_SITES, MOST_YEARS};
+use reference::rules::{EDITIONS, EDITION_ONE, LAST_EDITION, MOST_SITES, MOST_YEARS};
 use std::collections::BTreeMap;
 use std::fs;
 use std::path::{Path, PathBuf};
@@ -155,7 +155,7 @@ fn sizes_of_a_project_are_the_engines() {
     let names = names_in_c("names_project");
     let size = |name: &str| names[name] as usize;
     assert_eq!(size("CRASH_MOST_SITES"), MOST_SITES);
-    let file = full_project(MOST_SITES);
+    let file = full_project(EDITION_ONE, MOST_SITES);
     assert_eq!(file.len(), size("CRASH_LONGEST_FILE"));
     let mut report = vec![0; size("CRASH_LONGEST_REPORT")];
     let short = report.len() - 1;
@@ -164,7 +164,8 @@ fn sizes_of_a_project_are_the_engines() {
     assert_eq!(refused, Err(cause::TOO_SHORT));
     assert_eq!(project_into(&file, &mut report), Ok(report.len()));
     // One site more is outside the limits.
-    let refused = project_into(&full_project(MOST_SITES + 1), &mut report).map_err(number);
+    let refused =
+        project_into(&full_project(EDITION_ONE, MOST_SITES + 1), &mut report).map_err(number);
     assert_eq!(refused, Err(cause::HEADER_LIMITS));
 }
 
@@ -175,20 +176,21 @@ fn sizes_of_a_site_are_the_engines() {
     let size = |name: &str| names[name] as usize;
     let years = names["CRASH_MOST_YEARS"];
     assert_eq!(years, MOST_YEARS.into());
-    let record = full_project(1).split_off(size("CRASH_HEADER_BYTES"));
+    let one = names["CRASH_FIRST_EDITION"];
+    let record = full_project(EDITION_ONE, 1).split_off(size("CRASH_HEADER_BYTES"));
     assert_eq!(record.len(), size("CRASH_LONGEST_RECORD"));
     let mut values = vec![0; size("CRASH_READ_NUMBERS")];
     let short = values.len() - 1;
-    assert_eq!(read_into(years, &record, &mut values[..short]), TOO_SHORT);
-    assert_eq!(read_into(years, &record, &mut values), DONE);
+    let mut read = |room: usize| read_into(one, years, &record, &mut values[..room]);
+    assert_eq!((read(short), read(short + 1)), (TOO_SHORT, DONE));
     let site = &values[..size("CRASH_SITE_NUMBERS")];
     assert_eq!(values[site.len()..], [record.len() as u64]);
-    assert_eq!(write_numbers(years, site, record.len()), Ok(record.clone()));
-    let refused = write_numbers(years, site, record.len() - 1);
-    assert_eq!(refused, Err(cause::TOO_SHORT));
+    let written = |room: usize| write_numbers(one, years, site, room);
+    assert_eq!(written(record.len()), Ok(record.clone()));
+    assert_eq!(written(record.len() - 1), Err(cause::TOO_SHORT));
     let mut line = vec![0; size("CRASH_LINE_NUMBERS")];
     let short = line.len() - 1;
-    let header = [years, 1_000, 1_000];
+    let header = [one, years, 1_000, 1_000];
     assert_eq!(line_into(header, site, &mut line[..short]), TOO_SHORT);
     assert_eq!(line_into(header, site, &mut line), DONE);
     let mut ends = vec![0; size("CRASH_BRACKET_NUMBERS")];
@@ -201,6 +203,21 @@ fn sizes_of_a_site_are_the_engines() {
     let years = site.len() - 2 * later..site.len();
     assert_eq!(later + 1, size("CRASH_MOST_YEARS"));
     assert!(site[years].iter().all(|number| *number <= 20_000));
+}
+
+/// The header's editions are those that a file may have.
+#[test]
+fn editions_are_the_engines() {
+    let names = names_in_c("names_editions");
+    let editions = names["CRASH_FIRST_EDITION"]..=names["CRASH_LAST_EDITION"];
+    assert_eq!(editions, EDITION_ONE.into()..=LAST_EDITION.into());
+    for edition in 0..=u8::MAX {
+        let file = [edition, 1, 0, 1, 0, 1, 0, 0];
+        let answer = project_into(&file, &mut [0; 4]);
+        let refusal = Refusal::of(cause::EDITION, 0);
+        let is_taken = editions.contains(&edition.into());
+        assert_eq!(answer.err(), (!is_taken).then_some(refusal), "{edition}");
+    }
 }
 
 /// The number of a definition: `NAME = 4` or `NAME = 10 ^ 8`.
@@ -254,12 +271,15 @@ fn answers_are_as_the_header_says() {
 #[test]
 fn stack_suffices_for_every_call() {
     let program = compiled("cc", &["-std=c11", "-O2"], &c_file("stack.c"), "stack");
-    let longest = own("stack.project");
-    fs::write(&longest, full_project(MOST_SITES)).expect("a file is written");
     let mut command = Command::new(program);
     command
         .arg(root().join("demo/corridor.project"))
-        .arg(longest);
+        .arg(root().join("demo/corridor_manual.project"));
+    for edition in EDITIONS {
+        let longest = own(&format!("stack{edition}.project"));
+        fs::write(&longest, full_project(edition, MOST_SITES)).expect("a file is written");
+        command.arg(longest);
+    }
     let needed = numbers(&printed(&mut command));
     let suffices = names_in_c("names_stack")["CRASH_STACK"];
     assert_eq!(needed.len(), CALLS, "{needed:?}");

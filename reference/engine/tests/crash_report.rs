@@ -5,7 +5,7 @@ use engine::program::{full_project, longest_report, CRASH_REPORT};
 use reference::lines;
 use reference::program::{check, judge, run, DEPTHS};
 use reference::project::{HEADER, LONGEST_FILE};
-use reference::rules::MOST_SITES;
+use reference::rules::{EDITIONS, EDITION_ONE, MOST_SITES};
 use std::fs::{self, File, OpenOptions};
 use std::io::{Read, Write};
 use std::path::{Path, PathBuf};
@@ -67,14 +67,35 @@ fn known_figures() {
     assert_eq!(printed(&spelled), "refused 9 at 8\n");
 }
 
+/// The signal's bytes with every edition before them.
+#[test]
+fn editions_of_a_file() {
+    let [first, second] = EDITIONS.map(|edition| {
+        let file = [&[edition], &SIGNAL[1..]].concat();
+        let report = printed(&file);
+        assert_eq!(judge(&file, &report, &DEPTHS), Ok(()));
+        report
+    });
+    assert_ne!(first, second);
+    for edition in [0, 3, 4, 255] {
+        let file = [&[edition], &SIGNAL[1..]].concat();
+        assert_eq!(printed(&file), "refused 3 at 0\n");
+    }
+}
+
+/// The corridor as each edition prices it.
 #[test]
 fn demo_corridor() {
-    let text = String::from_utf8(stored("demo/corridor.txt")).expect("readable lines");
-    let project = stored("demo/corridor.project");
-    assert_eq!(lines::make(&text), Ok(project.clone()));
-    let report = printed(&project);
-    assert_eq!(report.as_bytes(), stored("demo/corridor.report"));
-    assert_eq!(judge(&project, &report, &DEPTHS), Ok(()));
+    for (edition, name) in EDITIONS.into_iter().zip(["corridor", "corridor_manual"]) {
+        let file = |kind: &str| stored(&format!("demo/{name}.{kind}"));
+        let text = String::from_utf8(file("txt")).expect("readable lines");
+        let project = file("project");
+        assert_eq!(project[0], edition);
+        assert_eq!(lines::make(&text), Ok(project.clone()));
+        let report = printed(&project);
+        assert_eq!(report.as_bytes(), file("report"));
+        assert_eq!(judge(&project, &report, &DEPTHS), Ok(()));
+    }
 }
 
 #[test]
@@ -94,14 +115,17 @@ fn assert_most_reported(file: &[u8]) {
 
 #[test]
 fn longest_report_of_the_most_sites() {
-    assert_most_reported(&longest_report(MOST_SITES));
+    for edition in EDITIONS {
+        assert_most_reported(&longest_report(edition, MOST_SITES));
+    }
 }
 
 #[test]
 fn longest_file_and_longer_ones() {
-    let mut file = full_project(MOST_SITES);
+    let [mut file, shorter] = EDITIONS.map(|edition| full_project(edition, MOST_SITES));
     assert_eq!(file.len(), LONGEST_FILE);
     assert_most_reported(&file);
+    assert_most_reported(&shorter);
     for extra in [1, 2, 4_096, 1_000_000] {
         file.resize(LONGEST_FILE + extra, 0);
         assert_eq!(printed(&file), format!("refused 2 at {LONGEST_FILE}\n"));
@@ -112,7 +136,7 @@ fn longest_file_and_longer_ones() {
 /// file is there.
 #[test]
 fn one_site_too_many_at_its_longest() {
-    let file = full_project(MOST_SITES + 1);
+    let file = full_project(EDITION_ONE, MOST_SITES + 1);
     for length in [HEADER, LONGEST_FILE, LONGEST_FILE + 1, file.len()] {
         assert_eq!(printed(&file[..length]), "refused 4 at 0\n");
     }
@@ -120,7 +144,7 @@ fn one_site_too_many_at_its_longest() {
 
 #[test]
 fn input_in_pieces_is_one_file() {
-    let file = full_project(MOST_SITES);
+    let file = full_project(EDITION_ONE, MOST_SITES);
     let whole = printed(&file);
     let mut child = Command::new(CRASH_REPORT)
         .stdin(Stdio::piped())
@@ -157,7 +181,10 @@ fn failed_write_is_told() {
 /// the report, and the rest is tried and fails.
 #[test]
 fn report_that_a_file_takes_in_part_is_told() {
-    let input = stored_in("partly_written.project", &full_project(MOST_SITES));
+    let input = stored_in(
+        "partly_written.project",
+        &full_project(EDITION_ONE, MOST_SITES),
+    );
     let report = input.with_extension("report");
     let output = Command::new("sh")
         .args([
@@ -175,7 +202,7 @@ fn report_that_a_file_takes_in_part_is_told() {
 
 #[test]
 fn slow_reader_gets_the_whole_report() {
-    let file = longest_report(MOST_SITES);
+    let file = longest_report(EDITION_ONE, MOST_SITES);
     let whole = printed(&file);
     assert!(whole.len() > PIPE);
     let path = stored_in("longest.project", &file);

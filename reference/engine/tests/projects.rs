@@ -5,10 +5,9 @@ use engine::program::full_project;
 use engine::projects::project_into;
 use reference::checker::report_faults;
 use reference::generate::{damaged_file, largest_project, project, Random};
-use reference::model::FIRST_EDITION;
 use reference::project::{parse_project, read_project, write_project};
 use reference::record::Refusal;
-use reference::rules::MOST_SITES;
+use reference::rules::{EDITIONS, MOST_SITES};
 
 const UNTOUCHED: u64 = 0xA5A5_A5A5;
 const FILES: usize = 1_000;
@@ -26,7 +25,8 @@ fn assert_read(file: &[u8], room: usize) {
     let written = match (answer, read_project(file, room)) {
         (Ok(count), Ok(project)) => {
             assert_eq!(count, project.report_length());
-            let faults = report_faults(&FIRST_EDITION, &project, &report[..count], &[1, 6]);
+            let model = project.header.model();
+            let faults = report_faults(model, &project, &report[..count], &[1, 6]);
             assert!(faults.is_empty(), "{} faults", faults.len());
             count
         }
@@ -42,10 +42,35 @@ fn assert_read(file: &[u8], room: usize) {
 #[test]
 fn valid_files() {
     let mut random = Random::new(11);
+    let mut editions = [0; EDITIONS.len()];
     for _ in 0..FILES {
         let file = write_project(&project(&mut random)).expect("a valid project");
+        editions[usize::from(file[0]) - 1] += 1;
         for room in rooms(&file) {
             assert_read(&file, room);
+        }
+    }
+    assert!(
+        editions.iter().all(|count| *count > FILES / 3),
+        "{editions:?}"
+    );
+}
+
+/// The bytes after a file's edition, with every edition before them: refused
+/// with 3 but for two.
+#[test]
+fn every_edition_of_a_file() {
+    let mut random = Random::new(14);
+    for _ in 0..20 {
+        let mut file = write_project(&project(&mut random)).expect("a valid project");
+        for edition in 0..=u8::MAX {
+            file[0] = edition;
+            let room = rooms(&file)[0];
+            assert_read(&file, room);
+            let mut report = vec![0; room];
+            let refused = project_into(&file, &mut report).err();
+            let is_of_edition = refused == Some(Refusal::of(3, 0));
+            assert_eq!(is_of_edition, !EDITIONS.contains(&edition), "{edition}");
         }
     }
 }
@@ -63,16 +88,27 @@ fn damaged_files() {
 
 #[test]
 fn largest_file() {
-    let file = write_project(&largest_project(&mut Random::new(13))).expect("a valid project");
-    let room = rooms(&file)[0];
-    assert_read(&file, room);
-    assert_read(&file, room - 1);
+    let mut random = Random::new(13);
+    let mut left = EDITIONS.to_vec();
+    while !left.is_empty() {
+        let project = largest_project(&mut random);
+        let edition = project.header.edition;
+        if left.contains(&edition) {
+            let file = write_project(&project).expect("a valid project");
+            let room = rooms(&file)[0];
+            assert_read(&file, room);
+            assert_read(&file, room - 1);
+            left.retain(|other| *other != edition);
+        }
+    }
 }
 
 #[test]
 fn the_most_sites_and_one_more_at_their_longest() {
-    for sites in [MOST_SITES, MOST_SITES + 1] {
-        assert_read(&full_project(sites), 4 * (sites + 1));
+    for edition in EDITIONS {
+        for sites in [MOST_SITES, MOST_SITES + 1] {
+            assert_read(&full_project(edition, sites), 4 * (sites + 1));
+        }
     }
 }
 

@@ -46,14 +46,14 @@ use reference::project::Header;
 use reference::published::{self, prints, Block, Example};
 use reference::rational::Rational;
 use reference::record::Site;
-use reference::rules::{rules, Field, Rule, EDITION, MOST_CALIBRATION, MOST_YEARS};
+use reference::rules::{rules, Field, Rule, EDITION_ONE, MOST_CALIBRATION, MOST_YEARS};
 
 const MILLION: u64 = 1_000_000;
 
 /// The four numbers of a site with one calibration for both kinds.
 fn made(years: u8, calibration: u16, site: &Site) -> [u64; 4] {
     let header = Header {
-        edition: EDITION,
+        edition: EDITION_ONE,
         years,
         segment_calibration: calibration,
         crossing_calibration: calibration,
@@ -238,7 +238,7 @@ fn a_field_without_effect_is_noticed() {
         (Field::LimitedQuadrants, &[18, 21]),
     ] {
         let without = |site: &Site| {
-            let known = rules(site.kind).unwrap_or(&[]);
+            let known = rules(EDITION_ONE, site.kind).unwrap_or(&[]);
             let rule = known.iter().find(|rule| rule.field == field);
             let mut site = *site;
             if site.get(field).is_some() {

@@ -1,5 +1,5 @@
-//! The worked figures of `reference::worked` through the engine's line of a
-//! site. A number that is wrong in a definition and in the code alike fails
+//! The worked figures of `reference::worked`, of both editions, through the
+//! engine's line of a site. A number that is wrong in a definition and in the code alike fails
 //! here by the figure's name.
 
 use engine::lines::line;
@@ -8,8 +8,8 @@ use reference::prediction::{SiteEstimates, MILLION};
 use reference::project::Header;
 use reference::rational::Rational;
 use reference::record::Site;
-use reference::rules::{rules, Field};
-use reference::worked::faults;
+use reference::rules::{rules, Field, EDITION_ONE, EDITION_TWO};
+use reference::worked::{faults, named};
 
 /// A site's two pairs in crashes.
 fn pairs(header: &Header, site: &Site) -> SiteEstimates {
@@ -53,7 +53,7 @@ fn notice_a_field_without_effect() {
         (Field::LimitedQuadrants, "3st sight 1"),
     ] {
         let without = |header: &Header, site: &Site| {
-            let mut table = rules(site.kind).unwrap_or(&[]).iter();
+            let mut table = rules(header.edition, site.kind).unwrap_or(&[]).iter();
             let default = table
                 .find(|rule| rule.field == field)
                 .and_then(|rule| rule.default());
@@ -64,6 +64,54 @@ fn notice_a_field_without_effect() {
             pairs(header, &site)
         };
         assert!(!faults(name, without).is_empty(), "{name}");
+    }
+}
+
+/// A site as an edition has it: a stop crossing holds a number of limited
+/// quadrants in edition 1 alone.
+fn as_in(edition: u8, site: &Site) -> Site {
+    let mut site = *site;
+    if [1, 2].contains(&site.kind) {
+        let none = (edition == EDITION_ONE).then_some(0);
+        site.set(Field::LimitedQuadrants, none);
+    }
+    site
+}
+
+/// An engine that takes one edition for the other fails the figures of each
+/// number that differs.
+#[test]
+fn notice_the_other_edition() {
+    for (edition, other) in [(EDITION_ONE, EDITION_TWO), (EDITION_TWO, EDITION_ONE)] {
+        let exchanged = |header: &Header, site: &Site| {
+            let header = Header {
+                edition: other,
+                ..*header
+            };
+            pairs(&header, &as_in(other, site))
+        };
+        for name in [
+            "lane at 399, feet 9",
+            "shoulder at 1000, feet 4",
+            "grade 1",
+            "grade 12",
+            "driveways at 1, count 0",
+            "driveways at 20000, count 50",
+            "3st left-turn lanes 1",
+            "4st left-turn lanes 2",
+            "3st right-turn lanes 1",
+            "4st right-turn lanes 2",
+            "4sg right-turn lanes 1",
+            "segment base",
+            "3st base",
+            "4st base",
+            "4sg base",
+            "segment k at observed 0",
+            "segment k at length 236",
+        ] {
+            let name = named(edition, name);
+            assert!(!faults(&name, exchanged).is_empty(), "{name}");
+        }
     }
 }
 

@@ -6,11 +6,13 @@ use mathlib.Core.Bool.{Bool, true, false, cond}
 use Prim.Native.Nat.{ℕ, _+_, _-_, _≤_, _<_}
 use lib.ListN.{length, getD}
 use Rattle.site.specs.Yearly.{yearly}
+use Rattle.model.specs.Coefficients.{coefficientsOf}
 use Rattle.model.specs.Predicted.{termsOf}
 use Rattle.model.specs.Parts.{termAt}
 use Rattle.model.specs.StatedWidths.{sitesCounted}
 use Rattle.model.specs.TermLaws.{sites-counted}
 use Rattle.prediction.specs.Pair.{plus}
+use Rattle.prediction.specs.Editions.{edition-rated}
 use Rattle.prediction.specs.Terms.{noTerm, terms-sized, term-at, sized-at}
 use Rattle.prediction.specs.Carrying.{Summed, none-summed, next-summed, all-summed, summed-small}
 use Rattle.prediction.proofs.predicted_with.Statement.{statement}
@@ -18,7 +20,7 @@ use Rattle.prediction.proofs.predicted_with.Tie as tie
 
 abbrev Inv-loop : tie.InvT-loop
 Inv-loop powers logarithms exponentials header site traffic minor later later-minor each years count sum₀ year₀ sum year =
-    (year ≤ count) × Summed header site year sum
+    (year ≤ count) × Summed (coefficientsOf (header .edition)) header site year sum
 
 abbrev μ-loop : tie.MeasureT-loop
 μ-loop powers logarithms exponentials header site traffic minor later later-minor each years count sum₀ year₀ sum year = count - year
@@ -76,18 +78,19 @@ term-pair-requires c κs =
 
 -- the sum with its pair
 summed : (c : tie.After-term-pair Inv-loop μ-loop) → let loop = c .before .before .before .before in let a = entry loop .args in
-    Summed (a .header) (a .site) (loop .loop .year + 1) (plus (loop .loop .sum) (c .term-pair .result))
+    Summed (coefficientsOf (a .header .edition)) (a .header) (a .site) (loop .loop .year + 1) (plus (loop .loop .sum) (c .term-pair .result))
 summed c =
     let turn = c .before .before .before in
     let loop = turn .before in
     let a = entry loop .args in
     rw (c .term-pair .ensures, ← term-is (c .before))
-    (next-summed (a .header) (a .site) (loop .loop .year) (loop .loop .sum) (rw (← count-is loop) (turn .loop-test .taken)) (loop .loop .inv .1))
+    (next-summed (coefficientsOf (a .header .edition)) (a .header) (a .site) (loop .loop .year) (loop .loop .sum)
+    (rw (← count-is loop) (turn .loop-test .taken)) (loop .loop .inv .1))
 
 add-pair-requires : tie.Need-add-pair-requires Inv-loop μ-loop
 add-pair-requires c κs =
     let start = entry (c .before .before .before .before) in
-    summed-small (start .args .header) (start .args .site) (start .pre .3) (start .pre .4) (summed c)
+    summed-small _ (start .args .header) (start .args .site) (edition-rated (start .args .header .edition)) (start .pre .3) (start .pre .4) (summed c)
 
 loop-again : tie.Need-loop-again Inv-loop μ-loop
 loop-again c = (omega arith, rw (c .add-pair .ensures) (summed (c .before)))
@@ -96,7 +99,7 @@ returns : tie.Need-returns Inv-loop μ-loop
 returns c =
     let loop = c .before in
     let a = entry loop .args in
-    all-summed (a .header) (a .site) (loop .loop .year) (loop .loop .sum) (rw (← count-is loop) (c .loop-test .left)) (loop .loop .inv .1)
+    all-summed _ (a .header) (a .site) (loop .loop .year) (loop .loop .sum) (rw (← count-is loop) (c .loop-test .left)) (loop .loop .inv .1)
 
 pub predicted-with-spec : {M : Type 1} → statement M
 predicted-with-spec =
@@ -105,7 +108,7 @@ predicted-with-spec =
     Inv-loop
     μ-loop
     (λ c κs. search needs) (λ c κs. search needs) (λ c κs. search needs)
-    (λ c. let start = c .before .before .before .before .before in (omega arith, none-summed (start .args .header) (start .args .site)))
+    (λ c. let start = c .before .before .before .before .before in (omega arith, none-summed _ (start .args .header) (start .args .site)))
     (λ c κs. in-year c)
     (λ c κs. in-year (c .before))
     term-pair-requires

@@ -1,4 +1,4 @@
--- The header's refusal, or the scan of as many records as the header says, in a project of its years.
+-- The header's refusal, or the scan of as many records as the header says, in a project of its edition and years.
 use borrow.Author.Needs.{needs}
 use borrow.Author.Tests.{eq-eqb, ne-eqb}
 use mathlib.Core.Path.{_≡_, sym, ap, _∙_}
@@ -38,6 +38,7 @@ returns-2 c =
     scans-file _ _ (simp (
       ← else .before .header-number .ensures,
       eq-eqb _ _ (else .if1 .left),
+      ← ap (λ (h : Header). h .edition) (header .header-in .ensures),
       ← ap (λ (h : Header). h .years) (header .header-in .ensures),
       ← count .count-in .ensures,
       c .scan-records .ensures,

@@ -12,11 +12,11 @@ use Rattle.project_writer.proofs.walk.Statement.{statement}
 use Rattle.project_writer.proofs.walk.Proof.Tie as tie
 
 abbrev Inv-loop : tie.InvT-loop
-Inv-loop years sites buffer₀ course₀ i₀ buffer course i =
-    (i ≤ length sites) × (length buffer ≡ length buffer₀) × Walked years sites course₀ buffer₀ i course buffer
+Inv-loop edition years sites buffer₀ course₀ i₀ buffer course i =
+    (i ≤ length sites) × (length buffer ≡ length buffer₀) × Walked edition years sites course₀ buffer₀ i course buffer
 
 abbrev μ-loop : tie.MeasureT-loop
-μ-loop years sites buffer₀ course₀ i₀ buffer course i = length sites - i
+μ-loop edition years sites buffer₀ course₀ i₀ buffer course i = length sites - i
 
 loop-holds : tie.Need-loop-holds Inv-loop μ-loop
 loop-holds c = (omega arith, refl, walked-none (c .before .pre))
@@ -32,7 +32,7 @@ loop-again c =
     let turn = step .before .before .before in
     let inv = turn .before .loop .inv in (
       omega arith,
-      step .step .kept .1 .1 .0 ∙ inv .1,
+      step .step .kept .1 .1 .1 .0 ∙ inv .1,
       walked-more (inv .2) noSite _ (turn .loop-test .taken) refl _ _ (step .step .ensures),
     )
 

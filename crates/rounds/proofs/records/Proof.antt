@@ -8,10 +8,10 @@ use Rattle.rounds.proofs.records.Statement.{statement}
 use Rattle.rounds.proofs.records.Tie as tie
 
 abbrev Inv-loop : tie.InvT-loop
-Inv-loop powers logarithms exponentials lines records start sum₀ at₀ sum at = at ≤ length records
+Inv-loop powers logarithms exponentials lines edition records start sum₀ at₀ sum at = at ≤ length records
 
 abbrev μ-loop : tie.MeasureT-loop
-μ-loop powers logarithms exponentials lines records start sum₀ at₀ sum at = length records - at
+μ-loop powers logarithms exponentials lines edition records start sum₀ at₀ sum at = length records - at
 
 site-added-requires : tie.Need-site-added-requires Inv-loop μ-loop
 site-added-requires c κs =

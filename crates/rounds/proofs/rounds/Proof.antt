@@ -4,10 +4,10 @@ use Rattle.rounds.proofs.rounds.Statement.{statement}
 use Rattle.rounds.proofs.rounds.Tie as tie
 
 abbrev Inv-loop : tie.InvT-loop
-Inv-loop input job start powers logarithms exponentials sum₀ counter₀ end sum counter = 0 ≤ counter
+Inv-loop input job start powers logarithms exponentials edition sum₀ counter₀ end sum counter = 0 ≤ counter
 
 abbrev μ-loop : tie.MeasureT-loop
-μ-loop input job start powers logarithms exponentials sum₀ counter₀ end sum counter = end - counter
+μ-loop input job start powers logarithms exponentials edition sum₀ counter₀ end sum counter = end - counter
 
 pub rounds-spec : {M : Type 1} → statement M
 rounds-spec =
@@ -15,6 +15,7 @@ rounds-spec =
     (tie.spec
     Inv-loop
     μ-loop
-    (λ c κs. search needs) (λ c κs. search needs) (λ c κs. search needs) (λ c. search needs) (λ c κs. search needs) (λ c. search needs)
+    (λ c κs. search needs) (λ c κs. search needs) (λ c κs. search needs) (λ c κs. search needs) (λ c. search needs) (λ c. search needs)
+    (λ c κs. search needs) (λ c. search needs)
     (λ c κs. search needs) (λ c κs. search needs) (λ c κs. search needs) (λ c κs. search needs) (λ c. search needs) (λ c. search needs)
     (λ c. search needs) (λ c κs. search needs) (λ c. search needs) (λ c. search needs) (λ c. search needs) (λ c. search needs))

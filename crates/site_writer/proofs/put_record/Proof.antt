@@ -14,13 +14,13 @@ use Rattle.site_writer.proofs.put_record.Statement.{statement}
 use Rattle.site_writer.proofs.put_record.Tie as tie
 
 held : (c : tie.After-rules-held) → let slots = c .before in
-    Found (slots .before .before .before .before .args .site) (slots .slots-of .result) (c .rules-held .result)
+    Found (slots .before .before .before .before .args .edition) (slots .before .before .before .before .args .site) (slots .slots-of .result) (c .rules-held .result)
 held c =
     let slots = c .before in
-    found _ _ _ (valid-kind _ _ (slots .before .before .before .before .pre .0)) (slots .slots-of .ensures) (c .rules-held .ensures)
+    found _ _ _ _ (valid-kind _ _ _ (slots .before .before .before .before .pre .0)) (slots .slots-of .ensures) (c .rules-held .ensures)
 
 later-given-requires : tie.Need-later-given-requires
-later-given-requires c κs = tests _ _ (c .before .before .before .before .before .pre .0) .years-in
+later-given-requires c κs = tests _ _ _ (c .before .before .before .before .before .pre .0) .years-in
 
 -- bit 15
 fifteen : (b : Bool) → cond b 32768 0 ≤ 32768
@@ -37,7 +37,7 @@ add-put-head c =
 put-head-requires : tie.Need-put-head-requires
 put-head-requires c κs =
     let start = c .before .before .before .before .before .before .before .before .before .before in
-    omega (arith, start .pre .1, record-length _ _ (start .pre .0) .at-least)
+    omega (arith, start .pre .1, record-length _ _ _ (start .pre .0) .at-least)
 
 put-spread-requires : tie.Need-put-spread-requires
 put-spread-requires c κs =
@@ -47,7 +47,7 @@ put-spread-requires c κs =
     let given = head .before .before .before .before .before in
     let rules = given .before in
     let start = rules .before .before .before .before .before in
-    let valid = tests _ _ (start .pre .0) in
+    let valid = tests _ _ _ (start .pre .0) in
     let most = given .later-given .ensures .1 in
     let is = given .later-given .ensures .0 in
     let few = minor .minor-later .ensures .1 in
@@ -79,7 +79,7 @@ put-record-spec =
     tie.close
     (tie.spec
     (λ c κs. search needs)
-    (λ c κs. (valid-kind _ _ (c .before .before .before .before .pre .0), search needs))
+    (λ c κs. (valid-kind _ _ _ (c .before .before .before .before .pre .0), search needs))
     later-given-requires
     (λ c κs. (search needs, search needs, bits-few (held (c .before))))
     (λ c κs. search needs) (λ c κs. search needs)

@@ -26,29 +26,32 @@ static uint64_t written;
 static uint64_t sites[(CRASH_MOST_SITES + 1) * CRASH_SITE_NUMBERS];
 static uint8_t file[CRASH_LONGEST_FILE];
 
+/* The edition that the calls below are made with. */
+static uint64_t edition;
+
 static uint64_t record_of(uint64_t years, size_t numbers, size_t room)
 {
     written = 7;
-    return crash_site_write(years, values, numbers, buffer, room, &written);
+    return crash_site_write(edition, years, values, numbers, buffer, room, &written);
 }
 
 static uint64_t line_of(uint64_t years, uint64_t segments, uint64_t crossings, size_t numbers, size_t room)
 {
     memset(line, 0, sizeof line);
-    return crash_line(years, segments, crossings, values, numbers, line, room);
+    return crash_line(edition, years, segments, crossings, values, numbers, line, room);
 }
 
 static uint64_t file_of(uint64_t years, size_t numbers, size_t room)
 {
     written = 7;
     memset(file, 7, sizeof file);
-    return crash_project_write(years, 1000, 1000, sites, numbers, file, room, &written);
+    return crash_project_write(edition, years, 1000, 1000, sites, numbers, file, room, &written);
 }
 
 /* The numbers that were read, and more, are handed on; fewer than a site's are no site. */
 static void handed_on(void)
 {
-    HOLDS(crash_site_read(1, part, sizeof part, values, CRASH_READ_NUMBERS) == CRASH_OK);
+    HOLDS(crash_site_read(edition, 1, part, sizeof part, values, CRASH_READ_NUMBERS) == CRASH_OK);
     HOLDS(values[CRASH_SITE_NUMBERS] == sizeof part);
     values[CRASH_READ_NUMBERS] = UINT64_MAX;
     for (size_t numbers = 0; numbers <= CRASH_READ_NUMBERS + 2; numbers++) {
@@ -64,7 +67,7 @@ static void handed_on(void)
 /* The same site twice is a header and its record twice, and the most sites are written. */
 static void listed(void)
 {
-    static const uint8_t header[CRASH_HEADER_BYTES] = {1, 5, 0x03, 0xE8, 0x03, 0xE8, 0, 2};
+    const uint8_t header[CRASH_HEADER_BYTES] = {(uint8_t)edition, 5, 0x03, 0xE8, 0x03, 0xE8, 0, 2};
     size_t length = sizeof header + 2 * sizeof part;
 
     for (size_t i = 0; i < sizeof sites / sizeof sites[0]; i++)
@@ -123,7 +126,7 @@ static const uint8_t yearly[] = {3, 0x80, 3, 0x03, 0xE8, 0x07, 0xD0, 0x01, 0x2C,
 static uint64_t read_over(uint64_t years, size_t length)
 {
     memset(values, 0, sizeof values);
-    return crash_site_read(years, yearly, length, values, CRASH_READ_NUMBERS);
+    return crash_site_read(edition, years, yearly, length, values, CRASH_READ_NUMBERS);
 }
 
 /* Later years: where they stand, and years that are not theirs. */
@@ -152,12 +155,53 @@ static void year_by_year(void)
     HOLDS(record_of(2, CRASH_READ_NUMBERS, sizeof buffer) == CRASH_OUTSIDE_RANGE);
 }
 
+/* 3 for an edition that there is not, before everything else, and nothing is written. */
+static void no_edition(void)
+{
+    static const uint64_t others[] = {0, CRASH_LAST_EDITION + 1, 255, 257, UINT64_MAX};
+
+    for (size_t i = 0; i < sizeof others / sizeof others[0]; i++) {
+        edition = others[i];
+        for (uint64_t years = 0; years <= CRASH_MOST_YEARS + 1; years++) {
+            HOLDS(read_over(years, 0) == CRASH_EDITION_NOT && values[1] == 0);
+            HOLDS(read_over(years, sizeof yearly) == CRASH_EDITION_NOT && values[1] == 0);
+            HOLDS(record_of(years, 0, 0) == CRASH_EDITION_NOT && written == 7);
+            HOLDS(line_of(years, 0, 10000, 0, 0) == CRASH_EDITION_NOT && line[1] == 0);
+            HOLDS(file_of(years, 0, sizeof file) == CRASH_EDITION_NOT && written == 0 && file[0] == 7);
+        }
+        HOLDS(file_of(5, sizeof sites / sizeof sites[0], 0) == CRASH_EDITION_NOT && written == 0);
+    }
+}
+
+/* A three-leg stop with one quadrant of limited sight, and one without the field. */
+static const uint8_t limited[] = {1, 0, 0x43, 0x03, 0xE8, 0x01, 0xF4, 0, 1};
+static const uint8_t unlimited[] = {1, 0, 0x03, 0x03, 0xE8, 0x01, 0xF4};
+
+/* Edition 2 lacks limited sight: its bit is refused, and no number stands there. */
+static void limited_sight(void)
+{
+    uint64_t *sight = values + 20;
+    uint64_t answer = edition == 1 ? CRASH_OK : CRASH_BIT_LACKED;
+
+    HOLDS(crash_site_read(edition, 1, limited, sizeof limited, values, CRASH_READ_NUMBERS) == answer);
+    HOLDS(crash_site_read(edition, 1, unlimited, sizeof unlimited, values, CRASH_READ_NUMBERS) == CRASH_OK);
+    HOLDS(*sight == (edition == 1 ? 0 : CRASH_ABSENT));
+    HOLDS(record_of(1, CRASH_READ_NUMBERS, sizeof buffer) == CRASH_OK && written == sizeof unlimited);
+    *sight = edition == 1 ? CRASH_ABSENT : 0;
+    HOLDS(record_of(1, CRASH_READ_NUMBERS, sizeof buffer) == CRASH_OUTSIDE_RANGE);
+    HOLDS(line_of(1, 1000, 1000, CRASH_READ_NUMBERS, CRASH_LINE_NUMBERS) == CRASH_OUTSIDE_RANGE);
+}
+
 int main(void)
 {
-    handed_on();
-    listed();
-    listed_in_order();
-    in_order();
-    year_by_year();
+    for (edition = CRASH_FIRST_EDITION; edition <= CRASH_LAST_EDITION; edition++) {
+        handed_on();
+        listed();
+        listed_in_order();
+        in_order();
+        year_by_year();
+        limited_sight();
+    }
+    no_edition();
     return wrong;
 }

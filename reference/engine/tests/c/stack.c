@@ -28,17 +28,17 @@ static void nothing(void) {}
 static void project(void) { crash_project(file, length, report, CRASH_LONGEST_REPORT, &value); }
 static void site_read(void)
 {
-    crash_site_read(file[1], file + CRASH_HEADER_BYTES, length - CRASH_HEADER_BYTES, site, CRASH_READ_NUMBERS);
+    crash_site_read(file[0], file[1], file + CRASH_HEADER_BYTES, length - CRASH_HEADER_BYTES, site, CRASH_READ_NUMBERS);
 }
 static void site_write(void)
 {
-    crash_site_write(file[1], site, CRASH_SITE_NUMBERS, record, CRASH_LONGEST_RECORD, &value);
+    crash_site_write(file[0], file[1], site, CRASH_SITE_NUMBERS, record, CRASH_LONGEST_RECORD, &value);
 }
 static void project_write(void)
 {
-    crash_project_write(file[1], 9999, 9999, sites, numbers, written, CRASH_LONGEST_FILE, &value);
+    crash_project_write(file[0], file[1], 9999, 9999, sites, numbers, written, CRASH_LONGEST_FILE, &value);
 }
-static void line_of(void) { crash_line(file[1], 9999, 9999, site, CRASH_SITE_NUMBERS, line, CRASH_LINE_NUMBERS); }
+static void line_of(void) { crash_line(file[0], file[1], 9999, 9999, site, CRASH_SITE_NUMBERS, line, CRASH_LINE_NUMBERS); }
 static void power(void) { crash_power(argument, 79, 100, ends, CRASH_BRACKET_NUMBERS); }
 static void logarithm(void) { crash_logarithm(argument, ends, CRASH_BRACKET_NUMBERS); }
 static void exponential(void) { crash_exponential(argument, ends, CRASH_BRACKET_NUMBERS); }
@@ -49,7 +49,7 @@ static void gather(void)
 {
     numbers = 0;
     for (size_t at = CRASH_HEADER_BYTES; at < length; at += sites[numbers]) {
-        if (crash_site_read(file[1], file + at, length - at, sites + numbers, CRASH_READ_NUMBERS) != CRASH_OK)
+        if (crash_site_read(file[0], file[1], file + at, length - at, sites + numbers, CRASH_READ_NUMBERS) != CRASH_OK)
             break;
         numbers += CRASH_SITE_NUMBERS;
     }

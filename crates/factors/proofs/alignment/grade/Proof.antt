@@ -1,25 +1,13 @@
 use borrow.Author.Needs.{needs}
-use native.Mathlib.Omega.{arith}
-use mathlib.Core.Path.{_≡_}
-use Prim.Native.Nat.{min}
-use Rattle.model.specs.Coefficients.{editionOne}
+use Rattle.model.specs.Editions.{first-edition, second-edition}
 use Rattle.factors.proofs.alignment.grade.Statement.{statement}
 use Rattle.factors.proofs.alignment.grade.Tie as tie
 
 returns : tie.Need-returns
-unfolding editionOne
-returns c =
-    let percent = c .before .before .args .percent in
-    let e : min percent 6 ≡ percent = omega (arith, c .before .if1 .taken) in
-    rw e (c .grade-power .ensures)
+returns c = rw (first-edition _ (c .before .if1 .taken)) (c .power-to-six .ensures)
 
 returns-2 : tie.Need-returns-2
-unfolding editionOne
-returns-2 c =
-    let percent = c .before .before .args .percent in
-    let e : min percent 6 ≡ 6 = omega (arith, c .before .if1 .left) in
-    rw e (c .grade-power2 .ensures)
+returns-2 c = rw (second-edition _ (c .before .if1 .left)) (c .grade-class .ensures)
 
 pub grade-spec : {M : Type 1} → statement M
-grade-spec =
-    tie.close (tie.spec (λ c κs. search needs) returns (λ c κs. search needs) returns-2)
+grade-spec = tie.close (tie.spec (λ c κs. search needs) returns (λ c κs. search needs) returns-2)

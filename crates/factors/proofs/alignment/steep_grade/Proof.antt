@@ -1,19 +1,17 @@
 use borrow.Author.Needs.{needs}
-use native.Mathlib.Omega.{arith}
-use mathlib.Core.Path.{_≡_}
-use Prim.Native.Nat.{_-_}
-use Rattle.model.specs.Coefficients.{editionOne}
+use mathlib.Core.Path.{refl}
+use Rattle.estimate.specs.Fraction.{whole, fraction}
+use Rattle.model.specs.Coefficients.{editionTwo}
+use Rattle.model.specs.Editions.{first-edition, second-edition}
 use Rattle.factors.proofs.alignment.steep_grade.Statement.{statement}
 use Rattle.factors.proofs.alignment.steep_grade.Tie as tie
 
 returns : tie.Need-returns
-unfolding editionOne
-returns c = let e : c .before .before .args .percent - 6 ≡ 0 = omega (arith, c .before .if1 .taken) in rw e (c .grade-power .ensures)
+returns c = rw (first-edition _ (c .before .if1 .taken)) (c .power-above-six .ensures)
 
 returns-2 : tie.Need-returns-2
-unfolding editionOne
-returns-2 c = c .grade-power2 .ensures
+unfolding editionTwo whole fraction
+returns-2 c = rw (second-edition _ (c .if1 .left)) refl
 
 pub steep-grade-spec : {M : Type 1} → statement M
-steep-grade-spec =
-    tie.close (tie.spec (λ c κs. search needs) returns (λ c κs. search needs) returns-2)
+steep-grade-spec = tie.close (tie.spec (λ c κs. search needs) returns returns-2)

@@ -3,7 +3,7 @@ use native.Mathlib.Omega.{arith}
 use native.Mathlib.Nat.{mul-le-mul}
 use Rattle.bracket.specs.CarryLaws.{further, further-exact}
 use Rattle.bracket.specs.declared.carry.CarryAnswer.the-variants.{Carried}
-use Rattle.model.specs.Coefficients.{editionOne}
+use Rattle.model.specs.Coefficients.{coefficientsOf}
 use Rattle.model.specs.Crossings as crossings
 use Rattle.model.specs.Crossings.{leftTurn, rightTurn}
 use Rattle.model.specs.Parts.{crossingFactors}
@@ -54,16 +54,17 @@ returns c =
     let entry = major .before .before in
     let a = entry .args in
     let sizes = entry .pre .4 in
+    let k = coefficientsOf (a .edition) in
     let start = crossingUnits (a .years) (a .calibration) in
     let major-is = placed-power _ (major-placed _ (sizes .kind-least) (sizes .kind-most)) (major .before .major-place .ensures) (major .power-with .ensures) in
     let minor-is = placed-power _ (minor-placed _ (sizes .kind-least) (sizes .kind-most)) (minor .before .minor-place .ensures) (minor .power-with2 .ensures) in
     let to-major = further {a = Carried start start} refl major-is (minor .before .before .through .ensures) in
     let to-minor = further to-major minor-is (left .before .through2 .ensures) in
-    let to-left = further-exact (leftTurn editionOne _ _) to-minor (left .left-turn .ensures) (right .before .through-exact .ensures) in
-    let to-right = further-exact (rightTurn editionOne _ _) to-left (right .right-turn .ensures) (sight .before .through-exact2 .ensures) in
+    let to-left = further-exact (leftTurn k _ _) to-minor (left .left-turn .ensures) (right .before .through-exact .ensures) in
+    let to-right = further-exact (rightTurn k _ _) to-left (right .right-turn .ensures) (sight .before .through-exact2 .ensures) in
     let to-sight = further-exact (crossings.sight _) to-right (sight .sight .ensures) (skew .before .through-exact3 .ensures) in
     let to-skew = further to-sight (skew .skew-factor .ensures) (base .before .through3 .ensures) in
-    through-all (Carried start start) (crossingFactors (a .v)) (further to-skew (base .base-factor .ensures) (c .through4 .ensures))
+    through-all k (Carried start start) (crossingFactors (a .v)) (further to-skew (base .base-factor .ensures) (c .through4 .ensures))
 
 pub carry-crossing-spec : {M : Type 1} → statement M
 carry-crossing-spec =

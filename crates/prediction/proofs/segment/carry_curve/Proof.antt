@@ -9,12 +9,12 @@ use Rattle.prediction.proofs.segment.carry_curve.Tie as tie
 
 returns : tie.Need-returns
 unfolding curveFactors
-returns c =
+returns c k =
     let banked = c .before in
     let bent = banked .before .before in
     let a = bent .before .args in
     let to-curve = further-exact {a = a .straight} (curve _ _ _) refl (bent .curve .ensures) (banked .before .through-exact .ensures) in
-    through-all (a .straight) (curveFactors (a .v))
+    through-all k (a .straight) (curveFactors (a .v))
     (further-exact (superelevation _) to-curve (banked .superelevation .ensures) (c .through-exact2 .ensures))
 
 pub carry-curve-spec : {M : Type 1} → statement M

@@ -1,3 +1,4 @@
+use Rattle.model.specs.Coefficients.{coefficientsOf}
 use Rattle.prediction.specs.Carrying.{straight-carried, curve-carried}
 use borrow.Author.Needs.{needs}
 use Rattle.prediction.proofs.segment.carry_segment.Statement.{statement}
@@ -9,13 +10,15 @@ carry-curve-requires c κs = c .before .before .before .pre .3 .bend (c .if1 .ta
 returns : tie.Need-returns
 returns c =
     let s = c .before .before in
-    let v = s .before .before .args .v in
-    rw (← s .before .segment-start .ensures, ← curve-carried v _ (c .before .if1 .taken), ← s .carry-straight .ensures) (c .carry-curve .ensures)
+    let a = s .before .before .args in
+    let k = coefficientsOf (a .edition) in
+    rw (← s .before .segment-start .ensures, ← curve-carried k (a .v) _ (c .before .if1 .taken), ← s .carry-straight .ensures) (c .carry-curve .ensures k)
 
 returns-2 : tie.Need-returns-2
 returns-2 c =
     let s = c .before in
-    rw (← s .before .segment-start .ensures, ← straight-carried (s .before .before .args .v) _ (c .if1 .left)) (s .carry-straight .ensures)
+    let a = s .before .before .args in
+    rw (← s .before .segment-start .ensures, ← straight-carried (coefficientsOf (a .edition)) (a .v) _ (c .if1 .left)) (s .carry-straight .ensures)
 
 pub carry-segment-spec : {M : Type 1} → statement M
 carry-segment-spec =

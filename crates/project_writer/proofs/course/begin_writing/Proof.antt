@@ -10,7 +10,7 @@ put-header-requires : tie.Need-put-header-requires
 put-header-requires c κs =
     let course = c .before .before .before in
     let begins = rw (course .course3 .given .1) at (course .before .before .before .pre) in
-    (begins .0, omega arith)
+    (begins .0, begins .1, omega arith)
 
 returns-4 : tie.Need-returns-4
 returns-4 c =

@@ -111,19 +111,19 @@ abbrev pub r·0 : FnKinds.RK 1
 r·0 = Kinds.r
 
 abbrev pub hs : List.List Syntax.Home
-hs = (Syntax.valueLocal ∷ Syntax.valueLocal ∷ Syntax.valueLocal ∷ Syntax.valueLocal ∷ Syntax.valueLocal ∷ Syntax.valueLocal ∷ Syntax.valueLocal ∷ Syntax.valueLocal ∷ Syntax.valueLocal ∷ Syntax.valueLocal ∷ Syntax.valueLocal ∷ Syntax.valueLocal ∷ Syntax.valueLocal ∷ Syntax.valueLocal ∷ [])
+hs = (Syntax.valueLocal ∷ Syntax.valueLocal ∷ Syntax.valueLocal ∷ Syntax.valueLocal ∷ Syntax.valueLocal ∷ Syntax.valueLocal ∷ Syntax.valueLocal ∷ Syntax.valueLocal ∷ Syntax.valueLocal ∷ Syntax.valueLocal ∷ Syntax.valueLocal ∷ Syntax.valueLocal ∷ Syntax.valueLocal ∷ Syntax.valueLocal ∷ Syntax.valueLocal ∷ [])
 
 abbrev b0 : Syntax.Body
-b0 = Syntax.assign (Syntax.place 5 []) (Syntax.rvOpd (Syntax.copy (Syntax.place 4 [])))
+b0 = Syntax.assign (Syntax.place 6 []) (Syntax.rvOpd (Syntax.copy (Syntax.place 5 [])))
 
 abbrev b1 : Syntax.Body
-b1 = Syntax.assign (Syntax.place 6 []) (Syntax.rvOpd (Syntax.int Syntax.w64 0))
+b1 = Syntax.assign (Syntax.place 7 []) (Syntax.rvOpd (Syntax.int Syntax.w64 0))
 
 abbrev b2 : Syntax.Body
-b2 = Syntax.assign (Syntax.place 8 []) (Syntax.rvOpd (Syntax.copy (Syntax.place 2 (Syntax.field 1 ∷ []))))
+b2 = Syntax.assign (Syntax.place 9 []) (Syntax.rvOpd (Syntax.copy (Syntax.place 3 (Syntax.field 1 ∷ []))))
 
 abbrev b3 : Syntax.Body
-b3 = Syntax.assign (Syntax.place 9 []) (Syntax.op2 (Syntax.lt Syntax.unsigned) (Syntax.copy (Syntax.place 6 [])) (Syntax.copy (Syntax.place 8 [])))
+b3 = Syntax.assign (Syntax.place 10 []) (Syntax.op2 (Syntax.lt Syntax.unsigned) (Syntax.copy (Syntax.place 7 [])) (Syntax.copy (Syntax.place 9 [])))
 
 abbrev b4 : Syntax.Body
 b4 = Syntax.skip
@@ -132,31 +132,31 @@ abbrev b5 : Syntax.Body
 b5 = Syntax.exit 1
 
 abbrev b6 : Syntax.Body
-b6 = Syntax.cond (Syntax.copy (Syntax.place 9 [])) b4 b5
+b6 = Syntax.cond (Syntax.copy (Syntax.place 10 [])) b4 b5
 
 abbrev b7 : Syntax.Body
-b7 = Syntax.assign (Syntax.place 8 []) (Syntax.op2 (Syntax.mul Syntax.unsigned) (Syntax.copy (Syntax.place 6 [])) (Syntax.int Syntax.w64 154))
+b7 = Syntax.assign (Syntax.place 9 []) (Syntax.op2 (Syntax.mul Syntax.unsigned) (Syntax.copy (Syntax.place 7 [])) (Syntax.int Syntax.w64 154))
 
 abbrev b8 : Syntax.Body
-b8 = Syntax.assign (Syntax.place 10 []) (Syntax.op2 Syntax.offset (Syntax.copy (Syntax.place 2 (Syntax.field 0 ∷ []))) (Syntax.copy (Syntax.place 8 [])))
+b8 = Syntax.assign (Syntax.place 11 []) (Syntax.op2 Syntax.offset (Syntax.copy (Syntax.place 3 (Syntax.field 0 ∷ []))) (Syntax.copy (Syntax.place 9 [])))
 
 abbrev b9 : Syntax.Body
-b9 = Syntax.assign (Syntax.place 11 []) (Syntax.rvOpd (Syntax.copy (Syntax.place 10 (Syntax.deref SiteLaws.mir ∷ []))))
+b9 = Syntax.assign (Syntax.place 12 []) (Syntax.rvOpd (Syntax.copy (Syntax.place 11 (Syntax.deref SiteLaws.mir ∷ []))))
 
 abbrev b10 : Syntax.Body
-b10 = Syntax.assign (Syntax.place 7 []) (Syntax.rvOpd (Syntax.copy (Syntax.place 11 [])))
+b10 = Syntax.assign (Syntax.place 8 []) (Syntax.rvOpd (Syntax.copy (Syntax.place 12 [])))
 
 abbrev b11 : Syntax.Body
-b11 = Syntax.assign (Syntax.place 12 []) (Syntax.addrOf (Syntax.place 3 (Syntax.field 0 ∷ Syntax.deref type·0 ∷ [])))
+b11 = Syntax.assign (Syntax.place 13 []) (Syntax.addrOf (Syntax.place 4 (Syntax.field 0 ∷ Syntax.deref type·0 ∷ [])))
 
 abbrev b12 : Syntax.Body
-b12 = Syntax.assign (Syntax.place 13 []) (Syntax.aggregate (Syntax.copy (Syntax.place 12 []) ∷ Syntax.copy (Syntax.place 3 (Syntax.field 1 ∷ [])) ∷ []))
+b12 = Syntax.assign (Syntax.place 14 []) (Syntax.aggregate (Syntax.copy (Syntax.place 13 []) ∷ Syntax.copy (Syntax.place 4 (Syntax.field 1 ∷ [])) ∷ []))
 
 abbrev b13 : Syntax.Body
-b13 = Syntax.call "project_writer::course::step" (Syntax.copy (Syntax.place 1 []) ∷ Syntax.copy (Syntax.place 7 []) ∷ Syntax.copy (Syntax.place 13 []) ∷ Syntax.copy (Syntax.place 5 []) ∷ []) (Syntax.place 5 [])
+b13 = Syntax.call "project_writer::course::step" (Syntax.copy (Syntax.place 1 []) ∷ Syntax.copy (Syntax.place 2 []) ∷ Syntax.copy (Syntax.place 8 []) ∷ Syntax.copy (Syntax.place 14 []) ∷ Syntax.copy (Syntax.place 6 []) ∷ []) (Syntax.place 6 [])
 
 abbrev b14 : Syntax.Body
-b14 = Syntax.assign (Syntax.place 6 []) (Syntax.op2 (Syntax.add Syntax.unsigned) (Syntax.copy (Syntax.place 6 [])) (Syntax.int Syntax.w64 1))
+b14 = Syntax.assign (Syntax.place 7 []) (Syntax.op2 (Syntax.add Syntax.unsigned) (Syntax.copy (Syntax.place 7 [])) (Syntax.int Syntax.w64 1))
 
 abbrev b15 : Syntax.Body
 b15 = Syntax.seq b13 b14
@@ -195,7 +195,7 @@ abbrev b26 : Syntax.Body
 b26 = Syntax.block b25
 
 abbrev b27 : Syntax.Body
-b27 = Syntax.assign (Syntax.place 0 []) (Syntax.rvOpd (Syntax.copy (Syntax.place 5 [])))
+b27 = Syntax.assign (Syntax.place 0 []) (Syntax.rvOpd (Syntax.copy (Syntax.place 6 [])))
 
 abbrev b28 : Syntax.Body
 b28 = Syntax.return
@@ -219,67 +219,70 @@ abbrev pub Claims : Type 1
 Claims = FnKinds.In 1 ps·0 × FnKinds.Out 1 ps·0 r·0
 
 abbrev t0 : List.List Row.Entry
-t0 = ((0, Rows.any-gone Laws.mir) ∷ (1, Rows.sc-here (Row.sInt Syntax.w64)) ∷ (2, Rows.sslice Site.the-row type·8 0) ∷ (3, Mut.mslice (Referent.rtF (Referent.fInt Syntax.w8)) type·6 1) ∷ (4, Rows.whole (Declared.row Course.the-type)) ∷ (5, Rows.any-gone Laws.mir) ∷ (6, Rows.any-gone type·1) ∷ (7, Rows.any-gone SiteLaws.mir) ∷ (8, Rows.any-gone type·1) ∷ (9, Rows.any-gone Syntax.tyBool) ∷ (10, Rows.any-gone Syntax.tyPtr) ∷ (11, Rows.any-gone SiteLaws.mir) ∷ (12, Rows.any-gone type·5) ∷ (13, Rows.any-gone type·10) ∷ [])
+t0 = ((0, Rows.any-gone Laws.mir) ∷ (1, Rows.sc-here (Row.sInt Syntax.w64)) ∷ (2, Rows.sc-here (Row.sInt Syntax.w64)) ∷ (3, Rows.sslice Site.the-row type·8 0) ∷ (4, Mut.mslice (Referent.rtF (Referent.fInt Syntax.w8)) type·6 1) ∷ (5, Rows.whole (Declared.row Course.the-type)) ∷ (6, Rows.any-gone Laws.mir) ∷ (7, Rows.any-gone type·1) ∷ (8, Rows.any-gone SiteLaws.mir) ∷ (9, Rows.any-gone type·1) ∷ (10, Rows.any-gone Syntax.tyBool) ∷ (11, Rows.any-gone Syntax.tyPtr) ∷ (12, Rows.any-gone SiteLaws.mir) ∷ (13, Rows.any-gone type·5) ∷ (14, Rows.any-gone type·10) ∷ [])
 
 abbrev t1 : List.List Row.Entry
-t1 = Locals.put 4 (Rows.any-gone Laws.mir) (Locals.put 1 (Rows.any-gone type·1) (Locals.put 0 (Rows.whole (Declared.row Course.the-type)) t0))
+t1 = Locals.put 5 (Rows.any-gone Laws.mir) (Locals.put 2 (Rows.any-gone type·1) (Locals.put 1 (Rows.any-gone type·1) (Locals.put 0 (Rows.whole (Declared.row Course.the-type)) t0)))
 
 abbrev t2 : List.List Row.Entry
-t2 = Locals.put 5 (Rows.whole (Declared.row Course.the-type)) t0
+t2 = Locals.put 6 (Rows.whole (Declared.row Course.the-type)) t0
 
 abbrev t3 : List.List Row.Entry
-t3 = Locals.put 4 (Rows.any-gone Laws.mir) t2
+t3 = Locals.put 5 (Rows.any-gone Laws.mir) t2
 
 abbrev t4 : List.List Row.Entry
-t4 = Locals.put 6 (Rows.sc-here (Row.sInt Syntax.w64)) t3
+t4 = Locals.put 7 (Rows.sc-here (Row.sInt Syntax.w64)) t3
 
 abbrev t5 : List.List Row.Entry
-t5 = Locals.put 8 (Rows.sc-here (Row.sInt Syntax.w64)) t4
+t5 = Locals.put 9 (Rows.sc-here (Row.sInt Syntax.w64)) t4
 
 abbrev t6 : List.List Row.Entry
-t6 = Locals.put 9 (Rows.sc-here Row.sBool) t5
+t6 = Locals.put 10 (Rows.sc-here Row.sBool) t5
 
 abbrev t7 : List.List Row.Entry
-t7 = Locals.put 9 (Rows.sc-here Row.sBool) t4
+t7 = Locals.put 10 (Rows.sc-here Row.sBool) t4
 
 abbrev t8 : List.List Row.Entry
-t8 = Locals.put 10 (Rows.sc-here Row.sPtr) t5
+t8 = Locals.put 11 (Rows.sc-here Row.sPtr) t5
 
 abbrev t9 : List.List Row.Entry
-t9 = Locals.put 11 (Rows.whole Site.the-row) t8
+t9 = Locals.put 12 (Rows.whole Site.the-row) t8
 
 abbrev t10 : List.List Row.Entry
-t10 = Locals.put 8 (Rows.any-gone type·1) t9
+t10 = Locals.put 9 (Rows.any-gone type·1) t9
 
 abbrev t11 : List.List Row.Entry
-t11 = Locals.put 11 (Rows.whole Site.the-row) t4
+t11 = Locals.put 12 (Rows.whole Site.the-row) t4
 
 abbrev t12 : List.List Row.Entry
-t12 = Locals.put 7 (Rows.whole Site.the-row) t11
+t12 = Locals.put 8 (Rows.whole Site.the-row) t11
 
 abbrev t13 : List.List Row.Entry
-t13 = Locals.put 7 (Rows.whole Site.the-row) t4
+t13 = Locals.put 8 (Rows.whole Site.the-row) t4
 
 abbrev t14 : List.List Row.Entry
-t14 = Locals.put 12 (Relend.msptr (Referent.rtF (Referent.fInt Syntax.w8)) type·5 2) (Locals.put 3 (Relend.mslice-owed (Referent.rtF (Referent.fInt Syntax.w8)) type·6 1 2 Row.off) t13)
+t14 = Locals.put 13 (Relend.msptr (Referent.rtF (Referent.fInt Syntax.w8)) type·5 2) (Locals.put 4 (Relend.mslice-owed (Referent.rtF (Referent.fInt Syntax.w8)) type·6 1 2 Row.off) t13)
 
 abbrev t15 : List.List Row.Entry
-t15 = Locals.put 13 (Mut.mslice (Referent.rtF (Referent.fInt Syntax.w8)) type·5 2) (Locals.put 3 (Relend.mslice-owed (Referent.rtF (Referent.fInt Syntax.w8)) type·6 1 2 Row.off) t13)
+t15 = Locals.put 14 (Mut.mslice (Referent.rtF (Referent.fInt Syntax.w8)) type·5 2) (Locals.put 4 (Relend.mslice-owed (Referent.rtF (Referent.fInt Syntax.w8)) type·6 1 2 Row.off) t13)
 
 abbrev t16 : List.List Row.Entry
-t16 = Locals.put 13 (Mut.msleft (Referent.rtF (Referent.fInt Syntax.w8)) type·5) t15
+t16 = Locals.put 14 (Mut.msleft (Referent.rtF (Referent.fInt Syntax.w8)) type·5) t15
 
 abbrev t17 : List.List Row.Entry
-t17 = Locals.put 7 (Rows.any-gone SiteLaws.mir) t16
+t17 = Locals.put 8 (Rows.any-gone SiteLaws.mir) t16
 
 abbrev t18 : List.List Row.Entry
 t18 = Locals.put 0 (Rows.whole (Declared.row Course.the-type)) t4
 
 abbrev t19 : List.List Row.Entry
-t19 = Locals.put 5 (Rows.any-gone Laws.mir) t18
+t19 = Locals.put 6 (Rows.any-gone Laws.mir) t18
 
 abbrev t20 : List.List Row.Entry
-t20 = Locals.put 1 (Rows.sc-here (Row.sInt Syntax.w64)) t1
+t20 = Locals.put 7 (Rows.any-gone type·1) t19
+
+abbrev t21 : List.List Row.Entry
+t21 = Locals.put 2 (Rows.sc-here (Row.sInt Syntax.w64)) t1
 
 abbrev T0 : Row.Cx
 T0 = record { locals = t0; slots = [] }
@@ -344,6 +347,9 @@ T31 = record { locals = t19; slots = [] }
 abbrev T32 : Row.Cx
 T32 = record { locals = t20; slots = [] }
 
+abbrev T33 : Row.Cx
+T33 = record { locals = t21; slots = [] }
+
 abbrev pub O0 : Typed.Outs
 O0 = record { next = Option.none; exits = []; returns = Option.some T1 }
 
@@ -360,95 +366,98 @@ abbrev pub O4 : Typed.Outs
 O4 = Typed.withNext (Option.some T5) O3
 
 abbrev pub InvT-loop : Type 1
-InvT-loop = Rows.sc-here (Row.sInt Syntax.w64) .Mod → List.List (Site.the-row .Denot) → List.List (Referent.rtF (Referent.fInt Syntax.w8) .Denot) → Rows.whole (Declared.row Course.the-type) .Mod → Rows.sc-here (Row.sInt Syntax.w64) .Mod → List.List (Referent.rtF (Referent.fInt Syntax.w8) .Denot) → Rows.whole (Declared.row Course.the-type) .Mod → Rows.sc-here (Row.sInt Syntax.w64) .Mod → Type 0
+InvT-loop = Rows.sc-here (Row.sInt Syntax.w64) .Mod → Rows.sc-here (Row.sInt Syntax.w64) .Mod → List.List (Site.the-row .Denot) → List.List (Referent.rtF (Referent.fInt Syntax.w8) .Denot) → Rows.whole (Declared.row Course.the-type) .Mod → Rows.sc-here (Row.sInt Syntax.w64) .Mod → List.List (Referent.rtF (Referent.fInt Syntax.w8) .Denot) → Rows.whole (Declared.row Course.the-type) .Mod → Rows.sc-here (Row.sInt Syntax.w64) .Mod → Type 0
 
 abbrev pub MeasureT-loop : Type 0
-MeasureT-loop = Rows.sc-here (Row.sInt Syntax.w64) .Mod → List.List (Site.the-row .Denot) → List.List (Referent.rtF (Referent.fInt Syntax.w8) .Denot) → Rows.whole (Declared.row Course.the-type) .Mod → Rows.sc-here (Row.sInt Syntax.w64) .Mod → List.List (Referent.rtF (Referent.fInt Syntax.w8) .Denot) → Rows.whole (Declared.row Course.the-type) .Mod → Rows.sc-here (Row.sInt Syntax.w64) .Mod → Nat.ℕ
+MeasureT-loop = Rows.sc-here (Row.sInt Syntax.w64) .Mod → Rows.sc-here (Row.sInt Syntax.w64) .Mod → List.List (Site.the-row .Denot) → List.List (Referent.rtF (Referent.fInt Syntax.w8) .Denot) → Rows.whole (Declared.row Course.the-type) .Mod → Rows.sc-here (Row.sInt Syntax.w64) .Mod → List.List (Referent.rtF (Referent.fInt Syntax.w8) .Denot) → Rows.whole (Declared.row Course.the-type) .Mod → Rows.sc-here (Row.sInt Syntax.w64) .Mod → Nat.ℕ
 
 module _ (claims· : Claims) where
   abbrev s0 : Typed.Gives T0 T0
-  s0 = Know.k-sl-known (Referent.fInt Syntax.w8) T0 3 1 type·6 Row.off 0 λ x. x
+  s0 = Know.k-sl-known (Referent.fInt Syntax.w8) T0 4 1 type·6 Row.off 0 λ x. x
 
   abbrev s1 : Typed.Mo T0 → Typed.Mo T3
-  s1 = LocalCopy.n-val-copy T0 4 5 (Declared.row Course.the-type) row·7 row·7 (λ x. x) (λ x. x) λ x. x
+  s1 = LocalCopy.n-val-copy T0 5 6 (Declared.row Course.the-type) row·7 row·7 (λ x. x) (λ x. x) λ x. x
 
   abbrev s2 : Typed.Mo T3 → Typed.Mo T4
-  s2 = Scalar.n-room T3 4 Laws.mir
+  s2 = Scalar.n-room T3 5 Laws.mir
 
   abbrev s3 : Typed.Mo T4 → Typed.Mo T5
-  s3 = Scalar.n-use T4 (Scalar.oInt Syntax.w64 0) 6 row·4 (Row.sInt Syntax.w64 .of)
+  s3 = Scalar.n-use T4 (Scalar.oInt Syntax.w64 0) 7 row·4 (Row.sInt Syntax.w64 .of)
 
   abbrev s4 : Typed.Mo T5 → Typed.Mo T7
-  s4 = Scalar.n-use T5 (Scalar.oFld 2 (Syntax.field 1 ∷ []) type·1 8 Shared.lenV) 8 row·4 (Row.sInt Syntax.w64 .of)
+  s4 = Scalar.n-use T5 (Scalar.oFld 3 (Syntax.field 1 ∷ []) type·1 8 Shared.lenV) 9 row·4 (Row.sInt Syntax.w64 .of)
 
   abbrev s5 : Typed.Asks T7 T8
-  s5 = Scalar.k-op2 T7 (Syntax.lt Syntax.unsigned) (Scalar.oAt 6 type·1 (Row.valS (Row.sInt Syntax.w64))) (Scalar.oAt 8 type·1 (Row.valS (Row.sInt Syntax.w64))) 9 (Rows.sc-here Row.sBool) (Row.sBool .of)
+  s5 = Scalar.k-op2 T7 (Syntax.lt Syntax.unsigned) (Scalar.oAt 7 type·1 (Row.valS (Row.sInt Syntax.w64))) (Scalar.oAt 9 type·1 (Row.valS (Row.sInt Syntax.w64))) 10 (Rows.sc-here Row.sBool) (Row.sBool .of)
 
   abbrev s6 : Typed.Mo T8 → Typed.Mo T10
-  s6 = Scalar.n-room T8 8 type·1
+  s6 = Scalar.n-room T8 9 type·1
 
   abbrev s7 : Typed.Mo T10 → Typed.Mo T5
-  s7 = Scalar.n-room T10 9 Syntax.tyBool
+  s7 = Scalar.n-room T10 10 Syntax.tyBool
 
   abbrev s8 : Typed.Mo T10 → Typed.Mo T5
-  s8 = Scalar.n-room T10 9 Syntax.tyBool
+  s8 = Scalar.n-room T10 10 Syntax.tyBool
 
   abbrev s9 : Typed.Asks T5 T7
-  s9 = Scalar.k-op2 T5 (Syntax.mul Syntax.unsigned) (Scalar.oAt 6 type·1 (Row.valS (Row.sInt Syntax.w64))) (Scalar.oInt Syntax.w64 154) 8 row·4 (Row.sInt Syntax.w64 .of)
+  s9 = Scalar.k-op2 T5 (Syntax.mul Syntax.unsigned) (Scalar.oAt 7 type·1 (Row.valS (Row.sInt Syntax.w64))) (Scalar.oInt Syntax.w64 154) 9 row·4 (Row.sInt Syntax.w64 .of)
 
   abbrev s10 : Typed.Asks T7 T14
-  s10 = Scalar.k-op2 T7 Syntax.offset (Scalar.oFld 2 (Syntax.field 0 ∷ []) type·8 0 Reads.ptrVal) (Scalar.oAt 8 type·1 (Row.valS (Row.sInt Syntax.w64))) 10 row·2 (Row.sPtr .of)
+  s10 = Scalar.k-op2 T7 Syntax.offset (Scalar.oFld 3 (Syntax.field 0 ∷ []) type·8 0 Reads.ptrVal) (Scalar.oAt 9 type·1 (Row.valS (Row.sInt Syntax.w64))) 11 row·2 (Row.sPtr .of)
 
   abbrev s11 : Typed.Both T14 T15
-  s11 = Move.k-shs-copy-out Site.the-row T14 2 10 11 0 type·8 Row.off row·3 (Shared.bySize 154) (λ u. u .1 .1 .1 .1 .1 .1 .0) (λ x. x) NoSite.noSite (λ x. Unit) (λ x. x) λ x. x
+  s11 = Move.k-shs-copy-out Site.the-row T14 3 11 12 0 type·8 Row.off row·3 (Shared.bySize 154) (λ u. u .1 .1 .1 .1 .1 .1 .1 .0) (λ x. x) NoSite.noSite (λ x. Unit) (λ x. x) λ x. x
 
   abbrev s12 : Typed.Mo T15 → Typed.Mo T16
-  s12 = Scalar.n-room T15 8 type·1
+  s12 = Scalar.n-room T15 9 type·1
 
   abbrev s13 : Typed.Mo T16 → Typed.Mo T17
-  s13 = Scalar.n-room T16 10 Syntax.tyPtr
+  s13 = Scalar.n-room T16 11 Syntax.tyPtr
 
   abbrev s14 : Typed.Mo T17 → Typed.Mo T18
-  s14 = LocalCopy.n-val-copy T17 11 7 Site.the-row row·3 row·3 (λ x. x) (λ x. x) λ x. x
+  s14 = LocalCopy.n-val-copy T17 12 8 Site.the-row row·3 row·3 (λ x. x) (λ x. x) λ x. x
 
   abbrev s15 : Typed.Mo T18 → Typed.Mo T19
-  s15 = Scalar.n-room T18 11 SiteLaws.mir
+  s15 = Scalar.n-room T18 12 SiteLaws.mir
 
   abbrev s17 : Typed.Gives T19 T21
-  s17 = Relend.k-sl-relend (Referent.rtF (Referent.fInt Syntax.w8)) T19 3 12 1 2 type·6 type·5 Row.off λ x. x
+  s17 = Relend.k-sl-relend (Referent.rtF (Referent.fInt Syntax.w8)) T19 4 13 1 2 type·6 type·5 Row.off λ x. x
 
   abbrev s18 : Typed.Asks T21 T22
-  s18 = Relend.k-sl-aggregate (Referent.rtF (Referent.fInt Syntax.w8)) (Relend.asMut (Referent.rtF (Referent.fInt Syntax.w8))) T21 12 13 2 type·5 type·5 (λ x. x) (Scalar.oFld 3 (Syntax.field 1 ∷ []) type·1 8 λ v. Shared.lenV (v .0))
+  s18 = Relend.k-sl-aggregate (Referent.rtF (Referent.fInt Syntax.w8)) (Relend.asMut (Referent.rtF (Referent.fInt Syntax.w8))) T21 13 14 2 type·5 type·5 (λ x. x) (Scalar.oFld 4 (Syntax.field 1 ∷ []) type·1 8 λ v. Shared.lenV (v .0))
 
   abbrev s19 : Typed.Both T22 T23
-  s19 = Call.callB ps·0 r·0 (claims· .0) (claims· .1) T22 (Num.vAt 1 λ x. x, (record { pos = 7; st = []; d = 0; at = λ x. x }, (record { pos = 13; ty = Syntax.tyRef Syntax.erased Syntax.mut type·0; ref = λ x. x }, (record { pos = 5; st = []; d = 0; at = λ x. x }, tt)))) 5 (2 ∷ []) Laws.mir
+  s19 = Call.callB ps·0 r·0 (claims· .0) (claims· .1) T22 (Num.vAt 1 λ x. x, (Num.vAt 2 λ x. x, (record { pos = 8; st = []; d = 0; at = λ x. x }, (record { pos = 14; ty = Syntax.tyRef Syntax.erased Syntax.mut type·0; ref = λ x. x }, (record { pos = 6; st = []; d = 0; at = λ x. x }, tt))))) 6 (2 ∷ []) Laws.mir
 
   abbrev s20 : Typed.Mo T23 → Typed.Mo T24
-  s20 = Scalar.n-room T23 7 SiteLaws.mir
+  s20 = Scalar.n-room T23 8 SiteLaws.mir
 
   abbrev s22 : Typed.Both T24 T5
-  s22 = Relend.k-back-sl (Referent.rtF (Referent.fInt Syntax.w8)) T24 13 3 1 2 type·6 type·5 Row.off (λ x. x) λ x. x
+  s22 = Relend.k-back-sl (Referent.rtF (Referent.fInt Syntax.w8)) T24 14 4 1 2 type·6 type·5 Row.off (λ x. x) λ x. x
 
   abbrev s23 : Typed.Gives T5 T5
-  s23 = Know.k-sl-known (Referent.fInt Syntax.w8) T5 3 1 type·6 Row.off 0 λ x. x
+  s23 = Know.k-sl-known (Referent.fInt Syntax.w8) T5 4 1 type·6 Row.off 0 λ x. x
 
   abbrev s25 : Typed.Asks T5 T5
-  s25 = Scalar.k-op2 T5 (Syntax.add Syntax.unsigned) (Scalar.oAt 6 type·1 (Row.valS (Row.sInt Syntax.w64))) (Scalar.oInt Syntax.w64 1) 6 row·4 (Row.sInt Syntax.w64 .of)
+  s25 = Scalar.k-op2 T5 (Syntax.add Syntax.unsigned) (Scalar.oAt 7 type·1 (Row.valS (Row.sInt Syntax.w64))) (Scalar.oInt Syntax.w64 1) 7 row·4 (Row.sInt Syntax.w64 .of)
 
   abbrev s26 : Typed.Mo T5 → Typed.Mo T30
-  s26 = LocalCopy.n-val-copy T5 5 0 (Declared.row Course.the-type) row·7 row·7 (λ x. x) (λ x. x) λ x. x
+  s26 = LocalCopy.n-val-copy T5 6 0 (Declared.row Course.the-type) row·7 row·7 (λ x. x) (λ x. x) λ x. x
 
   abbrev s27 : Typed.Mo T30 → Typed.Mo T31
-  s27 = Scalar.n-room T30 5 Laws.mir
+  s27 = Scalar.n-room T30 6 Laws.mir
 
   abbrev s28 : Typed.Mo T31 → Typed.Mo T32
-  s28 = Scalar.n-room T31 6 type·1
+  s28 = Scalar.n-room T31 7 type·1
 
-  abbrev s29 : Typed.Mo T32 → Typed.Mo T1
+  abbrev s29 : Typed.Mo T32 → Typed.Mo T33
   s29 = Scalar.n-room T32 1 type·1
 
+  abbrev s30 : Typed.Mo T33 → Typed.Mo T1
+  s30 = Scalar.n-room T33 2 type·1
+
   abbrev put0 : List.List (Referent.rtF (Referent.fInt Syntax.w8) .Denot) × Rows.whole (Declared.row Course.the-type) .Mod × Rows.sc-here (Row.sInt Syntax.w64) .Mod → Typed.Mo T5 → Typed.Mo T5
-  put0 = λ vs u. Row.set 6 (6, Rows.sc-here (Row.sInt Syntax.w64)) (vs .2) (T5 .locals) (Row.set 5 (5, Rows.whole (Declared.row Course.the-type)) (vs .1) (T5 .locals) (Row.set 3 (3, Mut.mslice (Referent.rtF (Referent.fInt Syntax.w8)) type·6 1) record { ptr = Row.get 3 (T5 .locals) u .ptr; name = Row.get 3 (T5 .locals) u .name; now = vs .0 } (T5 .locals) u))
+  put0 = λ vs u. Row.set 7 (7, Rows.sc-here (Row.sInt Syntax.w64)) (vs .2) (T5 .locals) (Row.set 6 (6, Rows.whole (Declared.row Course.the-type)) (vs .1) (T5 .locals) (Row.set 4 (4, Mut.mslice (Referent.rtF (Referent.fInt Syntax.w8)) type·6 1) record { ptr = Row.get 4 (T5 .locals) u .ptr; name = Row.get 4 (T5 .locals) u .name; now = vs .0 } (T5 .locals) u))
 
   module _ (Pre· : (κs : Lifetimes.Lfts 2) → FnKinds.Dens κs ps → Type 0) (Post· : (κs : Lifetimes.Lfts 2) → (a : FnKinds.Dens κs ps) → FnKinds.Plain 2 ps r κs) where
     module _ (M : Type 1) where
@@ -469,7 +478,7 @@ module _ (claims· : Claims) where
       at3 = λ Ψ. Typed.pass T10 T5 s8 (at2 Ψ)
 
       abbrev at4 : Typed.TF T10 O4
-      at4 = Scalar.Φcond T10 O4 9 (λ x. x) at1 at3
+      at4 = Scalar.Φcond T10 O4 10 (λ x. x) at1 at3
 
       abbrev at5 : Typed.TF T8 O4
       at5 = λ Ψ. Typed.pass T8 T10 s6 (at4 Ψ)
@@ -535,7 +544,7 @@ module _ (claims· : Claims) where
       at25 = λ Ψ. Typed.pass T5 T7 s4 (at24 Ψ)
 
       abbrev at26 : Typed.TF T5 O2
-      at26 = Typed.LoopBy T5 O2 put0 (λ u vs. Inv·0 (Row.get 1 (T5 .locals) u) (Row.get 2 (T5 .locals) u .now) (Row.get 3 (T5 .locals) u .now) (Row.get 5 (T5 .locals) u) (Row.get 6 (T5 .locals) u) (vs .0) (vs .1) (vs .2)) (λ u vs. μ·0 (Row.get 1 (T5 .locals) u) (Row.get 2 (T5 .locals) u .now) (Row.get 3 (T5 .locals) u .now) (Row.get 5 (T5 .locals) u) (Row.get 6 (T5 .locals) u) (vs .0) (vs .1) (vs .2)) at25
+      at26 = Typed.LoopBy T5 O2 put0 (λ u vs. Inv·0 (Row.get 1 (T5 .locals) u) (Row.get 2 (T5 .locals) u) (Row.get 3 (T5 .locals) u .now) (Row.get 4 (T5 .locals) u .now) (Row.get 6 (T5 .locals) u) (Row.get 7 (T5 .locals) u) (vs .0) (vs .1) (vs .2)) (λ u vs. μ·0 (Row.get 1 (T5 .locals) u) (Row.get 2 (T5 .locals) u) (Row.get 3 (T5 .locals) u .now) (Row.get 4 (T5 .locals) u .now) (Row.get 6 (T5 .locals) u) (Row.get 7 (T5 .locals) u) (vs .0) (vs .1) (vs .2)) at25
 
       abbrev at27 : Typed.TF T5 O1
       at27 = λ Ψ. at26 (Typed.inBlock O1 Ψ)
@@ -543,35 +552,38 @@ module _ (claims· : Claims) where
       abbrev at28 : Typed.TF T1 O0
       at28 = Typed.atRet O0
 
-      abbrev at29 : Typed.TF T32 O0
-      at29 = λ Ψ. Typed.pass T32 T1 s29 (at28 Ψ)
+      abbrev at29 : Typed.TF T33 O0
+      at29 = λ Ψ. Typed.pass T33 T1 s30 (at28 Ψ)
 
-      abbrev at30 : Typed.TF T31 O0
-      at30 = λ Ψ. Typed.pass T31 T32 s28 (at29 Ψ)
+      abbrev at30 : Typed.TF T32 O0
+      at30 = λ Ψ. Typed.pass T32 T33 s29 (at29 Ψ)
 
-      abbrev at31 : Typed.TF T30 O0
-      at31 = λ Ψ. Typed.pass T30 T31 s27 (at30 Ψ)
+      abbrev at31 : Typed.TF T31 O0
+      at31 = λ Ψ. Typed.pass T31 T32 s28 (at30 Ψ)
 
-      abbrev at32 : Typed.TF T5 O0
-      at32 = λ Ψ. Typed.pass T5 T30 s26 (at31 Ψ)
+      abbrev at32 : Typed.TF T30 O0
+      at32 = λ Ψ. Typed.pass T30 T31 s27 (at31 Ψ)
 
       abbrev at33 : Typed.TF T5 O0
-      at33 = λ Ψ. at27 (Typed.wantNext T5 O0 (at32 Ψ) Ψ)
+      at33 = λ Ψ. Typed.pass T5 T30 s26 (at32 Ψ)
 
-      abbrev at34 : Typed.TF T4 O0
-      at34 = λ Ψ. Typed.pass T4 T5 s3 (at33 Ψ)
+      abbrev at34 : Typed.TF T5 O0
+      at34 = λ Ψ. at27 (Typed.wantNext T5 O0 (at33 Ψ) Ψ)
 
-      abbrev at35 : Typed.TF T3 O0
-      at35 = λ Ψ. Typed.pass T3 T4 s2 (at34 Ψ)
+      abbrev at35 : Typed.TF T4 O0
+      at35 = λ Ψ. Typed.pass T4 T5 s3 (at34 Ψ)
 
-      abbrev at36 : Typed.TF T0 O0
-      at36 = λ Ψ. Typed.pass T0 T3 s1 (at35 Ψ)
+      abbrev at36 : Typed.TF T3 O0
+      at36 = λ Ψ. Typed.pass T3 T4 s2 (at35 Ψ)
 
       abbrev at37 : Typed.TF T0 O0
-      at37 = λ Ψ. Typed.give s0 (at36 Ψ)
+      at37 = λ Ψ. Typed.pass T0 T3 s1 (at36 Ψ)
+
+      abbrev at38 : Typed.TF T0 O0
+      at38 = λ Ψ. Typed.give s0 (at37 Ψ)
 
       abbrev pub Φ : Typed.TF T0 O0
-      Φ = at37
+      Φ = at38
 
       module _ {M : Type 1} (𝓤 : URA.URA M) (H : Wp.Heap 𝓤) (A : Atoms.Atoms 𝓤) (W : Kit.Given 𝓤 H A) (𝓣 : Wp.Tables 𝓤 H) where
         abbrev Knowns : Type 1
@@ -579,16 +591,16 @@ module _ (claims· : Claims) where
 
       module _ (κs : Lifetimes.Lfts 2) (qs : Lifetimes.Shares 2) where
         abbrev g14 : List.List Row.Entry
-        g14 = Locals.put 3 (Relend.mslice-owed (Referent.rtF (Referent.fInt Syntax.w8)) type·6 1 2 (Row.lease (κs .1 .0) (qs .1 .0))) t14
+        g14 = Locals.put 4 (Relend.mslice-owed (Referent.rtF (Referent.fInt Syntax.w8)) type·6 1 2 (Row.lease (κs .1 .0) (qs .1 .0))) t14
 
         abbrev g15 : List.List Row.Entry
-        g15 = Locals.put 3 (Relend.mslice-owed (Referent.rtF (Referent.fInt Syntax.w8)) type·6 1 2 (Row.lease (κs .1 .0) (qs .1 .0))) t15
+        g15 = Locals.put 4 (Relend.mslice-owed (Referent.rtF (Referent.fInt Syntax.w8)) type·6 1 2 (Row.lease (κs .1 .0) (qs .1 .0))) t15
 
         abbrev g16 : List.List Row.Entry
-        g16 = Locals.put 3 (Relend.mslice-owed (Referent.rtF (Referent.fInt Syntax.w8)) type·6 1 2 (Row.lease (κs .1 .0) (qs .1 .0))) t16
+        g16 = Locals.put 4 (Relend.mslice-owed (Referent.rtF (Referent.fInt Syntax.w8)) type·6 1 2 (Row.lease (κs .1 .0) (qs .1 .0))) t16
 
         abbrev g17 : List.List Row.Entry
-        g17 = Locals.put 3 (Relend.mslice-owed (Referent.rtF (Referent.fInt Syntax.w8)) type·6 1 2 (Row.lease (κs .1 .0) (qs .1 .0))) t17
+        g17 = Locals.put 4 (Relend.mslice-owed (Referent.rtF (Referent.fInt Syntax.w8)) type·6 1 2 (Row.lease (κs .1 .0) (qs .1 .0))) t17
 
         abbrev G0 : Row.Cx
         G0 = record { locals = t0; slots = (Row.lease (κs .0) (qs .0) ∷ Row.lease (κs .1 .0) (qs .1 .0) ∷ Row.off ∷ []) }
@@ -662,6 +674,9 @@ module _ (claims· : Claims) where
         abbrev G32 : Row.Cx
         G32 = record { locals = t20; slots = (Row.lease (κs .0) (qs .0) ∷ Row.lease (κs .1 .0) (qs .1 .0) ∷ Row.off ∷ []) }
 
+        abbrev G33 : Row.Cx
+        G33 = record { locals = t21; slots = (Row.lease (κs .0) (qs .0) ∷ Row.lease (κs .1 .0) (qs .1 .0) ∷ Row.off ∷ []) }
+
         abbrev Δ0 : Typed.Outs
         Δ0 = record { next = Option.none; exits = []; returns = Option.some G1 }
 
@@ -685,82 +700,82 @@ module _ (claims· : Claims) where
           d0 = Typed.t-skip 𝓤 H A W 𝓣 E Δ4 tt
 
           d1 : Typed.Typed 𝓤 H A 𝓣 E G10 b4 Δ4 at1
-          d1 = Typed.g-pre 𝓤 H A W 𝓣 E G10 G5 b4 Δ4 (Typed.pass T10 T5 s7) at0 (Scalar.g-room 𝓤 H A W E G10 9 Syntax.tyBool (Scalar.room-sc 𝓤 H A W Row.sBool)) d0
+          d1 = Typed.g-pre 𝓤 H A W 𝓣 E G10 G5 b4 Δ4 (Typed.pass T10 T5 s7) at0 (Scalar.g-room 𝓤 H A W E G10 10 Syntax.tyBool (Scalar.room-sc 𝓤 H A W Row.sBool)) d0
 
           d2 : Typed.Typed 𝓤 H A 𝓣 E G5 b5 Δ4 at2
           d2 = Typed.t-exit 𝓤 H A W 𝓣 E 1 Δ4 tt
 
           d3 : Typed.Typed 𝓤 H A 𝓣 E G10 b5 Δ4 at3
-          d3 = Typed.g-pre 𝓤 H A W 𝓣 E G10 G5 b5 Δ4 (Typed.pass T10 T5 s8) at2 (Scalar.g-room 𝓤 H A W E G10 9 Syntax.tyBool (Scalar.room-sc 𝓤 H A W Row.sBool)) d2
+          d3 = Typed.g-pre 𝓤 H A W 𝓣 E G10 G5 b5 Δ4 (Typed.pass T10 T5 s8) at2 (Scalar.g-room 𝓤 H A W E G10 10 Syntax.tyBool (Scalar.room-sc 𝓤 H A W Row.sBool)) d2
 
           d4 : Typed.Typed 𝓤 H A 𝓣 E G10 b6 Δ4 at4
-          d4 = Scalar.t-cond 𝓤 H A W E 𝓣 G10 9 (λ x. x) b4 b5 Δ4 at1 at3 (Scalar.reads-sc 𝓤 H A W Row.sBool) Path.refl d1 d3
+          d4 = Scalar.t-cond 𝓤 H A W E 𝓣 G10 10 (λ x. x) b4 b5 Δ4 at1 at3 (Scalar.reads-sc 𝓤 H A W Row.sBool) Path.refl d1 d3
 
           d5 : Typed.Typed 𝓤 H A 𝓣 E G8 b6 Δ4 at5
-          d5 = Typed.g-pre 𝓤 H A W 𝓣 E G8 G10 b6 Δ4 (Typed.pass T8 T10 s6) at4 (Scalar.g-room 𝓤 H A W E G8 8 type·1 (Scalar.room-sc 𝓤 H A W (Row.sInt Syntax.w64))) d4
+          d5 = Typed.g-pre 𝓤 H A W 𝓣 E G8 G10 b6 Δ4 (Typed.pass T8 T10 s6) at4 (Scalar.g-room 𝓤 H A W E G8 9 type·1 (Scalar.room-sc 𝓤 H A W (Row.sInt Syntax.w64))) d4
 
           d6 : Typed.Typed 𝓤 H A 𝓣 E G5 b14 Δ3 at6
-          d6 = Typed.s-typed 𝓤 H A W 𝓣 E G5 b14 Δ3 (Typed.ask s25) tt (Scalar.t-op2 𝓤 H A W E 𝓣 G5 (Syntax.add Syntax.unsigned) (Scalar.oAt 6 type·1 (Row.valS (Row.sInt Syntax.w64))) (Scalar.oInt Syntax.w64 1) 6 row·4 type·1 (Row.valS (Row.sInt Syntax.w64)) (Row.sInt Syntax.w64 .of) (Scalar.reads-sc 𝓤 H A W (Row.sInt Syntax.w64), Path.refl) tt (Scalar.room-sc 𝓤 H A W (Row.sInt Syntax.w64)) (Scalar.holds-sc 𝓤 H A W (Row.sInt Syntax.w64)) Path.refl (λ u. Path.refl) λ u. tt)
+          d6 = Typed.s-typed 𝓤 H A W 𝓣 E G5 b14 Δ3 (Typed.ask s25) tt (Scalar.t-op2 𝓤 H A W E 𝓣 G5 (Syntax.add Syntax.unsigned) (Scalar.oAt 7 type·1 (Row.valS (Row.sInt Syntax.w64))) (Scalar.oInt Syntax.w64 1) 7 row·4 type·1 (Row.valS (Row.sInt Syntax.w64)) (Row.sInt Syntax.w64 .of) (Scalar.reads-sc 𝓤 H A W (Row.sInt Syntax.w64), Path.refl) tt (Scalar.room-sc 𝓤 H A W (Row.sInt Syntax.w64)) (Scalar.holds-sc 𝓤 H A W (Row.sInt Syntax.w64)) Path.refl (λ u. Path.refl) λ u. tt)
 
           d7 : Typed.Typed 𝓤 H A 𝓣 E G26 b14 Δ3 at7
           d7 = Typed.g-pre 𝓤 H A W 𝓣 E G26 G5 b14 Δ3 (λ Ψ. Ψ) at6 (Lifetime.g-forget 𝓤 H A W E G26 2 Row.dead Path.refl) d6
 
           d8 : Typed.Typed 𝓤 H A 𝓣 E G26 b14 Δ3 at8
-          d8 = Typed.g-pre 𝓤 H A W 𝓣 E G26 G26 b14 Δ3 (Typed.give s23) at7 (Know.g-sl-known 𝓤 H A W (Referent.fInt Syntax.w8) E G26 3 1 type·6 (Row.lease (κs .1 .0) (qs .1 .0)) 0 (λ x. x) record { fits = Dec.lit< tt } (Reads.as-is 𝓤 H A row·9) Path.refl tt) d7
+          d8 = Typed.g-pre 𝓤 H A W 𝓣 E G26 G26 b14 Δ3 (Typed.give s23) at7 (Know.g-sl-known 𝓤 H A W (Referent.fInt Syntax.w8) E G26 4 1 type·6 (Row.lease (κs .1 .0) (qs .1 .0)) 0 (λ x. x) record { fits = Dec.lit< tt } (Reads.as-is 𝓤 H A row·9) Path.refl tt) d7
 
           d9 : Typed.Typed 𝓤 H A 𝓣 E G25 b14 Δ3 at9
-          d9 = Typed.g-pre 𝓤 H A W 𝓣 E G25 G26 b14 Δ3 (Typed.both s22) at8 (Relend.g-back-sl 𝓤 H A W E (Referent.rtF (Referent.fInt Syntax.w8)) G25 13 3 1 2 type·6 type·5 (Row.lease (κs .1 .0) (qs .1 .0)) (λ x. x) (λ x. x) (Reads.as-is 𝓤 H A (Mut.msleft (Referent.rtF (Referent.fInt Syntax.w8)) type·5)) (Reads.as-is 𝓤 H A (Relend.mslice-owed (Referent.rtF (Referent.fInt Syntax.w8)) type·6 1 2 (Row.lease (κs .1 .0) (qs .1 .0)))) Path.refl Path.refl) d8
+          d9 = Typed.g-pre 𝓤 H A W 𝓣 E G25 G26 b14 Δ3 (Typed.both s22) at8 (Relend.g-back-sl 𝓤 H A W E (Referent.rtF (Referent.fInt Syntax.w8)) G25 14 4 1 2 type·6 type·5 (Row.lease (κs .1 .0) (qs .1 .0)) (λ x. x) (λ x. x) (Reads.as-is 𝓤 H A (Mut.msleft (Referent.rtF (Referent.fInt Syntax.w8)) type·5)) (Reads.as-is 𝓤 H A (Relend.mslice-owed (Referent.rtF (Referent.fInt Syntax.w8)) type·6 1 2 (Row.lease (κs .1 .0) (qs .1 .0)))) Path.refl Path.refl) d8
 
           d10 : Typed.Typed 𝓤 H A 𝓣 E G24 b14 Δ3 at10
           d10 = Typed.g-pre 𝓤 H A W 𝓣 E G24 G25 b14 Δ3 (λ Ψ. Ψ) at9 (Lifetime.g-end 𝓤 H A W E G24 2 Path.refl) d9
 
           d11 : Typed.Typed 𝓤 H A 𝓣 E G23 b14 Δ3 at11
-          d11 = Typed.g-pre 𝓤 H A W 𝓣 E G23 G24 b14 Δ3 (Typed.pass T23 T24 s20) at10 (Scalar.g-room 𝓤 H A W E G23 7 SiteLaws.mir (Local.room-whole 𝓤 H A W Site.the-row SiteLaws.mir Path.refl)) d10
+          d11 = Typed.g-pre 𝓤 H A W 𝓣 E G23 G24 b14 Δ3 (Typed.pass T23 T24 s20) at10 (Scalar.g-room 𝓤 H A W E G23 8 SiteLaws.mir (Local.room-whole 𝓤 H A W Site.the-row SiteLaws.mir Path.refl)) d10
 
           d12 : Typed.Typed 𝓤 H A 𝓣 E G22 b15 Δ3 at12
-          d12 = Typed.s-seq 𝓤 H A W 𝓣 E G22 G23 b13 b14 Δ3 (Typed.both s19) at11 (Plain.t-call-plain 𝓤 H A W 𝓣 1 ps·0 r·0 (claims· .0) (claims· .1) "project_writer::course::step" known E (λ pos β. β) G22 (Num.vAt 1 λ x. x, (record { pos = 7; st = []; d = 0; at = λ x. x }, (record { pos = 13; ty = Syntax.tyRef Syntax.erased Syntax.mut type·0; ref = λ x. x }, (record { pos = 5; st = []; d = 0; at = λ x. x }, tt)))) 5 (2 ∷ []) (Call.sub-id 𝓤 H A W (G22 .slots)) ((Scalar.reads-sc 𝓤 H A W (Row.sInt Syntax.w64), Path.refl), ((Yields.yields-copy 𝓤 H A W (λ ρ. Unit) Site.the-row Path.refl ((Copies.cStruct Site.the-type SiteLaws.the-laws SiteLaws.the-copy) .copy 𝓤 H A W) row·3 (λ x. x) (λ x. x) (λ ρ told. Local.mem-whole 𝓤 H A W Site.the-row ρ) (λ ρ told. Local.whole-mem 𝓤 H A W Site.the-row ρ), Path.refl), (Reads.as-is 𝓤 H A (Mut.mslice (Referent.rtF (Referent.fInt Syntax.w8)) type·5 2), Mut.reads-mslice 𝓤 H A W (Referent.rtF (Referent.fInt Syntax.w8)) type·5 2, Path.refl, ((Yields.yields-copy 𝓤 H A W (λ ρ. Unit) (Declared.row Course.the-type) Path.refl (Copies.cEnum Course.the-type Laws.the-laws Laws.the-copy .copy 𝓤 H A W) row·7 (λ x. x) (λ x. x) (λ ρ told. Local.mem-whole 𝓤 H A W (Declared.row Course.the-type) ρ) λ ρ told. Local.whole-mem 𝓤 H A W (Declared.row Course.the-type) ρ, Path.refl), tt)))) (Local.room-whole 𝓤 H A W (Declared.row Course.the-type) Laws.mir Path.refl) (tt, tt) Path.refl) d11
+          d12 = Typed.s-seq 𝓤 H A W 𝓣 E G22 G23 b13 b14 Δ3 (Typed.both s19) at11 (Plain.t-call-plain 𝓤 H A W 𝓣 1 ps·0 r·0 (claims· .0) (claims· .1) "project_writer::course::step" known E (λ pos β. β) G22 (Num.vAt 1 λ x. x, (Num.vAt 2 λ x. x, (record { pos = 8; st = []; d = 0; at = λ x. x }, (record { pos = 14; ty = Syntax.tyRef Syntax.erased Syntax.mut type·0; ref = λ x. x }, (record { pos = 6; st = []; d = 0; at = λ x. x }, tt))))) 6 (2 ∷ []) (Call.sub-id 𝓤 H A W (G22 .slots)) ((Scalar.reads-sc 𝓤 H A W (Row.sInt Syntax.w64), Path.refl), ((Scalar.reads-sc 𝓤 H A W (Row.sInt Syntax.w64), Path.refl), ((Yields.yields-copy 𝓤 H A W (λ ρ. Unit) Site.the-row Path.refl ((Copies.cStruct Site.the-type SiteLaws.the-laws SiteLaws.the-copy) .copy 𝓤 H A W) row·3 (λ x. x) (λ x. x) (λ ρ told. Local.mem-whole 𝓤 H A W Site.the-row ρ) (λ ρ told. Local.whole-mem 𝓤 H A W Site.the-row ρ), Path.refl), (Reads.as-is 𝓤 H A (Mut.mslice (Referent.rtF (Referent.fInt Syntax.w8)) type·5 2), Mut.reads-mslice 𝓤 H A W (Referent.rtF (Referent.fInt Syntax.w8)) type·5 2, Path.refl, ((Yields.yields-copy 𝓤 H A W (λ ρ. Unit) (Declared.row Course.the-type) Path.refl (Copies.cEnum Course.the-type Laws.the-laws Laws.the-copy .copy 𝓤 H A W) row·7 (λ x. x) (λ x. x) (λ ρ told. Local.mem-whole 𝓤 H A W (Declared.row Course.the-type) ρ) λ ρ told. Local.whole-mem 𝓤 H A W (Declared.row Course.the-type) ρ, Path.refl), tt))))) (Local.room-whole 𝓤 H A W (Declared.row Course.the-type) Laws.mir Path.refl) (tt, tt) Path.refl) d11
 
           d13 : Typed.Typed 𝓤 H A 𝓣 E G21 b16 Δ3 at13
-          d13 = Typed.s-seq 𝓤 H A W 𝓣 E G21 G22 b12 b15 Δ3 (Typed.ask s18) at12 (Relend.t-sl-aggregate 𝓤 H A W E (Referent.rtF (Referent.fInt Syntax.w8)) 𝓣 (Relend.asMut (Referent.rtF (Referent.fInt Syntax.w8))) G21 12 13 2 type·5 type·5 (λ x. x) (Scalar.oFld 3 (Syntax.field 1 ∷ []) type·1 8 λ v. Shared.lenV (v .0)) (Reads.as-is 𝓤 H A (Relend.msptr (Referent.rtF (Referent.fInt Syntax.w8)) type·5 2)) (Reads.room-gone 𝓤 H A type·10) (Relend.reads-owed-len 𝓤 H A W (Referent.rtF (Referent.fInt Syntax.w8)) type·6 1 2 (Row.lease (κs .1 .0) (qs .1 .0)) 8 Path.refl, Path.refl) Path.refl Path.refl λ b o k. tt) d12
+          d13 = Typed.s-seq 𝓤 H A W 𝓣 E G21 G22 b12 b15 Δ3 (Typed.ask s18) at12 (Relend.t-sl-aggregate 𝓤 H A W E (Referent.rtF (Referent.fInt Syntax.w8)) 𝓣 (Relend.asMut (Referent.rtF (Referent.fInt Syntax.w8))) G21 13 14 2 type·5 type·5 (λ x. x) (Scalar.oFld 4 (Syntax.field 1 ∷ []) type·1 8 λ v. Shared.lenV (v .0)) (Reads.as-is 𝓤 H A (Relend.msptr (Referent.rtF (Referent.fInt Syntax.w8)) type·5 2)) (Reads.room-gone 𝓤 H A type·10) (Relend.reads-owed-len 𝓤 H A W (Referent.rtF (Referent.fInt Syntax.w8)) type·6 1 2 (Row.lease (κs .1 .0) (qs .1 .0)) 8 Path.refl, Path.refl) Path.refl Path.refl λ b o k. tt) d12
 
           d14 : Typed.Typed 𝓤 H A 𝓣 E G20 b17 Δ3 at14
-          d14 = Typed.s-seq 𝓤 H A W 𝓣 E G20 G21 b11 b16 Δ3 (Typed.give s17) at13 (Relend.t-sl-relend 𝓤 H A W E (Referent.rtF (Referent.fInt Syntax.w8)) 𝓣 G20 3 12 1 2 type·6 type·5 (Row.lease (κs .1 .0) (qs .1 .0)) 0 (λ x. x) (Reads.as-is 𝓤 H A row·9) (Reads.room-gone 𝓤 H A type·5) Path.refl tt Path.refl Path.refl Path.refl λ b o. tt) d13
+          d14 = Typed.s-seq 𝓤 H A W 𝓣 E G20 G21 b11 b16 Δ3 (Typed.give s17) at13 (Relend.t-sl-relend 𝓤 H A W E (Referent.rtF (Referent.fInt Syntax.w8)) 𝓣 G20 4 13 1 2 type·6 type·5 (Row.lease (κs .1 .0) (qs .1 .0)) 0 (λ x. x) (Reads.as-is 𝓤 H A row·9) (Reads.room-gone 𝓤 H A type·5) Path.refl tt Path.refl Path.refl Path.refl λ b o. tt) d13
 
           d15 : Typed.Typed 𝓤 H A 𝓣 E G19 b17 Δ3 at15
-          d15 = Typed.g-pre 𝓤 H A W 𝓣 E G19 G20 b17 Δ3 (λ Ψ. Ψ) at14 (Lifetime.g-begin 𝓤 H A W E G19 2 (tt, (tt, (tt, (tt, (tt, (tt, (tt, (tt, (tt, (tt, (tt, (tt, (tt, (tt, tt))))))))))))))) d14
+          d15 = Typed.g-pre 𝓤 H A W 𝓣 E G19 G20 b17 Δ3 (λ Ψ. Ψ) at14 (Lifetime.g-begin 𝓤 H A W E G19 2 (tt, (tt, (tt, (tt, (tt, (tt, (tt, (tt, (tt, (tt, (tt, (tt, (tt, (tt, (tt, tt)))))))))))))))) d14
 
           d16 : Typed.Typed 𝓤 H A 𝓣 E G18 b17 Δ3 at16
-          d16 = Typed.g-pre 𝓤 H A W 𝓣 E G18 G19 b17 Δ3 (Typed.pass T18 T19 s15) at15 (Scalar.g-room 𝓤 H A W E G18 11 SiteLaws.mir (Local.room-whole 𝓤 H A W Site.the-row SiteLaws.mir Path.refl)) d15
+          d16 = Typed.g-pre 𝓤 H A W 𝓣 E G18 G19 b17 Δ3 (Typed.pass T18 T19 s15) at15 (Scalar.g-room 𝓤 H A W E G18 12 SiteLaws.mir (Local.room-whole 𝓤 H A W Site.the-row SiteLaws.mir Path.refl)) d15
 
           d17 : Typed.Typed 𝓤 H A 𝓣 E G17 b18 Δ3 at17
-          d17 = Typed.s-seq 𝓤 H A W 𝓣 E G17 G18 b10 b17 Δ3 (Typed.pass T17 T18 s14) at16 (LocalCopy.t-val-copy 𝓤 H A W E 𝓣 (λ ρ. Unit) G17 11 7 Site.the-row SiteLaws.mir SiteLaws.mir row·3 row·3 (λ x. x) (λ x. x) (λ x. x) Path.refl (Own.told-none 𝓤 H A (G17 .slots)) (Yields.yields-copy 𝓤 H A W (λ ρ. Unit) Site.the-row Path.refl (Copies.cStruct Site.the-type SiteLaws.the-laws SiteLaws.the-copy .copy 𝓤 H A W) row·3 (λ x. x) (λ x. x) (λ ρ told. Local.mem-whole 𝓤 H A W Site.the-row ρ) λ ρ told. Local.whole-mem 𝓤 H A W Site.the-row ρ) (Reads.room-gone 𝓤 H A SiteLaws.mir) (Yields.makes-mem 𝓤 H A W (λ ρ. Unit) Site.the-row Path.refl row·3 (λ x. x) λ ρ told. Local.whole-mem 𝓤 H A W Site.the-row ρ) Path.refl Path.refl) d16
+          d17 = Typed.s-seq 𝓤 H A W 𝓣 E G17 G18 b10 b17 Δ3 (Typed.pass T17 T18 s14) at16 (LocalCopy.t-val-copy 𝓤 H A W E 𝓣 (λ ρ. Unit) G17 12 8 Site.the-row SiteLaws.mir SiteLaws.mir row·3 row·3 (λ x. x) (λ x. x) (λ x. x) Path.refl (Own.told-none 𝓤 H A (G17 .slots)) (Yields.yields-copy 𝓤 H A W (λ ρ. Unit) Site.the-row Path.refl (Copies.cStruct Site.the-type SiteLaws.the-laws SiteLaws.the-copy .copy 𝓤 H A W) row·3 (λ x. x) (λ x. x) (λ ρ told. Local.mem-whole 𝓤 H A W Site.the-row ρ) λ ρ told. Local.whole-mem 𝓤 H A W Site.the-row ρ) (Reads.room-gone 𝓤 H A SiteLaws.mir) (Yields.makes-mem 𝓤 H A W (λ ρ. Unit) Site.the-row Path.refl row·3 (λ x. x) λ ρ told. Local.whole-mem 𝓤 H A W Site.the-row ρ) Path.refl Path.refl) d16
 
           d18 : Typed.Typed 𝓤 H A 𝓣 E G16 b18 Δ3 at18
-          d18 = Typed.g-pre 𝓤 H A W 𝓣 E G16 G17 b18 Δ3 (Typed.pass T16 T17 s13) at17 (Scalar.g-room 𝓤 H A W E G16 10 Syntax.tyPtr (Scalar.room-sc 𝓤 H A W Row.sPtr)) d17
+          d18 = Typed.g-pre 𝓤 H A W 𝓣 E G16 G17 b18 Δ3 (Typed.pass T16 T17 s13) at17 (Scalar.g-room 𝓤 H A W E G16 11 Syntax.tyPtr (Scalar.room-sc 𝓤 H A W Row.sPtr)) d17
 
           d19 : Typed.Typed 𝓤 H A 𝓣 E G15 b18 Δ3 at19
-          d19 = Typed.g-pre 𝓤 H A W 𝓣 E G15 G16 b18 Δ3 (Typed.pass T15 T16 s12) at18 (Scalar.g-room 𝓤 H A W E G15 8 type·1 (Scalar.room-sc 𝓤 H A W (Row.sInt Syntax.w64))) d18
+          d19 = Typed.g-pre 𝓤 H A W 𝓣 E G15 G16 b18 Δ3 (Typed.pass T15 T16 s12) at18 (Scalar.g-room 𝓤 H A W E G15 9 type·1 (Scalar.room-sc 𝓤 H A W (Row.sInt Syntax.w64))) d18
 
           d20 : Typed.Typed 𝓤 H A 𝓣 E G14 b19 Δ3 at20
-          d20 = Typed.s-seq 𝓤 H A W 𝓣 E G14 G15 b9 b18 Δ3 (Typed.both s11) at19 (Move.t-shs-copy-out 𝓤 H A W E Site.the-row 𝓣 Path.refl (Copies.cStruct Site.the-type SiteLaws.the-laws SiteLaws.the-copy .copy 𝓤 H A W) (Copies.halved 𝓤 H A W (Copies.cStruct Site.the-type SiteLaws.the-laws SiteLaws.the-copy)) (λ ρ. Unit) G14 2 10 11 0 type·8 (Row.lease (κs .0) (qs .0)) SiteLaws.mir SiteLaws.mir row·3 (Shared.bySize 154) (λ u. u .1 .1 .1 .1 .1 .1 .0) (λ x. x) NoSite.noSite (λ x. Unit) (λ x. x) (λ x. x) (λ i o. Elements.at-mul o 154 i) Path.refl Path.refl (Own.told-none 𝓤 H A (G14 .slots)) (DerefMove.learns-nothing 𝓤 H A Site.the-row) (Reads.as-is 𝓤 H A (Rows.sslice Site.the-row type·8 0)) (Reads.as-is 𝓤 H A row·2) (Reads.room-gone 𝓤 H A SiteLaws.mir) (Yields.makes-mem 𝓤 H A W (λ ρ. Unit) Site.the-row Path.refl row·3 (λ x. x) λ ρ told. Local.whole-mem 𝓤 H A W Site.the-row ρ) Path.refl tt Path.refl Path.refl) d19
+          d20 = Typed.s-seq 𝓤 H A W 𝓣 E G14 G15 b9 b18 Δ3 (Typed.both s11) at19 (Move.t-shs-copy-out 𝓤 H A W E Site.the-row 𝓣 Path.refl (Copies.cStruct Site.the-type SiteLaws.the-laws SiteLaws.the-copy .copy 𝓤 H A W) (Copies.halved 𝓤 H A W (Copies.cStruct Site.the-type SiteLaws.the-laws SiteLaws.the-copy)) (λ ρ. Unit) G14 3 11 12 0 type·8 (Row.lease (κs .0) (qs .0)) SiteLaws.mir SiteLaws.mir row·3 (Shared.bySize 154) (λ u. u .1 .1 .1 .1 .1 .1 .1 .0) (λ x. x) NoSite.noSite (λ x. Unit) (λ x. x) (λ x. x) (λ i o. Elements.at-mul o 154 i) Path.refl Path.refl (Own.told-none 𝓤 H A (G14 .slots)) (DerefMove.learns-nothing 𝓤 H A Site.the-row) (Reads.as-is 𝓤 H A (Rows.sslice Site.the-row type·8 0)) (Reads.as-is 𝓤 H A row·2) (Reads.room-gone 𝓤 H A SiteLaws.mir) (Yields.makes-mem 𝓤 H A W (λ ρ. Unit) Site.the-row Path.refl row·3 (λ x. x) λ ρ told. Local.whole-mem 𝓤 H A W Site.the-row ρ) Path.refl tt Path.refl Path.refl) d19
 
           d21 : Typed.Typed 𝓤 H A 𝓣 E G7 b20 Δ3 at21
-          d21 = Typed.s-seq 𝓤 H A W 𝓣 E G7 G14 b8 b19 Δ3 (Typed.ask s10) at20 (Scalar.t-op2 𝓤 H A W E 𝓣 G7 Syntax.offset (Scalar.oFld 2 (Syntax.field 0 ∷ []) type·8 0 Reads.ptrVal) (Scalar.oAt 8 type·1 (Row.valS (Row.sInt Syntax.w64))) 10 row·2 Syntax.tyPtr (Row.valS Row.sPtr) (Row.sPtr .of) (Shared.reads-sslice-ptr 𝓤 H A W Site.the-row type·8 0 0 Path.refl, Path.refl) (Scalar.reads-sc 𝓤 H A W (Row.sInt Syntax.w64), Path.refl) (Reads.room-gone 𝓤 H A Syntax.tyPtr) (Scalar.holds-sc 𝓤 H A W Row.sPtr) Path.refl (λ u. Path.refl) λ u. tt) d20
+          d21 = Typed.s-seq 𝓤 H A W 𝓣 E G7 G14 b8 b19 Δ3 (Typed.ask s10) at20 (Scalar.t-op2 𝓤 H A W E 𝓣 G7 Syntax.offset (Scalar.oFld 3 (Syntax.field 0 ∷ []) type·8 0 Reads.ptrVal) (Scalar.oAt 9 type·1 (Row.valS (Row.sInt Syntax.w64))) 11 row·2 Syntax.tyPtr (Row.valS Row.sPtr) (Row.sPtr .of) (Shared.reads-sslice-ptr 𝓤 H A W Site.the-row type·8 0 0 Path.refl, Path.refl) (Scalar.reads-sc 𝓤 H A W (Row.sInt Syntax.w64), Path.refl) (Reads.room-gone 𝓤 H A Syntax.tyPtr) (Scalar.holds-sc 𝓤 H A W Row.sPtr) Path.refl (λ u. Path.refl) λ u. tt) d20
 
           d22 : Typed.Typed 𝓤 H A 𝓣 E G5 b21 Δ3 at22
-          d22 = Typed.s-seq 𝓤 H A W 𝓣 E G5 G7 b7 b20 Δ3 (Typed.ask s9) at21 (Scalar.t-op2 𝓤 H A W E 𝓣 G5 (Syntax.mul Syntax.unsigned) (Scalar.oAt 6 type·1 (Row.valS (Row.sInt Syntax.w64))) (Scalar.oInt Syntax.w64 154) 8 row·4 type·1 (Row.valS (Row.sInt Syntax.w64)) (Row.sInt Syntax.w64 .of) (Scalar.reads-sc 𝓤 H A W (Row.sInt Syntax.w64), Path.refl) tt (Reads.room-gone 𝓤 H A type·1) (Scalar.holds-sc 𝓤 H A W (Row.sInt Syntax.w64)) Path.refl (λ u. Path.refl) λ u. tt) d21
+          d22 = Typed.s-seq 𝓤 H A W 𝓣 E G5 G7 b7 b20 Δ3 (Typed.ask s9) at21 (Scalar.t-op2 𝓤 H A W E 𝓣 G5 (Syntax.mul Syntax.unsigned) (Scalar.oAt 7 type·1 (Row.valS (Row.sInt Syntax.w64))) (Scalar.oInt Syntax.w64 154) 9 row·4 type·1 (Row.valS (Row.sInt Syntax.w64)) (Row.sInt Syntax.w64 .of) (Scalar.reads-sc 𝓤 H A W (Row.sInt Syntax.w64), Path.refl) tt (Reads.room-gone 𝓤 H A type·1) (Scalar.holds-sc 𝓤 H A W (Row.sInt Syntax.w64)) Path.refl (λ u. Path.refl) λ u. tt) d21
 
           d23 : Typed.Typed 𝓤 H A 𝓣 E G8 b22 Δ3 at23
           d23 = Typed.t-seq 𝓤 H A W 𝓣 E G8 G5 b6 b21 Δ3 at5 at22 d5 d22
 
           d24 : Typed.Typed 𝓤 H A 𝓣 E G7 b23 Δ3 at24
-          d24 = Typed.s-seq 𝓤 H A W 𝓣 E G7 G8 b3 b22 Δ3 (Typed.ask s5) at23 (Scalar.t-op2 𝓤 H A W E 𝓣 G7 (Syntax.lt Syntax.unsigned) (Scalar.oAt 6 type·1 (Row.valS (Row.sInt Syntax.w64))) (Scalar.oAt 8 type·1 (Row.valS (Row.sInt Syntax.w64))) 9 (Rows.sc-here Row.sBool) Syntax.tyBool (Row.valS Row.sBool) (Row.sBool .of) (Scalar.reads-sc 𝓤 H A W (Row.sInt Syntax.w64), Path.refl) (Scalar.reads-sc 𝓤 H A W (Row.sInt Syntax.w64), Path.refl) (Reads.room-gone 𝓤 H A Syntax.tyBool) (Scalar.holds-sc 𝓤 H A W Row.sBool) Path.refl (λ u. Path.refl) λ u. tt) d23
+          d24 = Typed.s-seq 𝓤 H A W 𝓣 E G7 G8 b3 b22 Δ3 (Typed.ask s5) at23 (Scalar.t-op2 𝓤 H A W E 𝓣 G7 (Syntax.lt Syntax.unsigned) (Scalar.oAt 7 type·1 (Row.valS (Row.sInt Syntax.w64))) (Scalar.oAt 9 type·1 (Row.valS (Row.sInt Syntax.w64))) 10 (Rows.sc-here Row.sBool) Syntax.tyBool (Row.valS Row.sBool) (Row.sBool .of) (Scalar.reads-sc 𝓤 H A W (Row.sInt Syntax.w64), Path.refl) (Scalar.reads-sc 𝓤 H A W (Row.sInt Syntax.w64), Path.refl) (Reads.room-gone 𝓤 H A Syntax.tyBool) (Scalar.holds-sc 𝓤 H A W Row.sBool) Path.refl (λ u. Path.refl) λ u. tt) d23
 
           d25 : Typed.Typed 𝓤 H A 𝓣 E G5 b24 Δ3 at25
-          d25 = Typed.s-seq 𝓤 H A W 𝓣 E G5 G7 b2 b23 Δ3 (Typed.pass T5 T7 s4) at24 (Scalar.t-use 𝓤 H A W E 𝓣 G5 (Scalar.oFld 2 (Syntax.field 1 ∷ []) type·1 8 Shared.lenV) 8 row·4 type·1 (Row.valS (Row.sInt Syntax.w64)) (Row.sInt Syntax.w64 .of) (Shared.reads-sslice-len 𝓤 H A W Site.the-row type·8 0 8 Path.refl, Path.refl) (Reads.room-gone 𝓤 H A type·1) (Scalar.holds-sc 𝓤 H A W (Row.sInt Syntax.w64)) Path.refl (λ u. Path.refl) λ u. tt) d24
+          d25 = Typed.s-seq 𝓤 H A W 𝓣 E G5 G7 b2 b23 Δ3 (Typed.pass T5 T7 s4) at24 (Scalar.t-use 𝓤 H A W E 𝓣 G5 (Scalar.oFld 3 (Syntax.field 1 ∷ []) type·1 8 Shared.lenV) 9 row·4 type·1 (Row.valS (Row.sInt Syntax.w64)) (Row.sInt Syntax.w64 .of) (Shared.reads-sslice-len 𝓤 H A W Site.the-row type·8 0 8 Path.refl, Path.refl) (Reads.room-gone 𝓤 H A type·1) (Scalar.holds-sc 𝓤 H A W (Row.sInt Syntax.w64)) Path.refl (λ u. Path.refl) λ u. tt) d24
 
           d26 : Typed.Typed 𝓤 H A 𝓣 E G5 b25 Δ2 at26
-          d26 = Typed.t-loop-by 𝓤 H A W 𝓣 E G5 b24 Δ2 put0 (λ u vs. Inv·0 (Row.get 1 (T5 .locals) u) (Row.get 2 (T5 .locals) u .now) (Row.get 3 (T5 .locals) u .now) (Row.get 5 (T5 .locals) u) (Row.get 6 (T5 .locals) u) (vs .0) (vs .1) (vs .2)) (λ u vs. μ·0 (Row.get 1 (T5 .locals) u) (Row.get 2 (T5 .locals) u .now) (Row.get 3 (T5 .locals) u .now) (Row.get 5 (T5 .locals) u) (Row.get 6 (T5 .locals) u) (vs .0) (vs .1) (vs .2)) at25 d25
+          d26 = Typed.t-loop-by 𝓤 H A W 𝓣 E G5 b24 Δ2 put0 (λ u vs. Inv·0 (Row.get 1 (T5 .locals) u) (Row.get 2 (T5 .locals) u) (Row.get 3 (T5 .locals) u .now) (Row.get 4 (T5 .locals) u .now) (Row.get 6 (T5 .locals) u) (Row.get 7 (T5 .locals) u) (vs .0) (vs .1) (vs .2)) (λ u vs. μ·0 (Row.get 1 (T5 .locals) u) (Row.get 2 (T5 .locals) u) (Row.get 3 (T5 .locals) u .now) (Row.get 4 (T5 .locals) u .now) (Row.get 6 (T5 .locals) u) (Row.get 7 (T5 .locals) u) (vs .0) (vs .1) (vs .2)) at25 d25
 
           d27 : Typed.Typed 𝓤 H A 𝓣 E G5 b26 Δ1 at27
           d27 = Typed.t-block 𝓤 H A W 𝓣 E G5 b25 Δ1 at26 d26
@@ -768,48 +783,53 @@ module _ (claims· : Claims) where
           d28 : Typed.Typed 𝓤 H A 𝓣 E G1 b28 Δ0 at28
           d28 = Typed.t-return 𝓤 H A W 𝓣 E Δ0 tt
 
-          d29 : Typed.Typed 𝓤 H A 𝓣 E G32 b28 Δ0 at29
-          d29 = Typed.g-pre 𝓤 H A W 𝓣 E G32 G1 b28 Δ0 (Typed.pass T32 T1 s29) at28 (Scalar.g-room 𝓤 H A W E G32 1 type·1 (Scalar.room-sc 𝓤 H A W (Row.sInt Syntax.w64))) d28
+          d29 : Typed.Typed 𝓤 H A 𝓣 E G33 b28 Δ0 at29
+          d29 = Typed.g-pre 𝓤 H A W 𝓣 E G33 G1 b28 Δ0 (Typed.pass T33 T1 s30) at28 (Scalar.g-room 𝓤 H A W E G33 2 type·1 (Scalar.room-sc 𝓤 H A W (Row.sInt Syntax.w64))) d28
 
-          d30 : Typed.Typed 𝓤 H A 𝓣 E G31 b28 Δ0 at30
-          d30 = Typed.g-pre 𝓤 H A W 𝓣 E G31 G32 b28 Δ0 (Typed.pass T31 T32 s28) at29 (Scalar.g-room 𝓤 H A W E G31 6 type·1 (Scalar.room-sc 𝓤 H A W (Row.sInt Syntax.w64))) d29
+          d30 : Typed.Typed 𝓤 H A 𝓣 E G32 b28 Δ0 at30
+          d30 = Typed.g-pre 𝓤 H A W 𝓣 E G32 G33 b28 Δ0 (Typed.pass T32 T33 s29) at29 (Scalar.g-room 𝓤 H A W E G32 1 type·1 (Scalar.room-sc 𝓤 H A W (Row.sInt Syntax.w64))) d29
 
-          d31 : Typed.Typed 𝓤 H A 𝓣 E G30 b28 Δ0 at31
-          d31 = Typed.g-pre 𝓤 H A W 𝓣 E G30 G31 b28 Δ0 (Typed.pass T30 T31 s27) at30 (Scalar.g-room 𝓤 H A W E G30 5 Laws.mir (Local.room-whole 𝓤 H A W (Declared.row Course.the-type) Laws.mir Path.refl)) d30
+          d31 : Typed.Typed 𝓤 H A 𝓣 E G31 b28 Δ0 at31
+          d31 = Typed.g-pre 𝓤 H A W 𝓣 E G31 G32 b28 Δ0 (Typed.pass T31 T32 s28) at30 (Scalar.g-room 𝓤 H A W E G31 7 type·1 (Scalar.room-sc 𝓤 H A W (Row.sInt Syntax.w64))) d30
 
-          d32 : Typed.Typed 𝓤 H A 𝓣 E G5 b29 Δ0 at32
-          d32 = Typed.s-seq 𝓤 H A W 𝓣 E G5 G30 b27 b28 Δ0 (Typed.pass T5 T30 s26) at31 (LocalCopy.t-val-copy 𝓤 H A W E 𝓣 (λ ρ. Unit) G5 5 0 (Declared.row Course.the-type) Laws.mir Laws.mir row·7 row·7 (λ x. x) (λ x. x) (λ x. x) Path.refl (Own.told-none 𝓤 H A (G5 .slots)) (Yields.yields-copy 𝓤 H A W (λ ρ. Unit) (Declared.row Course.the-type) Path.refl (Copies.cEnum Course.the-type Laws.the-laws Laws.the-copy .copy 𝓤 H A W) row·7 (λ x. x) (λ x. x) (λ ρ told. Local.mem-whole 𝓤 H A W (Declared.row Course.the-type) ρ) λ ρ told. Local.whole-mem 𝓤 H A W (Declared.row Course.the-type) ρ) (Reads.room-gone 𝓤 H A Laws.mir) (Yields.makes-mem 𝓤 H A W (λ ρ. Unit) (Declared.row Course.the-type) Path.refl row·7 (λ x. x) λ ρ told. Local.whole-mem 𝓤 H A W (Declared.row Course.the-type) ρ) Path.refl Path.refl) d31
+          d32 : Typed.Typed 𝓤 H A 𝓣 E G30 b28 Δ0 at32
+          d32 = Typed.g-pre 𝓤 H A W 𝓣 E G30 G31 b28 Δ0 (Typed.pass T30 T31 s27) at31 (Scalar.g-room 𝓤 H A W E G30 6 Laws.mir (Local.room-whole 𝓤 H A W (Declared.row Course.the-type) Laws.mir Path.refl)) d31
 
-          d33 : Typed.Typed 𝓤 H A 𝓣 E G5 b30 Δ0 at33
-          d33 = Typed.t-seq 𝓤 H A W 𝓣 E G5 G5 b26 b29 Δ0 at27 at32 d27 d32
+          d33 : Typed.Typed 𝓤 H A 𝓣 E G5 b29 Δ0 at33
+          d33 = Typed.s-seq 𝓤 H A W 𝓣 E G5 G30 b27 b28 Δ0 (Typed.pass T5 T30 s26) at32 (LocalCopy.t-val-copy 𝓤 H A W E 𝓣 (λ ρ. Unit) G5 6 0 (Declared.row Course.the-type) Laws.mir Laws.mir row·7 row·7 (λ x. x) (λ x. x) (λ x. x) Path.refl (Own.told-none 𝓤 H A (G5 .slots)) (Yields.yields-copy 𝓤 H A W (λ ρ. Unit) (Declared.row Course.the-type) Path.refl (Copies.cEnum Course.the-type Laws.the-laws Laws.the-copy .copy 𝓤 H A W) row·7 (λ x. x) (λ x. x) (λ ρ told. Local.mem-whole 𝓤 H A W (Declared.row Course.the-type) ρ) λ ρ told. Local.whole-mem 𝓤 H A W (Declared.row Course.the-type) ρ) (Reads.room-gone 𝓤 H A Laws.mir) (Yields.makes-mem 𝓤 H A W (λ ρ. Unit) (Declared.row Course.the-type) Path.refl row·7 (λ x. x) λ ρ told. Local.whole-mem 𝓤 H A W (Declared.row Course.the-type) ρ) Path.refl Path.refl) d32
 
-          d34 : Typed.Typed 𝓤 H A 𝓣 E G4 b31 Δ0 at34
-          d34 = Typed.s-seq 𝓤 H A W 𝓣 E G4 G5 b1 b30 Δ0 (Typed.pass T4 T5 s3) at33 (Scalar.t-use 𝓤 H A W E 𝓣 G4 (Scalar.oInt Syntax.w64 0) 6 row·4 type·1 (Row.valS (Row.sInt Syntax.w64)) (Row.sInt Syntax.w64 .of) tt (Reads.room-gone 𝓤 H A type·1) (Scalar.holds-sc 𝓤 H A W (Row.sInt Syntax.w64)) Path.refl (λ u. Path.refl) λ u. tt) d33
+          d34 : Typed.Typed 𝓤 H A 𝓣 E G5 b30 Δ0 at34
+          d34 = Typed.t-seq 𝓤 H A W 𝓣 E G5 G5 b26 b29 Δ0 at27 at33 d27 d33
 
-          d35 : Typed.Typed 𝓤 H A 𝓣 E G3 b31 Δ0 at35
-          d35 = Typed.g-pre 𝓤 H A W 𝓣 E G3 G4 b31 Δ0 (Typed.pass T3 T4 s2) at34 (Scalar.g-room 𝓤 H A W E G3 4 Laws.mir (Local.room-whole 𝓤 H A W (Declared.row Course.the-type) Laws.mir Path.refl)) d34
+          d35 : Typed.Typed 𝓤 H A 𝓣 E G4 b31 Δ0 at35
+          d35 = Typed.s-seq 𝓤 H A W 𝓣 E G4 G5 b1 b30 Δ0 (Typed.pass T4 T5 s3) at34 (Scalar.t-use 𝓤 H A W E 𝓣 G4 (Scalar.oInt Syntax.w64 0) 7 row·4 type·1 (Row.valS (Row.sInt Syntax.w64)) (Row.sInt Syntax.w64 .of) tt (Reads.room-gone 𝓤 H A type·1) (Scalar.holds-sc 𝓤 H A W (Row.sInt Syntax.w64)) Path.refl (λ u. Path.refl) λ u. tt) d34
 
-          d36 : Typed.Typed 𝓤 H A 𝓣 E G0 b32 Δ0 at36
-          d36 = Typed.s-seq 𝓤 H A W 𝓣 E G0 G3 b0 b31 Δ0 (Typed.pass T0 T3 s1) at35 (LocalCopy.t-val-copy 𝓤 H A W E 𝓣 (λ ρ. Unit) G0 4 5 (Declared.row Course.the-type) Laws.mir Laws.mir row·7 row·7 (λ x. x) (λ x. x) (λ x. x) Path.refl (Own.told-none 𝓤 H A (G0 .slots)) (Yields.yields-copy 𝓤 H A W (λ ρ. Unit) (Declared.row Course.the-type) Path.refl (Copies.cEnum Course.the-type Laws.the-laws Laws.the-copy .copy 𝓤 H A W) row·7 (λ x. x) (λ x. x) (λ ρ told. Local.mem-whole 𝓤 H A W (Declared.row Course.the-type) ρ) λ ρ told. Local.whole-mem 𝓤 H A W (Declared.row Course.the-type) ρ) (Reads.room-gone 𝓤 H A Laws.mir) (Yields.makes-mem 𝓤 H A W (λ ρ. Unit) (Declared.row Course.the-type) Path.refl row·7 (λ x. x) λ ρ told. Local.whole-mem 𝓤 H A W (Declared.row Course.the-type) ρ) Path.refl Path.refl) d35
+          d36 : Typed.Typed 𝓤 H A 𝓣 E G3 b31 Δ0 at36
+          d36 = Typed.g-pre 𝓤 H A W 𝓣 E G3 G4 b31 Δ0 (Typed.pass T3 T4 s2) at35 (Scalar.g-room 𝓤 H A W E G3 5 Laws.mir (Local.room-whole 𝓤 H A W (Declared.row Course.the-type) Laws.mir Path.refl)) d35
 
           d37 : Typed.Typed 𝓤 H A 𝓣 E G0 b32 Δ0 at37
-          d37 = Typed.g-pre 𝓤 H A W 𝓣 E G0 G0 b32 Δ0 (Typed.give s0) at36 (Know.g-sl-known 𝓤 H A W (Referent.fInt Syntax.w8) E G0 3 1 type·6 (Row.lease (κs .1 .0) (qs .1 .0)) 0 (λ x. x) record { fits = Dec.lit< tt } (Reads.as-is 𝓤 H A row·9) Path.refl tt) d36
+          d37 = Typed.s-seq 𝓤 H A W 𝓣 E G0 G3 b0 b31 Δ0 (Typed.pass T0 T3 s1) at36 (LocalCopy.t-val-copy 𝓤 H A W E 𝓣 (λ ρ. Unit) G0 5 6 (Declared.row Course.the-type) Laws.mir Laws.mir row·7 row·7 (λ x. x) (λ x. x) (λ x. x) Path.refl (Own.told-none 𝓤 H A (G0 .slots)) (Yields.yields-copy 𝓤 H A W (λ ρ. Unit) (Declared.row Course.the-type) Path.refl (Copies.cEnum Course.the-type Laws.the-laws Laws.the-copy .copy 𝓤 H A W) row·7 (λ x. x) (λ x. x) (λ ρ told. Local.mem-whole 𝓤 H A W (Declared.row Course.the-type) ρ) λ ρ told. Local.whole-mem 𝓤 H A W (Declared.row Course.the-type) ρ) (Reads.room-gone 𝓤 H A Laws.mir) (Yields.makes-mem 𝓤 H A W (λ ρ. Unit) (Declared.row Course.the-type) Path.refl row·7 (λ x. x) λ ρ told. Local.whole-mem 𝓤 H A W (Declared.row Course.the-type) ρ) Path.refl Path.refl) d36
+
+          d38 : Typed.Typed 𝓤 H A 𝓣 E G0 b32 Δ0 at38
+          d38 = Typed.g-pre 𝓤 H A W 𝓣 E G0 G0 b32 Δ0 (Typed.give s0) at37 (Know.g-sl-known 𝓤 H A W (Referent.fInt Syntax.w8) E G0 4 1 type·6 (Row.lease (κs .1 .0) (qs .1 .0)) 0 (λ x. x) record { fits = Dec.lit< tt } (Reads.as-is 𝓤 H A row·9) Path.refl tt) d37
 
           pub typed : Typed.Typed 𝓤 H A 𝓣 E (Function.Γin 2 ps r xs m κs qs) b32 (Function.Δret 2 ps r xs m κs qs) Φ
-          typed = d37
+          typed = d38
 
       module _ (κs : Lifetimes.Lfts 2) where
         pub record Args : Type 0 where
+          pub edition : FnKinds.Den {n = 2} κs (Num.pNum Syntax.w64)
           pub years : FnKinds.Den {n = 2} κs (Num.pNum Syntax.w64)
           pub sites : FnKinds.Den {n = 2} κs (ShrSlice.pShrS Site.the-row 0 tt)
           pub buffer : FnKinds.Den {n = 2} κs (MutSlice.pMutS (Referent.rtF (Referent.fInt Syntax.w8)) 1 tt)
           pub start : FnKinds.Den {n = 2} κs (Value.pVal record { ty = Declared.row Course.the-type; one = Path.refl; val = EnumLaws.val Course.the-type Laws.the-laws; tells = EnumLaws.tells Course.the-type Laws.the-laws; still = EnumLaws.still Course.the-type Laws.the-copy Exit.yes; row = Rows.whole (Declared.row Course.the-type); rd = λ x. x; mk = λ x. x } λ M 𝓤 H A W. record { copies = EnumLaws.copy Course.the-type Laws.the-copy 𝓤 H A W; lawful = EnumLaws.lawful Course.the-type Laws.the-laws 𝓤 H A W tt; makes = EnumLaws.makes Course.the-type Laws.the-plain 𝓤 H A; in-mem = Local.mem-whole 𝓤 H A W (Declared.row Course.the-type); of-mem = Local.whole-mem 𝓤 H A W (Declared.row Course.the-type) })
 
         abbrev pub dens : (a : Args) → FnKinds.Dens κs ps
-        dens = λ a. (a .years, (a .sites, (a .buffer, (a .start, tt))))
+        dens = λ a. (a .edition, (a .years, (a .sites, (a .buffer, (a .start, tt)))))
 
         module _ (args· : Args) where
           pub record Ranges : Type 0 where
+            pub edition : Val.Fits Syntax.w64 (args· .edition)
             pub years : Val.Fits Syntax.w64 (args· .years)
 
       abbrev pub m0 : (κs : Lifetimes.Lfts 2) → (args : Args κs) → Typed.Mo T0
@@ -838,7 +858,7 @@ module _ (claims· : Claims) where
       m4 = λ before given. s3 (m3 before given)
 
       abbrev W1 : (before : Start) → (given : s0 .gives (m0 (before .κs) (before .args))) → Typed.Want O1
-      W1 = λ before given. Typed.wantNext T5 O0 (at32 (W0 (before .κs) (before .args))) (W0 (before .κs) (before .args))
+      W1 = λ before given. Typed.wantNext T5 O0 (at33 (W0 (before .κs) (before .args))) (W0 (before .κs) (before .args))
 
       abbrev W2 : (before : Start) → (given : s0 .gives (m0 (before .κs) (before .args))) → Typed.Want O2
       W2 = λ before given. Typed.inBlock O1 (W1 before given)
@@ -852,13 +872,13 @@ module _ (claims· : Claims) where
         pub slice-known : After-slice-known·own before
 
       abbrev pub Need-loop-holds : Type 0
-      Need-loop-holds = (c : After-slice-known) → Inv·0 (Row.get 1 (T5 .locals) (m4 (c .before) (c .slice-known .given))) (Row.get 2 (T5 .locals) (m4 (c .before) (c .slice-known .given)) .now) (Row.get 3 (T5 .locals) (m4 (c .before) (c .slice-known .given)) .now) (Row.get 5 (T5 .locals) (m4 (c .before) (c .slice-known .given))) (Row.get 6 (T5 .locals) (m4 (c .before) (c .slice-known .given))) (Row.get 3 (T5 .locals) (m4 (c .before) (c .slice-known .given)) .now) (Row.get 5 (T5 .locals) (m4 (c .before) (c .slice-known .given))) (Row.get 6 (T5 .locals) (m4 (c .before) (c .slice-known .given)))
+      Need-loop-holds = (c : After-slice-known) → Inv·0 (Row.get 1 (T5 .locals) (m4 (c .before) (c .slice-known .given))) (Row.get 2 (T5 .locals) (m4 (c .before) (c .slice-known .given))) (Row.get 3 (T5 .locals) (m4 (c .before) (c .slice-known .given)) .now) (Row.get 4 (T5 .locals) (m4 (c .before) (c .slice-known .given)) .now) (Row.get 6 (T5 .locals) (m4 (c .before) (c .slice-known .given))) (Row.get 7 (T5 .locals) (m4 (c .before) (c .slice-known .given))) (Row.get 4 (T5 .locals) (m4 (c .before) (c .slice-known .given)) .now) (Row.get 6 (T5 .locals) (m4 (c .before) (c .slice-known .given))) (Row.get 7 (T5 .locals) (m4 (c .before) (c .slice-known .given)))
 
       abbrev pub m5 : (before : After-slice-known) → (buffer : List.List (Referent.rtF (Referent.fInt Syntax.w8) .Denot)) → (course : Rows.whole (Declared.row Course.the-type) .Mod) → (i : Rows.sc-here (Row.sInt Syntax.w64) .Mod) → Typed.Mo T5
-      m5 = λ before buffer course i. Row.set 6 (6, Rows.sc-here (Row.sInt Syntax.w64)) i (Row.setRow 5 (5, Rows.whole (Declared.row Course.the-type)) (Row.setRow 3 (3, Mut.mslice (Referent.rtF (Referent.fInt Syntax.w8)) type·6 1) (T5 .locals))) (Row.set 5 (5, Rows.whole (Declared.row Course.the-type)) course (Row.setRow 3 (3, Mut.mslice (Referent.rtF (Referent.fInt Syntax.w8)) type·6 1) (T5 .locals)) (Row.set 3 (3, Mut.mslice (Referent.rtF (Referent.fInt Syntax.w8)) type·6 1) record { ptr = Row.get 3 (T5 .locals) (m4 (before .before) (before .slice-known .given)) .ptr; name = Row.get 3 (T5 .locals) (m4 (before .before) (before .slice-known .given)) .name; now = buffer } (T5 .locals) (m4 (before .before) (before .slice-known .given))))
+      m5 = λ before buffer course i. Row.set 7 (7, Rows.sc-here (Row.sInt Syntax.w64)) i (Row.setRow 6 (6, Rows.whole (Declared.row Course.the-type)) (Row.setRow 4 (4, Mut.mslice (Referent.rtF (Referent.fInt Syntax.w8)) type·6 1) (T5 .locals))) (Row.set 6 (6, Rows.whole (Declared.row Course.the-type)) course (Row.setRow 4 (4, Mut.mslice (Referent.rtF (Referent.fInt Syntax.w8)) type·6 1) (T5 .locals)) (Row.set 4 (4, Mut.mslice (Referent.rtF (Referent.fInt Syntax.w8)) type·6 1) record { ptr = Row.get 4 (T5 .locals) (m4 (before .before) (before .slice-known .given)) .ptr; name = Row.get 4 (T5 .locals) (m4 (before .before) (before .slice-known .given)) .name; now = buffer } (T5 .locals) (m4 (before .before) (before .slice-known .given))))
 
       abbrev W3 : (before : After-slice-known) → (buffer : List.List (Referent.rtF (Referent.fInt Syntax.w8) .Denot)) → (course : Rows.whole (Declared.row Course.the-type) .Mod) → (i : Rows.sc-here (Row.sInt Syntax.w64) .Mod) → Typed.Want O3
-      W3 = λ before buffer course i. Typed.inLoop T5 O2 (Typed.Round T5 O2 put0 (λ u vs. Inv·0 (Row.get 1 (T5 .locals) u) (Row.get 2 (T5 .locals) u .now) (Row.get 3 (T5 .locals) u .now) (Row.get 5 (T5 .locals) u) (Row.get 6 (T5 .locals) u) (vs .0) (vs .1) (vs .2)) (λ u vs. μ·0 (Row.get 1 (T5 .locals) u) (Row.get 2 (T5 .locals) u .now) (Row.get 3 (T5 .locals) u .now) (Row.get 5 (T5 .locals) u) (Row.get 6 (T5 .locals) u) (vs .0) (vs .1) (vs .2)) at25 (m4 (before .before) (before .slice-known .given)) (buffer, course, i)) (W2 (before .before) (before .slice-known .given))
+      W3 = λ before buffer course i. Typed.inLoop T5 O2 (Typed.Round T5 O2 put0 (λ u vs. Inv·0 (Row.get 1 (T5 .locals) u) (Row.get 2 (T5 .locals) u) (Row.get 3 (T5 .locals) u .now) (Row.get 4 (T5 .locals) u .now) (Row.get 6 (T5 .locals) u) (Row.get 7 (T5 .locals) u) (vs .0) (vs .1) (vs .2)) (λ u vs. μ·0 (Row.get 1 (T5 .locals) u) (Row.get 2 (T5 .locals) u) (Row.get 3 (T5 .locals) u .now) (Row.get 4 (T5 .locals) u .now) (Row.get 6 (T5 .locals) u) (Row.get 7 (T5 .locals) u) (vs .0) (vs .1) (vs .2)) at25 (m4 (before .before) (before .slice-known .given)) (buffer, course, i)) (W2 (before .before) (before .slice-known .given))
 
       abbrev pub m6 : (before : After-slice-known) → (buffer : List.List (Referent.rtF (Referent.fInt Syntax.w8) .Denot)) → (course : Rows.whole (Declared.row Course.the-type) .Mod) → (i : Rows.sc-here (Row.sInt Syntax.w64) .Mod) → Typed.Mo T7
       m6 = λ before buffer course i. s4 (m5 before buffer course i)
@@ -877,7 +897,7 @@ module _ (claims· : Claims) where
           pub buffer : List.List (Referent.rtF (Referent.fInt Syntax.w8) .Denot)
           pub course : Rows.whole (Declared.row Course.the-type) .Mod
           pub i : Rows.sc-here (Row.sInt Syntax.w64) .Mod
-          pub inv : Inv·0 (Row.get 1 (T5 .locals) (m4 (before· .before) (before· .slice-known .given))) (Row.get 2 (T5 .locals) (m4 (before· .before) (before· .slice-known .given)) .now) (Row.get 3 (T5 .locals) (m4 (before· .before) (before· .slice-known .given)) .now) (Row.get 5 (T5 .locals) (m4 (before· .before) (before· .slice-known .given))) (Row.get 6 (T5 .locals) (m4 (before· .before) (before· .slice-known .given))) buffer course i
+          pub inv : Inv·0 (Row.get 1 (T5 .locals) (m4 (before· .before) (before· .slice-known .given))) (Row.get 2 (T5 .locals) (m4 (before· .before) (before· .slice-known .given))) (Row.get 3 (T5 .locals) (m4 (before· .before) (before· .slice-known .given)) .now) (Row.get 4 (T5 .locals) (m4 (before· .before) (before· .slice-known .given)) .now) (Row.get 6 (T5 .locals) (m4 (before· .before) (before· .slice-known .given))) (Row.get 7 (T5 .locals) (m4 (before· .before) (before· .slice-known .given))) buffer course i
 
       pub record At-loop : Type 0 where
         pub before : After-slice-known
@@ -885,7 +905,7 @@ module _ (claims· : Claims) where
 
       module _ (before· : At-loop) where
         pub record In-loop·own : Type 0 where
-          pub taken : Nat._<_ (Row.get 6 (T7 .locals) (m6 (before· .before) (before· .loop .buffer) (before· .loop .course) (before· .loop .i))) (Row.get 8 (T7 .locals) (m6 (before· .before) (before· .loop .buffer) (before· .loop .course) (before· .loop .i)))
+          pub taken : Nat._<_ (Row.get 7 (T7 .locals) (m6 (before· .before) (before· .loop .buffer) (before· .loop .course) (before· .loop .i))) (Row.get 9 (T7 .locals) (m6 (before· .before) (before· .loop .buffer) (before· .loop .course) (before· .loop .i)))
 
       pub record In-loop : Type 0 where
         pub before : At-loop
@@ -896,7 +916,7 @@ module _ (claims· : Claims) where
 
       module _ (before· : At-loop) where
         pub record After-loop·own : Type 0 where
-          pub left : Nat._≤_ (Row.get 8 (T7 .locals) (m6 (before· .before) (before· .loop .buffer) (before· .loop .course) (before· .loop .i))) (Row.get 6 (T7 .locals) (m6 (before· .before) (before· .loop .buffer) (before· .loop .course) (before· .loop .i)))
+          pub left : Nat._≤_ (Row.get 9 (T7 .locals) (m6 (before· .before) (before· .loop .buffer) (before· .loop .course) (before· .loop .i))) (Row.get 7 (T7 .locals) (m6 (before· .before) (before· .loop .buffer) (before· .loop .course) (before· .loop .i)))
 
       pub record After-loop : Type 0 where
         pub before : At-loop
@@ -915,7 +935,7 @@ module _ (claims· : Claims) where
       m12 = λ before. s10 .next (m11 before)
 
       abbrev pub Need-shared-slice-copy-out-site : Type 0
-      Need-shared-slice-copy-out-site = (c : In-loop) → Shared.InSlice T14 2 10 (λ x. x) (λ u. u .1 .1 .1 .1 .1 .1 .0) (m12 (c .before))
+      Need-shared-slice-copy-out-site = (c : In-loop) → Shared.InSlice T14 3 11 (λ x. x) (λ u. u .1 .1 .1 .1 .1 .1 .1 .0) (m12 (c .before))
 
       abbrev pub m13 : (before : In-loop) → (given : s11 .gives (m12 (before .before))) → Typed.Mo T15
       m13 = λ before given. s11 .next (m12 (before .before)) given
@@ -962,14 +982,14 @@ module _ (claims· : Claims) where
 
       module _ (before· : After-step-arg) where
         abbrev pub After-step·own : Type 0
-        After-step·own = Called.Called ps·0 r·0 (claims· .1) T22 (Num.vAt 1 λ x. x, (record { pos = 7; st = []; d = 0; at = λ x. x }, (record { pos = 13; ty = Syntax.tyRef Syntax.erased Syntax.mut type·0; ref = λ x. x }, (record { pos = 5; st = []; d = 0; at = λ x. x }, tt)))) (m19 (before· .before) (before· .step-arg .given))
+        After-step·own = Called.Called ps·0 r·0 (claims· .1) T22 (Num.vAt 1 λ x. x, (Num.vAt 2 λ x. x, (record { pos = 8; st = []; d = 0; at = λ x. x }, (record { pos = 14; ty = Syntax.tyRef Syntax.erased Syntax.mut type·0; ref = λ x. x }, (record { pos = 6; st = []; d = 0; at = λ x. x }, tt))))) (m19 (before· .before) (before· .step-arg .given))
 
       pub record After-step : Type 0 where
         pub before : After-step-arg
         pub step : After-step·own before
 
       abbrev pub After-step·gave : (c : After-step) → s19 .gives (m19 (c .before .before) (c .before .step-arg .given))
-      After-step·gave = λ c. Called.given ps·0 r·0 (claims· .1) T22 (Num.vAt 1 λ x. x, (record { pos = 7; st = []; d = 0; at = λ x. x }, (record { pos = 13; ty = Syntax.tyRef Syntax.erased Syntax.mut type·0; ref = λ x. x }, (record { pos = 5; st = []; d = 0; at = λ x. x }, tt)))) (m19 (c .before .before) (c .before .step-arg .given)) (c .step)
+      After-step·gave = λ c. Called.given ps·0 r·0 (claims· .1) T22 (Num.vAt 1 λ x. x, (Num.vAt 2 λ x. x, (record { pos = 8; st = []; d = 0; at = λ x. x }, (record { pos = 14; ty = Syntax.tyRef Syntax.erased Syntax.mut type·0; ref = λ x. x }, (record { pos = 6; st = []; d = 0; at = λ x. x }, tt))))) (m19 (c .before .before) (c .before .step-arg .given)) (c .step)
 
       abbrev pub m21 : (before : After-step-arg) → (given : s19 .gives (m19 (before .before) (before .step-arg .given))) → Typed.Mo T24
       m21 = λ before given. s20 (m20 before given)
@@ -1003,10 +1023,10 @@ module _ (claims· : Claims) where
       m24 = λ before given. s25 .next (m23 before given)
 
       abbrev pub Need-loop-less : Type 0
-      Need-loop-less = (c : After-slice-known2) → Nat._<_ (μ·0 (Row.get 1 (T5 .locals) (m4 (c .before .before .before .before .before .before .before .before) (c .before .before .before .before .before .before .before .slice-known .given))) (Row.get 2 (T5 .locals) (m4 (c .before .before .before .before .before .before .before .before) (c .before .before .before .before .before .before .before .slice-known .given)) .now) (Row.get 3 (T5 .locals) (m4 (c .before .before .before .before .before .before .before .before) (c .before .before .before .before .before .before .before .slice-known .given)) .now) (Row.get 5 (T5 .locals) (m4 (c .before .before .before .before .before .before .before .before) (c .before .before .before .before .before .before .before .slice-known .given))) (Row.get 6 (T5 .locals) (m4 (c .before .before .before .before .before .before .before .before) (c .before .before .before .before .before .before .before .slice-known .given))) (Row.get 3 (T5 .locals) (m24 (c .before) (c .slice-known2 .given)) .now) (Row.get 5 (T5 .locals) (m24 (c .before) (c .slice-known2 .given))) (Row.get 6 (T5 .locals) (m24 (c .before) (c .slice-known2 .given)))) (μ·0 (Row.get 1 (T5 .locals) (m4 (c .before .before .before .before .before .before .before .before) (c .before .before .before .before .before .before .before .slice-known .given))) (Row.get 2 (T5 .locals) (m4 (c .before .before .before .before .before .before .before .before) (c .before .before .before .before .before .before .before .slice-known .given)) .now) (Row.get 3 (T5 .locals) (m4 (c .before .before .before .before .before .before .before .before) (c .before .before .before .before .before .before .before .slice-known .given)) .now) (Row.get 5 (T5 .locals) (m4 (c .before .before .before .before .before .before .before .before) (c .before .before .before .before .before .before .before .slice-known .given))) (Row.get 6 (T5 .locals) (m4 (c .before .before .before .before .before .before .before .before) (c .before .before .before .before .before .before .before .slice-known .given))) (c .before .before .before .before .before .before .loop .buffer) (c .before .before .before .before .before .before .loop .course) (c .before .before .before .before .before .before .loop .i))
+      Need-loop-less = (c : After-slice-known2) → Nat._<_ (μ·0 (Row.get 1 (T5 .locals) (m4 (c .before .before .before .before .before .before .before .before) (c .before .before .before .before .before .before .before .slice-known .given))) (Row.get 2 (T5 .locals) (m4 (c .before .before .before .before .before .before .before .before) (c .before .before .before .before .before .before .before .slice-known .given))) (Row.get 3 (T5 .locals) (m4 (c .before .before .before .before .before .before .before .before) (c .before .before .before .before .before .before .before .slice-known .given)) .now) (Row.get 4 (T5 .locals) (m4 (c .before .before .before .before .before .before .before .before) (c .before .before .before .before .before .before .before .slice-known .given)) .now) (Row.get 6 (T5 .locals) (m4 (c .before .before .before .before .before .before .before .before) (c .before .before .before .before .before .before .before .slice-known .given))) (Row.get 7 (T5 .locals) (m4 (c .before .before .before .before .before .before .before .before) (c .before .before .before .before .before .before .before .slice-known .given))) (Row.get 4 (T5 .locals) (m24 (c .before) (c .slice-known2 .given)) .now) (Row.get 6 (T5 .locals) (m24 (c .before) (c .slice-known2 .given))) (Row.get 7 (T5 .locals) (m24 (c .before) (c .slice-known2 .given)))) (μ·0 (Row.get 1 (T5 .locals) (m4 (c .before .before .before .before .before .before .before .before) (c .before .before .before .before .before .before .before .slice-known .given))) (Row.get 2 (T5 .locals) (m4 (c .before .before .before .before .before .before .before .before) (c .before .before .before .before .before .before .before .slice-known .given))) (Row.get 3 (T5 .locals) (m4 (c .before .before .before .before .before .before .before .before) (c .before .before .before .before .before .before .before .slice-known .given)) .now) (Row.get 4 (T5 .locals) (m4 (c .before .before .before .before .before .before .before .before) (c .before .before .before .before .before .before .before .slice-known .given)) .now) (Row.get 6 (T5 .locals) (m4 (c .before .before .before .before .before .before .before .before) (c .before .before .before .before .before .before .before .slice-known .given))) (Row.get 7 (T5 .locals) (m4 (c .before .before .before .before .before .before .before .before) (c .before .before .before .before .before .before .before .slice-known .given))) (c .before .before .before .before .before .before .loop .buffer) (c .before .before .before .before .before .before .loop .course) (c .before .before .before .before .before .before .loop .i))
 
       abbrev pub Need-loop-again : Type 0
-      Need-loop-again = (c : After-slice-known2) → Inv·0 (Row.get 1 (T5 .locals) (m4 (c .before .before .before .before .before .before .before .before) (c .before .before .before .before .before .before .before .slice-known .given))) (Row.get 2 (T5 .locals) (m4 (c .before .before .before .before .before .before .before .before) (c .before .before .before .before .before .before .before .slice-known .given)) .now) (Row.get 3 (T5 .locals) (m4 (c .before .before .before .before .before .before .before .before) (c .before .before .before .before .before .before .before .slice-known .given)) .now) (Row.get 5 (T5 .locals) (m4 (c .before .before .before .before .before .before .before .before) (c .before .before .before .before .before .before .before .slice-known .given))) (Row.get 6 (T5 .locals) (m4 (c .before .before .before .before .before .before .before .before) (c .before .before .before .before .before .before .before .slice-known .given))) (Row.get 3 (T5 .locals) (m24 (c .before) (c .slice-known2 .given)) .now) (Row.get 5 (T5 .locals) (m24 (c .before) (c .slice-known2 .given))) (Row.get 6 (T5 .locals) (m24 (c .before) (c .slice-known2 .given)))
+      Need-loop-again = (c : After-slice-known2) → Inv·0 (Row.get 1 (T5 .locals) (m4 (c .before .before .before .before .before .before .before .before) (c .before .before .before .before .before .before .before .slice-known .given))) (Row.get 2 (T5 .locals) (m4 (c .before .before .before .before .before .before .before .before) (c .before .before .before .before .before .before .before .slice-known .given))) (Row.get 3 (T5 .locals) (m4 (c .before .before .before .before .before .before .before .before) (c .before .before .before .before .before .before .before .slice-known .given)) .now) (Row.get 4 (T5 .locals) (m4 (c .before .before .before .before .before .before .before .before) (c .before .before .before .before .before .before .before .slice-known .given)) .now) (Row.get 6 (T5 .locals) (m4 (c .before .before .before .before .before .before .before .before) (c .before .before .before .before .before .before .before .slice-known .given))) (Row.get 7 (T5 .locals) (m4 (c .before .before .before .before .before .before .before .before) (c .before .before .before .before .before .before .before .slice-known .given))) (Row.get 4 (T5 .locals) (m24 (c .before) (c .slice-known2 .given)) .now) (Row.get 6 (T5 .locals) (m24 (c .before) (c .slice-known2 .given))) (Row.get 7 (T5 .locals) (m24 (c .before) (c .slice-known2 .given)))
 
       abbrev pub m25 : (before : At-loop) → Typed.Mo T30
       m25 = λ before. s26 (m10 before)
@@ -1017,24 +1037,27 @@ module _ (claims· : Claims) where
       abbrev pub m27 : (before : At-loop) → Typed.Mo T32
       m27 = λ before. s28 (m26 before)
 
-      abbrev pub m28 : (before : At-loop) → Typed.Mo T1
+      abbrev pub m28 : (before : At-loop) → Typed.Mo T33
       m28 = λ before. s29 (m27 before)
 
+      abbrev pub m29 : (before : At-loop) → Typed.Mo T1
+      m29 = λ before. s30 (m28 before)
+
       abbrev pub Need-same-length : Type 0
-      Need-same-length = (c : After-loop) → MutSlice.SameLen (Row.get 3 (T1 .locals) (m28 (c .before))) (dens (c .before .before .before .κs) (c .before .before .before .args) .1 .1 .0)
+      Need-same-length = (c : After-loop) → MutSlice.SameLen (Row.get 4 (T1 .locals) (m29 (c .before))) (dens (c .before .before .before .κs) (c .before .before .before .args) .1 .1 .1 .0)
 
       abbrev pub Need-returns : Type 0
-      Need-returns = (c : After-loop) → Post· (c .before .before .before .κs) (dens (c .before .before .before .κs) (c .before .before .before .args)) (Function.resV r (c .before .before .before .κs) (m28 (c .before) .0)) (Clauses.atExit (FnKinds.endedOf 2 ps r) (c .before .before .before .κs) (dens (c .before .before .before .κs) (c .before .before .before .args)) (Enter.lastsP (c .before .before .before .κs) 1 ps xs (dens (c .before .before .before .κs) (c .before .before .before .args)) (m28 (c .before) .1)))
+      Need-returns = (c : After-loop) → Post· (c .before .before .before .κs) (dens (c .before .before .before .κs) (c .before .before .before .args)) (Function.resV r (c .before .before .before .κs) (m29 (c .before) .0)) (Clauses.atExit (FnKinds.endedOf 2 ps r) (c .before .before .before .κs) (dens (c .before .before .before .κs) (c .before .before .before .args)) (Enter.lastsP (c .before .before .before .κs) 1 ps xs (dens (c .before .before .before .κs) (c .before .before .before .args)) (m29 (c .before) .1)))
 
       module _ (loop-holds : Need-loop-holds) (mul-site : Need-mul-site) (shared-slice-copy-out-site : Need-shared-slice-copy-out-site) (step-requires : Need-step-requires) (add-i : Need-add-i) (loop-less : Need-loop-less) (loop-again : Need-loop-again) (same-length : Need-same-length) (returns : Need-returns) where
-        lay5 : (c : After-loop) → at32 (W0 (c .before .before .before .κs) (c .before .before .before .args)) (m10 (c .before))
-        lay5 = λ c. ((tt, (Path.refl, (MutSlice.fix-len (Row.get 3 (T1 .locals) (m28 (c .before)) .ptr) (Row.get 3 (T1 .locals) (m28 (c .before)) .name) (Row.get 3 (T1 .locals) (m28 (c .before)) .now) (dens (c .before .before .before .κs) (c .before .before .before .args) .1 .1 .0 .now) (same-length record { before = c .before; loop-test = c .loop-test }), (tt, tt)))), returns record { before = c .before; loop-test = c .loop-test })
+        lay5 : (c : After-loop) → at33 (W0 (c .before .before .before .κs) (c .before .before .before .args)) (m10 (c .before))
+        lay5 = λ c. ((tt, (tt, (Path.refl, (MutSlice.fix-len (Row.get 4 (T1 .locals) (m29 (c .before)) .ptr) (Row.get 4 (T1 .locals) (m29 (c .before)) .name) (Row.get 4 (T1 .locals) (m29 (c .before)) .now) (dens (c .before .before .before .κs) (c .before .before .before .args) .1 .1 .1 .0 .now) (same-length record { before = c .before; loop-test = c .loop-test }), (tt, tt))))), returns record { before = c .before; loop-test = c .loop-test })
 
         lay4 : (c : After-step) → at11 (W3 (c .before .before .before .before .before) (c .before .before .before .before .loop .buffer) (c .before .before .before .before .loop .course) (c .before .before .before .before .loop .i)) (m20 (c .before) (After-step·gave c))
-        lay4 = λ c. (Path.refl, λ g. λ g'. (add-i record { before = record { before = record { before = c .before; step = c .step }; buffer = record { given = g } }; slice-known2 = record { given = g' } }, (μ·0 (Row.get 1 (T5 .locals) (m4 (c .before .before .before .before .before .before) (c .before .before .before .before .before .slice-known .given))) (Row.get 2 (T5 .locals) (m4 (c .before .before .before .before .before .before) (c .before .before .before .before .before .slice-known .given)) .now) (Row.get 3 (T5 .locals) (m4 (c .before .before .before .before .before .before) (c .before .before .before .before .before .slice-known .given)) .now) (Row.get 5 (T5 .locals) (m4 (c .before .before .before .before .before .before) (c .before .before .before .before .before .slice-known .given))) (Row.get 6 (T5 .locals) (m4 (c .before .before .before .before .before .before) (c .before .before .before .before .before .slice-known .given))) (Row.get 3 (T5 .locals) (m24 record { before = record { before = c .before; step = c .step }; buffer = record { given = g } } g') .now) (Row.get 5 (T5 .locals) (m24 record { before = record { before = c .before; step = c .step }; buffer = record { given = g } } g')) (Row.get 6 (T5 .locals) (m24 record { before = record { before = c .before; step = c .step }; buffer = record { given = g } } g')), loop-less record { before = record { before = record { before = c .before; step = c .step }; buffer = record { given = g } }; slice-known2 = record { given = g' } }, ((Row.get 3 (T5 .locals) (m24 record { before = record { before = c .before; step = c .step }; buffer = record { given = g } } g') .now, Row.get 5 (T5 .locals) (m24 record { before = record { before = c .before; step = c .step }; buffer = record { given = g } } g'), Row.get 6 (T5 .locals) (m24 record { before = record { before = c .before; step = c .step }; buffer = record { given = g } } g')), Path.refl {a = m24 record { before = record { before = c .before; step = c .step }; buffer = record { given = g } } g'}, loop-again record { before = record { before = record { before = c .before; step = c .step }; buffer = record { given = g } }; slice-known2 = record { given = g' } }, Path.refl {a = μ·0 (Row.get 1 (T5 .locals) (m4 (c .before .before .before .before .before .before) (c .before .before .before .before .before .slice-known .given))) (Row.get 2 (T5 .locals) (m4 (c .before .before .before .before .before .before) (c .before .before .before .before .before .slice-known .given)) .now) (Row.get 3 (T5 .locals) (m4 (c .before .before .before .before .before .before) (c .before .before .before .before .before .slice-known .given)) .now) (Row.get 5 (T5 .locals) (m4 (c .before .before .before .before .before .before) (c .before .before .before .before .before .slice-known .given))) (Row.get 6 (T5 .locals) (m4 (c .before .before .before .before .before .before) (c .before .before .before .before .before .slice-known .given))) (Row.get 3 (T5 .locals) (m24 record { before = record { before = c .before; step = c .step }; buffer = record { given = g } } g') .now) (Row.get 5 (T5 .locals) (m24 record { before = record { before = c .before; step = c .step }; buffer = record { given = g } } g')) (Row.get 6 (T5 .locals) (m24 record { before = record { before = c .before; step = c .step }; buffer = record { given = g } } g'))}))))
+        lay4 = λ c. (Path.refl, λ g. λ g'. (add-i record { before = record { before = record { before = c .before; step = c .step }; buffer = record { given = g } }; slice-known2 = record { given = g' } }, (μ·0 (Row.get 1 (T5 .locals) (m4 (c .before .before .before .before .before .before) (c .before .before .before .before .before .slice-known .given))) (Row.get 2 (T5 .locals) (m4 (c .before .before .before .before .before .before) (c .before .before .before .before .before .slice-known .given))) (Row.get 3 (T5 .locals) (m4 (c .before .before .before .before .before .before) (c .before .before .before .before .before .slice-known .given)) .now) (Row.get 4 (T5 .locals) (m4 (c .before .before .before .before .before .before) (c .before .before .before .before .before .slice-known .given)) .now) (Row.get 6 (T5 .locals) (m4 (c .before .before .before .before .before .before) (c .before .before .before .before .before .slice-known .given))) (Row.get 7 (T5 .locals) (m4 (c .before .before .before .before .before .before) (c .before .before .before .before .before .slice-known .given))) (Row.get 4 (T5 .locals) (m24 record { before = record { before = c .before; step = c .step }; buffer = record { given = g } } g') .now) (Row.get 6 (T5 .locals) (m24 record { before = record { before = c .before; step = c .step }; buffer = record { given = g } } g')) (Row.get 7 (T5 .locals) (m24 record { before = record { before = c .before; step = c .step }; buffer = record { given = g } } g')), loop-less record { before = record { before = record { before = c .before; step = c .step }; buffer = record { given = g } }; slice-known2 = record { given = g' } }, ((Row.get 4 (T5 .locals) (m24 record { before = record { before = c .before; step = c .step }; buffer = record { given = g } } g') .now, Row.get 6 (T5 .locals) (m24 record { before = record { before = c .before; step = c .step }; buffer = record { given = g } } g'), Row.get 7 (T5 .locals) (m24 record { before = record { before = c .before; step = c .step }; buffer = record { given = g } } g')), Path.refl {a = m24 record { before = record { before = c .before; step = c .step }; buffer = record { given = g } } g'}, loop-again record { before = record { before = record { before = c .before; step = c .step }; buffer = record { given = g } }; slice-known2 = record { given = g' } }, Path.refl {a = μ·0 (Row.get 1 (T5 .locals) (m4 (c .before .before .before .before .before .before) (c .before .before .before .before .before .slice-known .given))) (Row.get 2 (T5 .locals) (m4 (c .before .before .before .before .before .before) (c .before .before .before .before .before .slice-known .given))) (Row.get 3 (T5 .locals) (m4 (c .before .before .before .before .before .before) (c .before .before .before .before .before .slice-known .given)) .now) (Row.get 4 (T5 .locals) (m4 (c .before .before .before .before .before .before) (c .before .before .before .before .before .slice-known .given)) .now) (Row.get 6 (T5 .locals) (m4 (c .before .before .before .before .before .before) (c .before .before .before .before .before .slice-known .given))) (Row.get 7 (T5 .locals) (m4 (c .before .before .before .before .before .before) (c .before .before .before .before .before .slice-known .given))) (Row.get 4 (T5 .locals) (m24 record { before = record { before = c .before; step = c .step }; buffer = record { given = g } } g') .now) (Row.get 6 (T5 .locals) (m24 record { before = record { before = c .before; step = c .step }; buffer = record { given = g } } g')) (Row.get 7 (T5 .locals) (m24 record { before = record { before = c .before; step = c .step }; buffer = record { given = g } } g'))}))))
 
         lay3 : (c : In-loop) → at22 (W3 (c .before .before) (c .before .loop .buffer) (c .before .loop .course) (c .before .loop .i)) (m9 (c .before))
-        lay3 = λ c. (mul-site record { before = c .before; loop-test = c .loop-test }, (tt, ((Path.refl, Path.refl, shared-slice-copy-out-site record { before = c .before; loop-test = c .loop-test }), λ g. λ g'. (Path.refl, (step-requires record { before = record { before = record { before = c .before; loop-test = c .loop-test }; site = record { given = g } }; step-arg = record { given = g' } }, λ g''. lay4 record { before = record { before = record { before = record { before = c .before; loop-test = c .loop-test }; site = record { given = g } }; step-arg = record { given = g' } }; step = Called.called ps·0 r·0 (claims· .1) T22 (Num.vAt 1 λ x. x, (record { pos = 7; st = []; d = 0; at = λ x. x }, (record { pos = 13; ty = Syntax.tyRef Syntax.erased Syntax.mut type·0; ref = λ x. x }, (record { pos = 5; st = []; d = 0; at = λ x. x }, tt)))) (m19 record { before = record { before = c .before; loop-test = c .loop-test }; site = record { given = g } } g') g'' })))))
+        lay3 = λ c. (mul-site record { before = c .before; loop-test = c .loop-test }, (tt, ((Path.refl, Path.refl, shared-slice-copy-out-site record { before = c .before; loop-test = c .loop-test }), λ g. λ g'. (Path.refl, (step-requires record { before = record { before = record { before = c .before; loop-test = c .loop-test }; site = record { given = g } }; step-arg = record { given = g' } }, λ g''. lay4 record { before = record { before = record { before = record { before = c .before; loop-test = c .loop-test }; site = record { given = g } }; step-arg = record { given = g' } }; step = Called.called ps·0 r·0 (claims· .1) T22 (Num.vAt 1 λ x. x, (Num.vAt 2 λ x. x, (record { pos = 8; st = []; d = 0; at = λ x. x }, (record { pos = 14; ty = Syntax.tyRef Syntax.erased Syntax.mut type·0; ref = λ x. x }, (record { pos = 6; st = []; d = 0; at = λ x. x }, tt))))) (m19 record { before = record { before = c .before; loop-test = c .loop-test }; site = record { given = g } } g') g'' })))))
 
         lay2 : (c : After-loop) → at3 (W4 (c .before .before) (c .before .loop .buffer) (c .before .loop .course) (c .before .loop .i)) (m8 (c .before .before) (c .before .loop .buffer) (c .before .loop .course) (c .before .loop .i))
         lay2 = λ c. lay5 record { before = c .before; loop-test = c .loop-test }
@@ -1042,12 +1065,12 @@ module _ (claims· : Claims) where
         lay1 : (c : In-loop) → at1 (W4 (c .before .before) (c .before .loop .buffer) (c .before .loop .course) (c .before .loop .i)) (m8 (c .before .before) (c .before .loop .buffer) (c .before .loop .course) (c .before .loop .i))
         lay1 = λ c. lay3 record { before = c .before; loop-test = c .loop-test }
 
-        pub laid : (c : Start) → at37 (W0 (c .κs) (c .args)) (m0 (c .κs) (c .args))
-        laid = λ c. λ g. (((Row.get 3 (T5 .locals) (m4 c g) .now, Row.get 5 (T5 .locals) (m4 c g), Row.get 6 (T5 .locals) (m4 c g)), Path.refl {a = m4 c g}, loop-holds record { before = c; slice-known = record { given = g } }), λ vs inv. (tt, (λ taken. lay1 record { before = record { before = record { before = c; slice-known = record { given = g } }; loop = record { buffer = vs .0; course = vs .1; i = vs .2; inv = inv } }; loop-test = record { taken = Tests.ltb-true (Row.get 6 (T7 .locals) (m6 record { before = c; slice-known = record { given = g } } (vs .0) (vs .1) (vs .2))) (Row.get 8 (T7 .locals) (m6 record { before = c; slice-known = record { given = g } } (vs .0) (vs .1) (vs .2))) taken } }, λ left. lay2 record { before = record { before = record { before = c; slice-known = record { given = g } }; loop = record { buffer = vs .0; course = vs .1; i = vs .2; inv = inv } }; loop-test = record { left = Tests.ltb-false (Row.get 6 (T7 .locals) (m6 record { before = c; slice-known = record { given = g } } (vs .0) (vs .1) (vs .2))) (Row.get 8 (T7 .locals) (m6 record { before = c; slice-known = record { given = g } } (vs .0) (vs .1) (vs .2))) left } })))
+        pub laid : (c : Start) → at38 (W0 (c .κs) (c .args)) (m0 (c .κs) (c .args))
+        laid = λ c. λ g. (((Row.get 4 (T5 .locals) (m4 c g) .now, Row.get 6 (T5 .locals) (m4 c g), Row.get 7 (T5 .locals) (m4 c g)), Path.refl {a = m4 c g}, loop-holds record { before = c; slice-known = record { given = g } }), λ vs inv. (tt, (λ taken. lay1 record { before = record { before = record { before = c; slice-known = record { given = g } }; loop = record { buffer = vs .0; course = vs .1; i = vs .2; inv = inv } }; loop-test = record { taken = Tests.ltb-true (Row.get 7 (T7 .locals) (m6 record { before = c; slice-known = record { given = g } } (vs .0) (vs .1) (vs .2))) (Row.get 9 (T7 .locals) (m6 record { before = c; slice-known = record { given = g } } (vs .0) (vs .1) (vs .2))) taken } }, λ left. lay2 record { before = record { before = record { before = c; slice-known = record { given = g } }; loop = record { buffer = vs .0; course = vs .1; i = vs .2; inv = inv } }; loop-test = record { left = Tests.ltb-false (Row.get 7 (T7 .locals) (m6 record { before = c; slice-known = record { given = g } } (vs .0) (vs .1) (vs .2))) (Row.get 9 (T7 .locals) (m6 record { before = c; slice-known = record { given = g } } (vs .0) (vs .1) (vs .2))) left } })))
 
         module _ (κs : Lifetimes.Lfts 2) (qs : Lifetimes.Shares 2) where
           pub asked : (a : FnKinds.Dens κs ps) → (good : FnKinds.GoodsP κs ps a) → (pre : Pre· κs a) → (bs : List.List Nat.ℕ) → Φ (Any.wantQ 2 ps r xs m κs qs a (Post· κs a)) (Function.init 2 ps r xs m κs qs a)
-          asked = λ a good pre bs. laid record { κs = κs; args = record { years = a .0; sites = a .1 .0; buffer = a .1 .1 .0; start = a .1 .1 .1 .0 }; good = good; fits = record { years = record { fits = good .0 .1 } }; pre = pre }
+          asked = λ a good pre bs. laid record { κs = κs; args = record { edition = a .0; years = a .1 .0; sites = a .1 .1 .0; buffer = a .1 .1 .1 .0; start = a .1 .1 .1 .1 .0 }; good = good; fits = record { edition = record { fits = good .0 .1 }; years = record { fits = good .1 .0 .1 } }; pre = pre }
 
         module _ {M : Type 1} (𝓤 : URA.URA M) (H : Wp.Heap 𝓤) (A : Atoms.Atoms 𝓤) (W : Kit.Given 𝓤 H A) (𝓣 : Wp.Tables 𝓤 H) (known0 : Plain.Known 𝓤 H A W 𝓣 1 ps·0 r·0 (claims· .0) (claims· .1) "project_writer::course::step") where
           pub spec : Statement.Triple 𝓤 (Wp.WpFn 𝓤 H (𝓣 .C) (𝓣 .Λ) (Function.fnOf 2 ps r xs m hs body)) (Function.plainOf 𝓤 H A 2 ps r Pre· Post·)

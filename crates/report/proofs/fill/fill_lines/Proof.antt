@@ -4,14 +4,14 @@ use Prim.Native.Nat.{_-_, _*_}
 use mathlib.Core.Path.{_∙_}
 use native.Mathlib.Omega.{arith}
 use borrow.Author.Needs.{needs}
-use Rattle.model.specs.Coefficients.{editionOne}
+use Rattle.model.specs.Coefficients.{coefficientsOf}
 use Rattle.report.specs.Fill.{Filling, put-same, filling-start, filling-end, filling-on, always-read, line-fits, total-at-most, place-near}
 use Rattle.report.proofs.fill.fill_lines.Statement.{statement}
 use Rattle.report.proofs.fill.fill_lines.Tie as tie
 
 abbrev Inv-loop : tie.InvT-loop
 Inv-loop powers logarithms exponentials file header sites report₀ total₀ at₀ i₀ report total at i =
-    Filling editionOne file header sites report₀ i at total report
+    Filling (coefficientsOf (header .edition)) file header sites report₀ i at total report
 
 abbrev μ-loop : tie.MeasureT-loop
 μ-loop powers logarithms exponentials file header sites report₀ total₀ at₀ i₀ report total at i = sites - i

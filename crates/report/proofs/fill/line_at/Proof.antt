@@ -1,6 +1,5 @@
 -- The line of the site that was read, or none.
 use denote.Ref.{now}
-use Rattle.model.specs.Coefficients.{editionOne}
 use Rattle.report.specs.Fill.{no-line, a-line}
 use borrow.Author.Needs.{needs}
 use Rattle.report.proofs.fill.line_at.Statement.{statement}
@@ -16,13 +15,13 @@ returns : tie.Need-returns
 returns c =
     let read = c .before .before in
     let start = read .before .before .before in
-    no-line (now (start .args .file)) (start .args .at) _ editionOne (start .args .header) (read .read-site .ensures) _ (c .enum-told .given .1)
+    no-line (now (start .args .file)) (start .args .at) _ _ (start .args .header) (read .read-site .ensures) _ (c .enum-told .given .1)
 
 returns-2 : tie.Need-returns-2
 returns-2 c =
     let read = c .before .before .before .before in
     let start = read .before .before .before in
-    a-line (now (start .args .file)) (start .args .at) _ editionOne (start .args .header) (read .read-site .ensures) _ _ _
+    a-line (now (start .args .file)) (start .args .at) _ _ (start .args .header) (read .read-site .ensures) _ _ _
     (c .before .before .answer .given .1) (c .line-with .ensures)
 
 pub line-at-spec : {M : Type 1} → statement M

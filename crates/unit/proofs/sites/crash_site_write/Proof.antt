@@ -9,14 +9,14 @@ returns c =
     let match = c .before .before in
     let wrote = match .before .before .before in
     let site = wrote .before .before in
-    written-numbers _ _ _ _ _ _ (site .site-from .ensures) _ (wrote .write-site .ensures) _ (c .before .answer .given .1)
+    written-numbers _ _ _ _ _ _ _ (site .site-from .ensures) _ (wrote .write-site .ensures) _ (c .before .answer .given .1)
 
 returns-2 : tie.Need-returns-2
 returns-2 c =
     let match = c .before .before in
     let wrote = match .before .before .before in
     let site = wrote .before .before in
-    written-numbers _ _ _ _ _ _ (site .site-from .ensures) _ (wrote .write-site .ensures) _ (c .before .answer2 .given .1)
+    written-numbers _ _ _ _ _ _ _ (site .site-from .ensures) _ (wrote .write-site .ensures) _ (c .before .answer2 .given .1)
 
 pub crash-site-write-spec : {M : Type 1} → statement M
 crash-site-write-spec =

@@ -13,11 +13,11 @@ use Rattle.unit.proofs.writing.walk_numbers.Statement.{statement}
 use Rattle.unit.proofs.writing.walk_numbers.Tie as tie
 
 abbrev Inv-loop : tie.InvT-loop
-Inv-loop years numbers buffer₀ sites course₀ i₀ buffer course i =
-    (i ≤ sites) × (length buffer ≡ length buffer₀) × Walked years (sitesGiven numbers) course₀ buffer₀ i course buffer
+Inv-loop edition years numbers buffer₀ sites course₀ i₀ buffer course i =
+    (i ≤ sites) × (length buffer ≡ length buffer₀) × Walked edition years (sitesGiven numbers) course₀ buffer₀ i course buffer
 
 abbrev μ-loop : tie.MeasureT-loop
-μ-loop years numbers buffer₀ sites course₀ i₀ buffer course i = sites - i
+μ-loop edition years numbers buffer₀ sites course₀ i₀ buffer course i = sites - i
 
 -- the index is one of a site, the numbers reach its place, and the site is taken out there
 counted : (c : tie.In-loop Inv-loop μ-loop) → let loop = c .before in let start = loop .before .before .before .before in
@@ -44,7 +44,7 @@ loop-again c =
     let turn = out .before .before in
     let inv = turn .before .loop .inv in (
       omega arith,
-      step .step .kept .1 .1 .0 ∙ inv .1,
+      step .step .kept .1 .1 .1 .0 ∙ inv .1,
       walked-more (inv .2) _ _ (rw given-count (counted turn)) (taken-out out) _ _ (step .step .ensures),
     )
 

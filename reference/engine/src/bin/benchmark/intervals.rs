@@ -10,16 +10,16 @@ pub type Numbers = [u64; SITE_NUMBERS];
 /// Two ends of the predicted and two of the expected crashes, in millionths.
 pub type Ends = [f64; 4];
 
-type Call = unsafe extern "C" fn(*const [u64; 3], *const Numbers, usize, *mut Ends);
+type Call = unsafe extern "C" fn(*const [u64; 4], *const Numbers, usize, *mut Ends);
 
 #[cfg(has_arb)]
 extern "C" {
-    fn arb_lines(header: *const [u64; 3], sites: *const Numbers, n: usize, ends: *mut Ends);
+    fn arb_lines(header: *const [u64; 4], sites: *const Numbers, n: usize, ends: *mut Ends);
 }
 
 #[cfg(has_mpfi)]
 extern "C" {
-    fn mpfi_lines(header: *const [u64; 3], sites: *const Numbers, n: usize, ends: *mut Ends);
+    fn mpfi_lines(header: *const [u64; 4], sites: *const Numbers, n: usize, ends: *mut Ends);
 }
 
 /// An interval library with Debian's package of it.

@@ -1,20 +1,20 @@
 //! Times of the engine's brackets, of its line of a site and of whole projects,
-//! read and written, with the stored numbers lent, beside plain doubles and,
-//! where they are installed, two interval libraries, in one run; and of sites
-//! with traffic year by year beside the same sites with one traffic. For
+//! read and written, of each edition, with the stored numbers lent, beside plain
+//! doubles and, where they are installed, two interval libraries, in one run; and
+//! of sites with traffic year by year beside the same sites with one traffic. For
 //! brackets and lines the engine's program `rounds` is run with few and with
 //! many rounds, and the difference is divided by what was made.
 
 mod intervals;
 
-use engine::program::{rounds, rounds_of, Job, ROUNDS_HEADER as HEADER};
+use engine::program::{rounds, rounds_header, rounds_of, Job};
 use engine::sites::{read_into, run_of, READ_NUMBERS};
 use engine::{doubles, lines, projects};
 use intervals::{numbers_of_sites, Library, LIBRARIES};
 use reference::generate::{self, Random};
 use reference::project::{write_project, Header, Project, LONGEST_FILE};
-use reference::record::{write_site, Site};
-use reference::rules::{KIND_NAMES, MOST_SITES, MOST_YEARS, SEGMENT};
+use reference::record::Site;
+use reference::rules::{EDITIONS, EDITION_ONE, KIND_NAMES, MOST_SITES, MOST_YEARS, SEGMENT};
 use std::hint::black_box;
 use std::iter;
 use std::time::{Duration, Instant};
@@ -129,7 +129,7 @@ fn bracket_time(kind: &Kind, few: Duration, many: Duration) -> f64 {
 
 /// The inputs of these two runs.
 fn few_and_many(kind: &Kind) -> [Vec<u8>; 2] {
-    [1, 1 + kind.rounds].map(|rounds| rounds_of(&[(kind.job, rounds)], &[]))
+    [1, 1 + kind.rounds].map(|rounds| rounds_of(&[(kind.job, rounds)], EDITION_ONE, &[]))
 }
 
 fn engine_time(kind: &Kind) -> f64 {
@@ -161,8 +161,8 @@ fn double_time(kind: &Kind) -> f64 {
 const ROUNDS: u16 = 300;
 
 /// One making round's sum by the exported call, which the program must print.
-fn sum_of_lines(sites: &[Site]) -> u64 {
-    let lines = sites.iter().map(|site| lines::line(&HEADER, site));
+fn sum_of_lines(header: &Header, sites: &[Site]) -> u64 {
+    let lines = sites.iter().map(|site| lines::line(header, site));
     let numbers = lines.flat_map(|line| line.expect("a line"));
     numbers.fold(0, |sum, number| (sum + number) % (1 << 32))
 }
@@ -182,11 +182,11 @@ fn assert_same_figures(header: &Header, sites: &[Site]) {
 }
 
 /// Nanoseconds for a site: reading its record, and making its line.
-fn line_times(sites: &[Site]) -> (f64, f64) {
+fn line_times(edition: u8, sites: &[Site]) -> (f64, f64) {
     let rounds = [[1, 1], [1, 1 + ROUNDS], [1 + ROUNDS, 1]];
     let inputs = rounds.map(|[lines, records]| {
         let asked = [(Job::Lines, lines), (Job::Records, records)];
-        rounds_of(&asked, sites)
+        rounds_of(&asked, edition, sites)
     });
     let [none, read, made] = times_in_turn(&inputs);
     let count = sites.len() as f64 * f64::from(ROUNDS);
@@ -245,18 +245,19 @@ struct Times {
     libraries: [Option<[f64; 2]>; LIBRARIES.len()],
 }
 
-fn times_of(sites: &[Site]) -> Times {
-    assert_same_figures(&HEADER, sites);
-    let printed = rounds(&rounds_of(&[(Job::Lines, 1)], sites));
-    assert_eq!(printed, format!("0\n{}\n", sum_of_lines(sites)));
-    let (reading, making) = line_times(sites);
+fn times_of(edition: u8, sites: &[Site]) -> Times {
+    let header = rounds_header(edition);
+    assert_same_figures(&header, sites);
+    let printed = rounds(&rounds_of(&[(Job::Lines, 1)], edition, sites));
+    assert_eq!(printed, format!("0\n{}\n", sum_of_lines(&header, sites)));
+    let (reading, making) = line_times(edition, sites);
     Times {
         making,
         reading,
-        doubles: time_here(sites.len() as f64, || in_doubles(&HEADER, sites)),
+        doubles: time_here(sites.len() as f64, || in_doubles(&header, sites)),
         libraries: LIBRARIES
             .each_ref()
-            .map(|library| library_times(library, &HEADER, sites)),
+            .map(|library| library_times(library, &header, sites)),
     }
 }
 
@@ -265,18 +266,20 @@ fn print_row(name: &str, cells: impl Iterator<Item = String>) {
 }
 
 /// One column for all kinds and one for each kind, one row for each way.
-fn print_lines(mixed: &[Site]) {
+fn print_lines(edition: u8, mixed: &[Site]) {
     let of_kind = |kind: usize| {
         let is_of_kind = |site: &&Site| usize::from(site.kind) == kind;
-        times_of(&mixed.iter().filter(is_of_kind).copied().collect::<Vec<_>>())
+        let sites: Vec<Site> = mixed.iter().filter(is_of_kind).copied().collect();
+        times_of(edition, &sites)
     };
-    let mut groups = vec![times_of(mixed)];
+    let mut groups = vec![times_of(edition, mixed)];
     groups.extend((0..KIND_NAMES.len()).map(of_kind));
     let cells = |time: fn(&Times) -> f64| {
         let each = groups.iter().map(time);
         each.map(|time| format!("{time:.0}"))
     };
-    println!("| A site, ns | all kinds | {} |", KIND_NAMES.join(" | "));
+    let kinds = KIND_NAMES.join(" | ");
+    println!("| A site of edition {edition}, ns | all kinds | {kinds} |");
     println!("|---|---|---|---|---|---|");
     print_row("Engine, four numbers", cells(|times| times.making));
     print_row("Engine, reading its record", cells(|times| times.reading));
@@ -369,9 +372,9 @@ fn microseconds(site: f64, size: usize) -> f64 {
     site * size as f64 / 1e3
 }
 
-fn print_projects(sites: &[Site], size: usize) {
+fn print_projects_of(header: Header, sites: &[Site], size: usize) {
     let surveys = sites.chunks_exact(size);
-    let surveys: Vec<Survey> = surveys.map(|sites| survey_of(HEADER, sites)).collect();
+    let surveys: Vec<Survey> = surveys.map(|sites| survey_of(header, sites)).collect();
     assert_eq!(surveys.len() * size, sites.len());
     let ProjectTimes {
         read,
@@ -386,60 +389,64 @@ fn print_projects(sites: &[Site], size: usize) {
 }
 
 /// The most years, of which a site may have each with its traffic.
-const MOST: Header = Header {
-    years: MOST_YEARS,
-    ..HEADER
-};
+fn most_years(edition: u8) -> Header {
+    Header {
+        years: MOST_YEARS,
+        ..rounds_header(edition)
+    }
+}
 
 /// Nanoseconds for reading a record by the exported call.
-fn record_time(sites: &[Site]) -> f64 {
-    let years = MOST.years.into();
-    let record = |site| write_site(years, site, usize::MAX).expect("a site that the writer takes");
+fn record_time(header: &Header, sites: &[Site]) -> f64 {
+    let record = |site| {
+        header
+            .write_site(site)
+            .expect("a site that the writer takes")
+    };
     let records: Vec<Vec<u8>> = sites.iter().map(record).collect();
+    let [edition, years, ..] = header.numbers();
     let mut values = [0; READ_NUMBERS];
     time_here(sites.len() as f64, || {
         for record in &records {
-            black_box(read_into(years, black_box(record), &mut values));
+            black_box(read_into(edition, years, black_box(record), &mut values));
         }
     })
 }
 
-fn print_years_of(name: &str, sites: &[Site]) {
-    assert_same_figures(&MOST, sites);
+fn print_years_of(name: &str, header: Header, sites: &[Site]) {
+    assert_same_figures(&header, sites);
     let size = sites.len();
-    let times = project_times(&[survey_of(MOST, sites)], size);
+    let times = project_times(&[survey_of(header, sites)], size);
     let mut cells = vec![format!("{:.1}", microseconds(times.read, size))];
-    let each = [times.read, record_time(sites), times.written, times.doubles];
+    let record = record_time(&header, sites);
+    let each = [times.read, record, times.written, times.doubles];
     cells.extend(each.map(|time| format!("{time:.0}")));
     for library in &LIBRARIES {
-        let made = library_times(library, &MOST, sites);
+        let made = library_times(library, &header, sites);
         cells.push(made.map_or(String::new(), |[made, _]| format!("{made:.0}")));
     }
     print_row(name, cells.into_iter());
 }
 
 /// The same sites with one traffic for all years and with one for each.
-fn print_years(random: &mut Random) {
+fn print_years(edition: u8, random: &mut Random) {
+    let header = most_years(edition);
     let libraries = LIBRARIES.each_ref().map(|library| library.name);
     println!(
-        "| {MOST_SITES} sites over {MOST_YEARS} years | Engine, a project, µs | Engine, a site, ns \
+        "| {MOST_SITES} sites of edition {edition} over {MOST_YEARS} years | Engine, a project, µs | Engine, a site, ns \
         | its record read, ns | written, ns | Doubles, a site, ns | {} |",
         libraries.join(" | ")
     );
     println!("|---|---|---|---|---|---|---|---|");
     for (kind, is_segment) in [("segments", true), ("crossings", false)] {
-        let all = iter::repeat_with(|| generate::plain_site(random));
+        let all = iter::repeat_with(|| generate::plain_site(random, edition));
         let of_kind = all.filter(|site| (site.kind == SEGMENT) == is_segment);
         let plain: Vec<Site> = of_kind.take(MOST_SITES).collect();
-        let years = |site: &Site| generate::yearly(random, *site, MOST.years);
+        let years = |site: &Site| generate::yearly(random, *site, header.years);
         let yearly: Vec<Site> = plain.iter().map(years).collect();
-        print_years_of(&format!("{kind}, one traffic"), &plain);
-        print_years_of(&format!("{kind}, traffic year by year"), &yearly);
+        print_years_of(&format!("{kind}, one traffic"), header, &plain);
+        print_years_of(&format!("{kind}, traffic year by year"), header, &yearly);
     }
-}
-
-fn random_sites(random: &mut Random, count: usize) -> Vec<Site> {
-    (0..count).map(|_| generate::plain_site(random)).collect()
 }
 
 fn print_brackets() {
@@ -463,21 +470,29 @@ fn print_brackets() {
     println!();
 }
 
-fn main() {
-    print_brackets();
-    let mut random = Random::new(41);
-    print_lines(&random_sites(&mut random, MOST_SITES));
-    println!();
+fn print_projects(edition: u8, sites: &[Site]) {
+    let header = rounds_header(edition);
     println!(
-        "| Sites | Engine, a project, µs | Engine, a site, ns | Doubles, a site, ns \
-        | Written, a project, µs | Written, a site, ns |"
+        "| Sites of edition {edition} | Engine, a project, µs | Engine, a site, ns \
+        | Doubles, a site, ns | Written, a project, µs | Written, a site, ns |"
     );
     println!("|---|---|---|---|---|---|");
-    let sites = random_sites(&mut random, SITES_OF_PROJECTS);
-    assert_same_figures(&HEADER, &sites);
+    assert_same_figures(&header, sites);
     for size in SIZES {
-        print_projects(&sites, size);
+        print_projects_of(header, sites, size);
     }
-    println!();
-    print_years(&mut random);
+}
+
+fn main() {
+    print_brackets();
+    for edition in EDITIONS {
+        let mut random = Random::new(41);
+        let mut sites = |count| generate::plain_sites(&mut random, edition, count);
+        print_lines(edition, &sites(MOST_SITES));
+        println!();
+        print_projects(edition, &sites(SITES_OF_PROJECTS));
+        println!();
+        print_years(edition, &mut random);
+        println!();
+    }
 }
