@@ -105,14 +105,13 @@ lackedFrom rows b (suc count) = onlyLacked (fieldAt rows b) b (lackedFrom rows (
     onlyLacked lacked n later = n ∷ later
     onlyLacked (field value low high absence) n later = later
 
--- they are none of a segment, 7 to 14 of a crossing, and 6 too in edition 2; "4SG lacks bits 3 and 6"
+-- they are none of a segment, and of a crossing 7 to 14; "4SG lacks bits 3 and 6", and an edition without limited sight has no 6
+abbrev pub noCrossing : List ℕ
+noCrossing = 7 ∷ 8 ∷ 9 ∷ 10 ∷ 11 ∷ 12 ∷ 13 ∷ 14 ∷ []
+
 abbrev pub lackedOf : (sight : Bool) (kind : ℕ) → List ℕ
 lackedOf sight zero = []
-lackedOf true (suc zero) = 7 ∷ 8 ∷ 9 ∷ 10 ∷ 11 ∷ 12 ∷ 13 ∷ 14 ∷ []
-lackedOf false (suc zero) = 6 ∷ 7 ∷ 8 ∷ 9 ∷ 10 ∷ 11 ∷ 12 ∷ 13 ∷ 14 ∷ []
-lackedOf true (suc (suc zero)) = 7 ∷ 8 ∷ 9 ∷ 10 ∷ 11 ∷ 12 ∷ 13 ∷ 14 ∷ []
-lackedOf false (suc (suc zero)) = 6 ∷ 7 ∷ 8 ∷ 9 ∷ 10 ∷ 11 ∷ 12 ∷ 13 ∷ 14 ∷ []
-lackedOf sight (suc (suc (suc kind))) = 3 ∷ 6 ∷ 7 ∷ 8 ∷ 9 ∷ 10 ∷ 11 ∷ 12 ∷ 13 ∷ 14 ∷ []
+lackedOf sight (suc kind) = cond (eqb kind 2) (3 ∷ 6 ∷ noCrossing) (cond sight noCrossing (6 ∷ noCrossing))
 
 abbrev pub lackedBits : (edition kind : ℕ) → List ℕ
 lackedBits edition kind = lackedOf (hasSight edition) kind
