@@ -75,7 +75,9 @@ extern "C" {
 /* Reads a project file and makes its report from the start of report: four numbers for each site (predicted low, predicted
  * high, expected low, expected high, in millionths of a crash), then four totals; what follows them is untouched.
  * CRASH_OK: *value is the count of numbers written, 4(sites + 1).
- * 1 to 10: *value is the refusal's place in the file, and report is as it was. */
+ * 1 to 10: *value is the refusal's place in the file, and report is as it was.
+ * The four numbers of a site depend on the header and the site alone: with the same header and the same sites in another order
+ * they stand where the site does, and the totals are equal. */
 uint64_t crash_project(const uint8_t *file, size_t file_len, uint64_t *report, size_t report_len, uint64_t *value);
 
 /* A site is CRASH_SITE_NUMBERS numbers: its kind (0 segment, 1 three-leg stop, 2 four-leg stop, 3 four-leg signal), then its

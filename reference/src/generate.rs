@@ -365,6 +365,28 @@ pub fn largest_project(random: &mut Random) -> Project {
     project_of(random, MOST_SITES)
 }
 
+/// A project of so many sites, a fifth of which, and one at least, are equal to
+/// others of it.
+pub fn repeating_project(random: &mut Random, count: usize) -> Project {
+    let repeats = count.div_ceil(5);
+    let mut project = project_of(random, count - repeats);
+    let sites = &mut project.sites;
+    for _ in 0..repeats {
+        let site = sites[random.below(sites.len())];
+        sites.insert(random.below(sites.len() + 1), site);
+    }
+    project
+}
+
+/// A random order of so many places: where each goes.
+pub fn order(random: &mut Random, count: usize) -> Vec<usize> {
+    let mut images: Vec<usize> = (0..count).collect();
+    for last in (1..count).rev() {
+        images.swap(last, random.below(last + 1));
+    }
+    images
+}
+
 /// The records of a project, one list of bytes each.
 fn records(project: &Project) -> Vec<Vec<u8>> {
     let sites = project.sites.iter();

@@ -1,5 +1,6 @@
 -- What the exported calls leave in lent runs of numbers. To be believed, since contracts cite it: Lent, SiteNumbers, LineNumbers,
--- ProjectNumbers and FileNumbers. The others are laws about these: Coding, Given, Malformed, RoundTrips and FileRoundTrips.
+-- ProjectNumbers and FileNumbers. The others are laws about these: Coding, Given, Malformed, RoundTrips, FileRoundTrips
+-- and Reordered.
 pub mod Lent
 pub mod SiteNumbers
 pub mod LineNumbers
@@ -10,3 +11,4 @@ pub mod Given
 pub mod Malformed
 pub mod RoundTrips
 pub mod FileRoundTrips
+pub mod Reordered

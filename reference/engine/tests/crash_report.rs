@@ -2,9 +2,10 @@
 //! corridor, the largest files, and files that the reference makes.
 
 use engine::program::{full_project, longest_report, CRASH_REPORT};
+use reference::generate::{order, repeating_project, Random};
 use reference::lines;
 use reference::program::{check, judge, run, DEPTHS};
-use reference::project::{HEADER, LONGEST_FILE};
+use reference::project::{write_project, Project, HEADER, LONGEST_FILE};
 use reference::rules::{EDITIONS, EDITION_ONE, MOST_SITES};
 use std::fs::{self, File, OpenOptions};
 use std::io::{Read, Write};
@@ -24,6 +25,9 @@ const PIPE: usize = 65_536;
 /// Files of each sort that the gate compares, and the seed that makes them.
 const FILES: usize = 5_000;
 const SEED: u64 = 1;
+
+/// Projects whose sites are put in another order.
+const REORDERED: usize = 2_000;
 
 fn printed(input: &[u8]) -> String {
     run(CRASH_REPORT, input).expect("the program runs; `rt check` makes it")
@@ -83,18 +87,24 @@ fn editions_of_a_file() {
     }
 }
 
+/// A demo's readable lines make its project, and this prints as its report.
+fn assert_demo(name: &str) -> (Vec<u8>, String) {
+    let file = |kind: &str| stored(&format!("demo/{name}.{kind}"));
+    let text = String::from_utf8(file("txt")).expect("readable lines");
+    let project = file("project");
+    assert_eq!(lines::make(&text), Ok(project.clone()));
+    let report = printed(&project);
+    assert_eq!(report.as_bytes(), file("report"));
+    assert_eq!(judge(&project, &report, &DEPTHS), Ok(()));
+    (project, report)
+}
+
 /// The corridor as each edition prices it.
 #[test]
 fn demo_corridor() {
     for (edition, name) in EDITIONS.into_iter().zip(["corridor", "corridor_manual"]) {
-        let file = |kind: &str| stored(&format!("demo/{name}.{kind}"));
-        let text = String::from_utf8(file("txt")).expect("readable lines");
-        let project = file("project");
+        let (project, _) = assert_demo(name);
         assert_eq!(project[0], edition);
-        assert_eq!(lines::make(&text), Ok(project.clone()));
-        let report = printed(&project);
-        assert_eq!(report.as_bytes(), file("report"));
-        assert_eq!(judge(&project, &report, &DEPTHS), Ok(()));
     }
 }
 
@@ -236,4 +246,62 @@ fn generated_and_damaged_files() {
     assert_eq!(tally.passed, 2 * FILES);
     let refusals = &tally.outcomes[1..10];
     assert!(refusals.iter().all(|count| *count > 0), "{refusals:?}");
+}
+
+/// A project with each site at its image.
+fn reordered(project: &Project, images: &[usize]) -> Project {
+    let mut other = project.clone();
+    for (site, image) in project.sites.iter().zip(images) {
+        other.sites[*image] = *site;
+    }
+    other
+}
+
+/// Prices a project and the same sites in another order. Each line goes to its
+/// site's image and the totals stay; true where a line has moved.
+fn assert_order_free(project: &Project, images: &[usize]) -> bool {
+    let [report, other] = [project, &reordered(project, images)].map(|project| {
+        let file = write_project(project).expect("sites that the writer takes");
+        printed(&file)
+    });
+    let lines: Vec<&str> = report.lines().collect();
+    let mut wanted = lines.clone();
+    for (line, image) in lines.iter().zip(images) {
+        wanted[*image] = line;
+    }
+    assert_eq!(lines.len(), project.sites.len() + 1);
+    assert_eq!(other.lines().collect::<Vec<_>>(), wanted);
+    other != report
+}
+
+/// Whether a site stands in a project more than once.
+fn repeats_a_site(project: &Project) -> bool {
+    let sites = &project.sites;
+    (1..sites.len()).any(|i| sites[..i].contains(&sites[i]))
+}
+
+/// The largest project first; in each some sites are equal to others.
+#[test]
+fn sites_in_another_order() {
+    let mut random = Random::new(SEED);
+    let mut moved = 0;
+    for i in 0..REORDERED {
+        let small = 2 + random.below(12);
+        let count = if i == 0 { MOST_SITES } else { small };
+        let project = repeating_project(&mut random, count);
+        assert!(repeats_a_site(&project));
+        let images = order(&mut random, count);
+        moved += usize::from(assert_order_free(&project, &images));
+    }
+    assert!(moved > REORDERED / 2, "{moved}");
+}
+
+#[test]
+fn demo_corridor_from_its_other_end() {
+    let (_, report) = assert_demo("corridor");
+    let (_, other) = assert_demo("corridor_reversed");
+    let mut lines: Vec<&str> = report.lines().collect();
+    let sites = lines.len() - 1;
+    lines[..sites].reverse();
+    assert_eq!(other.lines().collect::<Vec<_>>(), lines);
 }
