@@ -76,8 +76,9 @@ extern "C" {
  * high, expected low, expected high, in millionths of a crash), then four totals; what follows them is untouched.
  * CRASH_OK: *value is the count of numbers written, 4(sites + 1).
  * 1 to 10: *value is the refusal's place in the file, and report is as it was.
- * The four numbers of a site depend on the header and the site alone: with the same header and the same sites in another order
- * they stand where the site does, and the totals are equal. */
+ * Where two calls answer CRASH_OK for files with the same header and the same sites in another order, the numbers of a site,
+ * report[4 * i] to report[4 * i + 3] for the site at index i, are the same at its index in each, and the totals are equal;
+ * proved in crates/reordering/specs. */
 uint64_t crash_project(const uint8_t *file, size_t file_len, uint64_t *report, size_t report_len, uint64_t *value);
 
 /* A site is CRASH_SITE_NUMBERS numbers: its kind (0 segment, 1 three-leg stop, 2 four-leg stop, 3 four-leg signal), then its

@@ -365,8 +365,8 @@ pub fn largest_project(random: &mut Random) -> Project {
     project_of(random, MOST_SITES)
 }
 
-/// A project of so many sites, a fifth of which, and one at least, are equal to
-/// others of it.
+/// A project of so many sites, two at least, of which a fifth, rounded up, are
+/// equal to others of it.
 pub fn repeating_project(random: &mut Random, count: usize) -> Project {
     let repeats = count.div_ceil(5);
     let mut project = project_of(random, count - repeats);

@@ -1,8 +1,8 @@
--- Laws of a reordering: it is the library's permutation of lists, no place is left out, no element that stands twice is dropped, and a
--- list from its end is one.
+-- Laws of a reordering: it gives a permutation of the library, and such a permutation gives one; no place is left out, each element stands
+-- as often as before, and a list from its end is one.
 use Prim.Native.Nat.{ℕ, zero, suc, _+_, _-_, _<_}
 use mathlib.Core.Path.{_≡_, refl, sym, ap, _∙_}
-use mathlib.Core.Bool.{Bool, true, false}
+use mathlib.Core.Bool.{Bool, true, false, cond}
 use mathlib.Core.Logic.{_↔_}
 use mathlib.Core.List.{List, [], _∷_, reverseAux, reverse, List·Permᴰ, List·Permᴰ·nil, List·Permᴰ·cons, List·Permᴰ·swap, List·Permᴰ·trans, Permᴰ·refl}
 use native.Mathlib.Nat.{zero-add}
@@ -197,11 +197,26 @@ module _ {A : Type 0} where
   permutation-reorders (List·Permᴰ·swap e f) = exchanged-reordered _ _ _ _ _ e f
   permutation-reorders (List·Permᴰ·trans p q) = reordered-again (permutation-reorders p) (permutation-reorders q)
 
-  -- BOTH ARE THE SAME
+  -- EACH GIVES THE OTHER
   pub reordering-exactly : (xs ys : List A) → ((image : ℕ → ℕ) × Reordering xs ys image) ↔ List·Permᴰ xs ys
   reordering-exactly xs ys = (λ r. reordering-permutes xs ys (r .0) (r .1), λ p. (imageOf p, permutation-reorders p))
 
-  -- AN ELEMENT THAT STANDS TWICE IS NOT DROPPED: a a b is no reordering of a b b
+  -- EACH ELEMENT STANDS AS OFTEN AS BEFORE, whatever a test picks out
+  unfoldable pub countOf : (A → Bool) → List A → ℕ
+  countOf test [] = 0
+  countOf test (x ∷ xs) = cond (test x) 1 0 + countOf test xs
+
+  as-often : (test : A → Bool) {xs ys : List A} → List·Permᴰ xs ys → countOf test ys ≡ countOf test xs
+  unfolding countOf
+  as-often test List·Permᴰ·nil = refl
+  as-often test (List·Permᴰ·cons e p) = rw (e, as-often test p) refl
+  as-often test (List·Permᴰ·swap e f) = rw (e, f) (omega arith)
+  as-often test (List·Permᴰ·trans p q) = as-often test q ∙ as-often test p
+
+  pub each-as-often : (test : A → Bool) (xs ys : List A) (image : ℕ → ℕ) → Reordering xs ys image → countOf test ys ≡ countOf test xs
+  each-as-often test xs ys image r = as-often test (reordering-permutes xs ys image r)
+
+  -- so one that stands twice is not dropped: a a b is no reordering of a b b
   pub none-dropped : (a b : A) (image : ℕ → ℕ) → (b ≡ a → ⊥) → Reordering (a ∷ a ∷ b ∷ []) (a ∷ b ∷ b ∷ []) image → ⊥
   none-dropped a b image other r =
       let first = at-first (image 0) (r .inside 0 (omega arith)) (r .same 0 b (omega arith)) in

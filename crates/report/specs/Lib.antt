@@ -1,6 +1,5 @@
--- The report of a project, demand 3, and two projects whose sites are the same in another order. To be believed: Report, what a report
--- is; Demand, what is claimed of it; Reordered, what is claimed of two. The code's steps cite Fill too, and no public call does. Laws of
--- these: the others.
+-- The report of a project, and demand 3. To be believed: Report, what it is, and Demand, what is claimed of it. The code's steps cite
+-- Fill too, and no public call does. Laws of these: the others.
 pub mod Report
 pub mod Demand
 pub mod DemandLaws
@@ -11,5 +10,3 @@ pub mod Zeros
 pub mod OneReport
 pub mod ReaderCauses
 pub mod LinesLeft
-pub mod Reordered
-pub mod ReorderedLaws

@@ -1,6 +1,5 @@
 -- What the exported calls leave in lent runs of numbers. To be believed, since contracts cite it: Lent, SiteNumbers, LineNumbers,
--- ProjectNumbers and FileNumbers. The others are laws about these: Coding, Given, Malformed, RoundTrips, FileRoundTrips
--- and Reordered.
+-- ProjectNumbers and FileNumbers. The others are laws about these: Coding, Given, Malformed, RoundTrips and FileRoundTrips.
 pub mod Lent
 pub mod SiteNumbers
 pub mod LineNumbers
@@ -11,4 +10,3 @@ pub mod Given
 pub mod Malformed
 pub mod RoundTrips
 pub mod FileRoundTrips
-pub mod Reordered

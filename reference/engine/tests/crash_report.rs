@@ -5,7 +5,7 @@ use engine::program::{full_project, longest_report, CRASH_REPORT};
 use reference::generate::{order, repeating_project, Random};
 use reference::lines;
 use reference::program::{check, judge, run, DEPTHS};
-use reference::project::{write_project, Project, HEADER, LONGEST_FILE};
+use reference::project::{parse_project, write_project, Project, HEADER, LONGEST_FILE};
 use reference::rules::{EDITIONS, EDITION_ONE, MOST_SITES};
 use std::fs::{self, File, OpenOptions};
 use std::io::{Read, Write};
@@ -280,28 +280,41 @@ fn repeats_a_site(project: &Project) -> bool {
     (1..sites.len()).any(|i| sites[..i].contains(&sites[i]))
 }
 
-/// The largest project first; in each some sites are equal to others.
+/// The largest project first; in each some sites are equal to others, and
+/// lines move in projects of every edition, with and without yearly traffic.
 #[test]
 fn sites_in_another_order() {
     let mut random = Random::new(SEED);
-    let mut moved = 0;
+    let mut moved = [[0; 2]; EDITIONS.len()];
     for i in 0..REORDERED {
         let small = 2 + random.below(12);
         let count = if i == 0 { MOST_SITES } else { small };
         let project = repeating_project(&mut random, count);
         assert!(repeats_a_site(&project));
         let images = order(&mut random, count);
-        moved += usize::from(assert_order_free(&project, &images));
+        if assert_order_free(&project, &images) {
+            let is_yearly = project.sites.iter().any(|site| site.is_yearly());
+            moved[usize::from(project.header.edition) - 1][usize::from(is_yearly)] += 1;
+        }
     }
-    assert!(moved > REORDERED / 2, "{moved}");
+    let tally = moved.as_flattened();
+    assert!(
+        tally.iter().all(|count| *count > REORDERED / 10),
+        "{tally:?}"
+    );
 }
 
+/// The second file has the first one's header and its sites from the last to
+/// the first, and so are its lines.
 #[test]
 fn demo_corridor_from_its_other_end() {
-    let (_, report) = assert_demo("corridor");
-    let (_, other) = assert_demo("corridor_reversed");
+    let [(project, report), (other, other_report)] =
+        ["corridor", "corridor_reversed"].map(assert_demo);
+    let mut reversed = parse_project(&project).expect("the demo");
+    reversed.sites.reverse();
+    assert_eq!(parse_project(&other), Ok(reversed));
     let mut lines: Vec<&str> = report.lines().collect();
     let sites = lines.len() - 1;
     lines[..sites].reverse();
-    assert_eq!(other.lines().collect::<Vec<_>>(), lines);
+    assert_eq!(other_report.lines().collect::<Vec<_>>(), lines);
 }
