@@ -107,7 +107,7 @@ module _ {A : Type 0} where
       same = λ i d h. at-closed ys (image 0) (image (suc i)) d (other-image i h) ∙ r .same (suc i) d (omega arith);
     }
 
-  -- A REORDERING IS A PERMUTATION
+  -- A REORDERING GIVES A PERMUTATION
   pub reordering-permutes : (xs ys : List A) (image : ℕ → ℕ) → Reordering xs ys image → List·Permᴰ xs ys
   reordering-permutes [] [] image r = List·Permᴰ·nil
   reordering-permutes [] (y ∷ ys) image r = absurd (omega (arith, r .same-length))
@@ -183,7 +183,7 @@ module _ {A : Type 0} where
     same = λ i d h. s .same _ d (r .inside i h) ∙ r .same i d h;
   }
 
-  -- A PERMUTATION IS A REORDERING
+  -- A PERMUTATION GIVES A REORDERING
   unfoldable pub imageOf : {xs ys : List A} → List·Permᴰ xs ys → ℕ → ℕ
   imageOf List·Permᴰ·nil = λ i. i
   imageOf (List·Permᴰ·cons e p) = behind (imageOf p)

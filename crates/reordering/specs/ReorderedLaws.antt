@@ -60,8 +60,8 @@ module _ (lineOf : Site → Line) where
 module _ {bytes other : List ℕ} {image : ℕ → ℕ} (r : ReorderedProject bytes other image)
     {before report : List ℕ} (left : ReportLeft bytes before report)
     {otherBefore otherReport : List ℕ} (otherLeft : ReportLeft other otherBefore otherReport) where
-  pub same-count : countIn other ≡ countIn bytes
-  same-count = sym (count-left otherLeft) ∙ r .same-sites .same-length ∙ count-left left
+  pub as-long : reportLength (countIn other) ≡ reportLength (countIn bytes)
+  as-long = ap reportLength (sym (count-left otherLeft) ∙ r .same-sites .same-length ∙ count-left left)
 
   lines-move : (i : ℕ) → i < length (sitesIn bytes) → lineAt otherReport (image i) ≡ lineAt report i
   lines-move i h =
@@ -87,7 +87,7 @@ pub reports-reordered : {bytes other : List ℕ} {image : ℕ → ℕ} → Reord
     → {otherBefore otherReport : List ℕ} {otherCount : ℕ} → ReportsProject other otherBefore otherReport (Reported otherCount)
     → (otherCount ≡ count) × ReorderedReport (length (sitesIn bytes)) image report otherReport
 reports-reordered r p q = (
-  q .meets .2 ∙ ap reportLength (same-count r (reader-leaves p) (reader-leaves q)) ∙ sym (p .meets .2),
+  q .meets .2 ∙ as-long r (reader-leaves p) (reader-leaves q) ∙ sym (p .meets .2),
   left-reordered r (reader-leaves p) (reader-leaves q),
 )
 

@@ -18,8 +18,7 @@ use Rattle.report.specs.Demand.{lineAt, siteAt, ReportsProject}
 use Rattle.report.specs.DemandLaws.{line-of-report, total-of-report, length-lines}
 use Rattle.report.specs.ReaderCauses.{reported-exactly}
 
--- "a project is accepted when no cause in the table below is found in it or its report": the report that is left
--- for it in a run
+-- "a project is accepted when no cause in the table below is found in it or its report": the report that is left for it in a run
 pub record ReportLeft (bytes before report : List ℕ) : Type 0 where
   pub accepted : NoCause bytes (length before)
   pub report-is : report ≡ reportAfter bytes before
