@@ -2,9 +2,10 @@
 //!
 //! Four header lines, then one line for each site: the name of its kind and
 //! its fields, each a name and a number. A defaulted field may be left out.
-//! Traffic year by year is one number for each year, joined by commas.
+//! Traffic year by year is one number for each year, joined by `/`. No number
+//! has a comma: `3,200` could be 3200, or the numbers of two years.
 
-use crate::project::{write_project, Header, Project};
+use crate::project::{write_project, Header, Project, HEADER};
 use crate::record::Site;
 use crate::rules::{
     editions_with, rules, Field, Presence, Rule, EDITION_ONE, FIELD_NAMES, KIND_NAMES,
@@ -53,16 +54,29 @@ fn site_line(site: &Site) -> String {
     line
 }
 
-/// What stands between the numbers of two years.
-const YEARS_APART: &str = ",";
+/// What joins the numbers of two years.
+const YEARS_APART: &str = "/";
 
 /// The numbers allowed, in words.
 fn range(allowed: &RangeInclusive<u16>) -> String {
     format!("it must be from {} to {}", allowed.start(), allowed.end())
 }
 
+/// Refuses a comma in a number, or in a traffic's numbers of its years.
+fn without_comma(name: &str, text: &str, is_traffic: bool) -> Result<(), String> {
+    if !text.contains(',') {
+        return Ok(());
+    }
+    let told = format!("{name} is {text:?}; write a number without a comma");
+    Err(match is_traffic {
+        true => format!("{told}, and join the numbers of years by {YEARS_APART}"),
+        false => told,
+    })
+}
+
 /// Reads a number that a name has, or says what it may be.
 fn number(name: &str, text: &str, allowed: &RangeInclusive<u16>) -> Result<u16, String> {
+    without_comma(name, text, false)?;
     let plain = !text.is_empty() && text.bytes().all(|b| b.is_ascii_digit());
     let found = text.parse().ok().filter(|n| plain && allowed.contains(n));
     let shown = || match plain {
@@ -113,8 +127,9 @@ fn read_value(site: &mut Site, edition: u8, years: u8, pair: &[&str]) -> Result<
         return Err(format!("{name} is {text}; {lacks}"));
     };
     if site.get(field).is_some() {
-        return Err(format!("{name} stands twice"));
+        return Err(format!("{name} is given twice"));
     }
+    without_comma(name, text, rule.is_traffic())?;
     if rule.is_traffic() && text.contains(YEARS_APART) {
         *site = site.with_years(field, &yearly_numbers(rule, years, text)?);
     } else {
@@ -158,7 +173,7 @@ fn fill_defaults(site: &mut Site, table: &[Rule]) {
     }
 }
 
-/// Whether a field stands where it has to, and only where it may.
+/// Whether a field is given where it must be, and only where it may be.
 fn matched(site: &Site, rule: &Rule) -> Result<(), String> {
     let curve = site.is_curve() || site.get(Field::Radius).is_some();
     let name = rule.field.name();
@@ -181,15 +196,29 @@ fn matched(site: &Site, rule: &Rule) -> Result<(), String> {
     }
 }
 
-/// Whether bytes are lines and not a project file, whose header has control
-/// bytes.
+/// The byte-order marks of UTF-8 and UTF-16.
+const MARKS: [&[u8]; 3] = [b"\xEF\xBB\xBF", b"\xFF\xFE", b"\xFE\xFF"];
+
+fn has_mark(bytes: &[u8]) -> bool {
+    MARKS.iter().any(|mark| bytes.starts_with(mark))
+}
+
+/// Whether bytes are lines and not a project file. Lines start with a byte-order
+/// mark, or have no control character among their first eight bytes except line
+/// ends and tabs. A project file has two there: its edition is 1 or 2, and the
+/// high byte of its count of sites is at most 4. A file with another edition
+/// still has the second.
 pub fn are_lines(bytes: &[u8]) -> bool {
     let is_plain = |b: &u8| !b.is_ascii_control() || b.is_ascii_whitespace();
-    !bytes.is_empty() && bytes.iter().all(is_plain)
+    has_mark(bytes) || (!bytes.is_empty() && bytes.iter().take(HEADER).all(is_plain))
 }
 
 /// The text of lines.
 pub fn text_of(bytes: &[u8]) -> Result<&str, String> {
+    if has_mark(bytes) {
+        let told = "line 1: the text starts with a byte-order mark; save it as UTF-8 without one";
+        return Err(told.to_string());
+    }
     std::str::from_utf8(bytes).map_err(|error| {
         let before = &bytes[..error.valid_up_to()];
         let line = 1 + before.iter().filter(|byte| **byte == b'\n').count();

@@ -98,7 +98,7 @@ fn try_file(program: &str, input: &[u8], depths: &[u32], tally: &mut Tally) -> O
     let outcome = parse_project(input).map_or_else(|refusal| refusal.number, |_| 0);
     tally.outcomes[usize::from(outcome)] += 1;
     let judged = run(program, input)
-        .map_err(|error| error.to_string())
+        .map_err(|error| format!("{program}: {error}"))
         .and_then(|output| judge(input, &output, depths));
     match judged {
         Ok(()) => {

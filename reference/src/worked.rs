@@ -960,7 +960,7 @@ const WHOLE_SITES: [(&str, &str, &str, Each); 7] = [
     // e^-0.312, 1.0287 x 1.0574 and 1.0770882 x 1.10045.
     (
         "the back road along the river",
-        "segment traffic 350,350,700,700,700 length 1250 lane 9 shoulder 0 hazard-rating 7",
+        "segment traffic 350/350/700/700/700 length 1250 lane 9 shoulder 0 hazard-rating 7",
         "",
         ["1.2375775107..", "1.5598804381.."],
     ),

@@ -1,38 +1,15 @@
 //! The commands, run as a user runs them.
 
+mod running;
+
 use reference::rules::{EDITIONS, MOST_SITES};
+use running::{refusal, run, text, REFERENCE, SIGNAL};
 use std::fs;
 use std::io::Write;
 use std::path::PathBuf;
-use std::process::{Command, Output, Stdio};
+use std::process::{Command, Stdio};
 
-const REFERENCE: &str = env!("CARGO_BIN_EXE_reference");
-
-/// Document 01's accepted signal.
-const SIGNAL: [u8; 17] = [
-    1, 5, 3, 0xE8, 3, 0xE8, 0, 1, 3, 0, 7, 0x27, 0x10, 3, 0xE8, 0, 5,
-];
-
-fn run(arguments: &[&str], input: &[u8]) -> Output {
-    let mut child = Command::new(REFERENCE)
-        .args(arguments)
-        .stdin(Stdio::piped())
-        .stdout(Stdio::piped())
-        .stderr(Stdio::piped())
-        .spawn()
-        .expect("the reference runs");
-    let mut stdin = child.stdin.take().expect("a piped input");
-    // A command that reads no input may end before it is written.
-    let _ = stdin.write_all(input);
-    drop(stdin);
-    child.wait_with_output().expect("the reference ends")
-}
-
-fn text(output: &Output) -> String {
-    String::from_utf8(output.stdout.clone()).expect("printed text")
-}
-
-/// A shell script that stands for a program under test.
+/// A shell script in place of a program under test.
 fn script(name: &str, body: &str) -> PathBuf {
     use std::os::unix::fs::PermissionsExt;
     let path = PathBuf::from(env!("CARGO_TARGET_TMPDIR")).join(name);
@@ -109,9 +86,9 @@ const YEARLY_SIGNAL: [u8; 19] = [
 ];
 
 #[test]
-fn traffic_year_by_year_is_numbers_joined_by_commas() {
+fn traffic_year_by_year_is_numbers_joined_by_slashes() {
     let lines = run(&["dump", "-"], &YEARLY_SIGNAL);
-    assert!(text(&lines).contains("4sg traffic 5000,10000 minor-traffic 1000,2000 "));
+    assert!(text(&lines).contains("4sg traffic 5000/10000 minor-traffic 1000/2000 "));
     assert_eq!(run(&["make"], &lines.stdout).stdout, YEARLY_SIGNAL);
     let estimates = [&YEARLY_SIGNAL[..], &lines.stdout].map(|project| {
         let printed = run(&["estimate", "-", "3"], project);
@@ -120,18 +97,8 @@ fn traffic_year_by_year_is_numbers_joined_by_commas() {
     assert_eq!(estimates[0], estimates[1]);
 }
 
-/// A command that ends with a message and a status that is not 0, having
-/// printed nothing.
-fn refusal(arguments: &[&str], input: &[u8]) -> String {
-    let output = run(arguments, input);
-    assert_eq!(output.status.code(), Some(1), "{arguments:?} {output:?}");
-    assert_eq!(text(&output), "", "{arguments:?}");
-    let message = String::from_utf8(output.stderr).expect("a message");
-    assert!(!message.contains("panicked"), "{message}");
-    message.trim_end().to_string()
-}
-
-/// The commands that take a project file or lines.
+/// Commands that take a project file or lines, and print nothing of a file that
+/// they refuse.
 const OF_EITHER: [&[&str]; 2] = [&["dump", "-"], &["estimate", "-", "2"]];
 
 /// A stop crossing with limited sight, which edition 1 takes.
@@ -197,8 +164,8 @@ fn a_file_is_refused_as_the_reader_refuses_it() {
 
 /// Lines that are refused, after the four of a header, and what is told. The
 /// first site is sound, the second has the fault, and a note and an empty line
-/// stand before them.
-const REFUSED_SITES: [(&str, &str); 23] = [
+/// come before them.
+const REFUSED_SITES: [(&str, &str); 28] = [
     (
         "segment traffic 5 length 6 lane 7",
         "lane is 7; it must be from 8 to 14",
@@ -252,35 +219,58 @@ const REFUSED_SITES: [(&str, &str); 23] = [
         "skew is 3; a 4sg has no such field",
     ),
     (
-        "segment traffic 5,7,9 length 6",
+        "segment traffic 5/7/9 length 6",
         "traffic has 3 numbers for 2 years",
     ),
     (
-        "segment traffic 5,20001 length 6",
+        "segment traffic 5/20001 length 6",
         "traffic of year 2 is 20001; it must be from 1 to 20000",
     ),
     (
-        "segment traffic 5, length 6",
+        "segment traffic 5/ length 6",
         "traffic of year 2 is \"\"; it must be from 1 to 20000",
     ),
     (
-        "segment traffic 5,7 length 6,6",
-        "length is \"6,6\"; it must be from 1 to 20000",
+        "segment traffic 5/7 length 6/6",
+        "length is \"6/6\"; it must be from 1 to 20000",
     ),
     (
-        "4st traffic 5,7 minor-traffic 6",
+        "4st traffic 5/7 minor-traffic 6",
         "minor-traffic is 6; it must have a number for each year, as the other traffic has",
     ),
     (
-        "4st traffic 5 minor-traffic 6,8",
+        "4st traffic 5 minor-traffic 6/8",
         "traffic is 5; it must have a number for each year, as the other traffic has",
+    ),
+    // In a project of two years 3,200 might be 3200, or 3 and then 200.
+    (
+        "segment traffic 3,200 length 6",
+        "traffic is \"3,200\"; write a number without a comma, and join the numbers of years by /",
+    ),
+    (
+        "segment traffic 900/1,100 length 6",
+        "traffic is \"900/1,100\"; write a number without a comma, and join the numbers of years \
+         by /",
+    ),
+    (
+        "segment traffic 3, 200 length 6",
+        "traffic is \"3,\"; write a number without a comma, and join the numbers of years by /",
+    ),
+    (
+        "4st traffic 5 minor-traffic 6,8",
+        "minor-traffic is \"6,8\"; write a number without a comma, and join the numbers of years \
+         by /",
+    ),
+    (
+        "segment traffic 5 length 1,250",
+        "length is \"1,250\"; write a number without a comma",
     ),
     ("segment traffic 5 length 6 lane", "lane has no number"),
     (
         "segment traffic 5 length 6 width 9",
         "there is no field \"width\"",
     ),
-    ("segment traffic 5 traffic 5", "traffic stands twice"),
+    ("segment traffic 5 traffic 5", "traffic is given twice"),
     (
         "motorway traffic 5",
         "the kind is \"motorway\"; it must be one of segment, 3st, 4st, 4sg",
@@ -296,7 +286,7 @@ fn lines_of(sites: usize) -> String {
 
 /// Every command that takes lines tells the same of them.
 fn assert_refused(lines: &str, wanted: &str) {
-    let commands = OF_EITHER.into_iter().chain([&["make"][..]]);
+    let commands = OF_EITHER.into_iter().chain([&["make"][..], &["report"]]);
     for command in commands {
         let message = refusal(command, lines.as_bytes());
         assert_eq!(message, wanted, "{command:?}: {lines}");
@@ -352,6 +342,11 @@ fn header_lines_are_refused_with_line_name_value_and_range() {
             "crossing-calibration 900",
             "crossing-calibration 10000",
             "line 4: crossing-calibration is 10000; it must be from 1 to 9999",
+        ),
+        (
+            "segment-calibration 1000",
+            "segment-calibration 1,000",
+            "line 3: segment-calibration is \"1,000\"; write a number without a comma",
         ),
         (
             "years 2",
@@ -439,28 +434,6 @@ fn estimates_of_a_file_and_of_its_lines_agree() {
     assert!(number(3) < predicted && predicted < number(4));
     assert!(number(6) < expected && expected < number(7));
     assert!(number(4) - number(3) < 1e-3);
-}
-
-#[test]
-fn wrong_use_fails_and_says_how() {
-    let none: [&str; 4] = ["check", "/bin/true", "0", "1"];
-    for arguments in [
-        &["estimate"][..],
-        &["tally"],
-        &["stored", "roots"],
-        &["stored", "bases"],
-        &none,
-        &[],
-    ] {
-        let message = refusal(arguments, &SIGNAL);
-        assert!(message.starts_with("usage: "), "{message}");
-    }
-    for depth in ["0", "101", "4294967295", "-1", "deep"] {
-        let message = refusal(&["estimate", "-", depth], &SIGNAL);
-        assert_eq!(message, "a depth is from 1 to 100");
-    }
-    let message = refusal(&["dump", "/dev/null/none"], &[]);
-    assert!(message.starts_with("/dev/null/none: "), "{message}");
 }
 
 #[test]

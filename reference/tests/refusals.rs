@@ -787,16 +787,17 @@ fn lines_with_faults_are_not_taken() {
     }
     let yearly = |line: &str| made(line).expect("lines with traffic year by year");
     let record = encode_record(0, 0x8003, &[5, 7, 6]);
-    assert_eq!(yearly("segment traffic 5,7 length 6")[8..], record);
+    assert_eq!(yearly("segment traffic 5/7 length 6")[8..], record);
     let record = encode_record(3, 0x8003, &[5, 7, 6, 6]);
-    assert_eq!(yearly("4sg traffic 5,7 minor-traffic 6,6")[8..], record);
+    assert_eq!(yearly("4sg traffic 5/7 minor-traffic 6/6")[8..], record);
     for line in [
-        "segment traffic 5,7,9 length 6",
-        "segment traffic 5,0 length 6",
-        "segment traffic 5, length 6",
-        "segment traffic 5,7 length 6,6",
-        "4sg traffic 5,7 minor-traffic 6",
-        "4sg traffic 5 minor-traffic 6,6",
+        "segment traffic 5/7/9 length 6",
+        "segment traffic 5/0 length 6",
+        "segment traffic 5/ length 6",
+        "segment traffic 5/7 length 6/6",
+        "4sg traffic 5/7 minor-traffic 6",
+        "4sg traffic 5 minor-traffic 6/6",
+        "segment traffic 5,7 length 6",
     ] {
         assert!(made(line).is_err(), "{line}");
     }

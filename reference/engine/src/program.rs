@@ -85,8 +85,8 @@ const HEAD: &str = "years 10
     ";
 
 /// A site with the longest record: every field, and both traffics year by year.
-const FULL: &str = "4st traffic 19999,257,2001,4999,401,9999,14999,255,1999,17999 \
-    minor-traffic 19999,399,255,17999,257,2001,4999,14999,9999,401 observed 500 skew 59 \
+const FULL: &str = "4st traffic 19999/257/2001/4999/401/9999/14999/255/1999/17999 \
+    minor-traffic 19999/399/255/17999/257/2001/4999/14999/9999/401 observed 500 skew 59 \
     left-turn-lanes 1 right-turn-lanes 1";
 
 /// The field that edition 1 alone has beside them.
