@@ -82,15 +82,22 @@ fn link_library(library: &Library, folder: &Path) {
     }
 }
 
+/// The archive, from the root of the project.
+const ARCHIVE: &str = "target/staticlib/libunit.a";
+
+/// Links the archive. Where it is missing, the build ends with the command that
+/// makes it, before a linker tells of it in its own words.
 fn link_archive() {
     let root = Path::new(env!("CARGO_MANIFEST_DIR")).join("../..");
-    let archive = root.join("target/staticlib");
-    println!("cargo:rustc-link-search=native={}", archive.display());
+    let archive = root.join(ARCHIVE);
+    println!("cargo:rerun-if-changed={}", archive.display());
+    if !archive.is_file() {
+        println!("cargo::error={ARCHIVE} is missing; this command makes it: rt staticlib unit");
+        return;
+    }
+    let folder = archive.parent().expect("the archive's folder");
+    println!("cargo:rustc-link-search=native={}", folder.display());
     println!("cargo:rustc-link-lib=static=unit");
-    println!(
-        "cargo:rerun-if-changed={}",
-        archive.join("libunit.a").display()
-    );
 }
 
 fn main() {

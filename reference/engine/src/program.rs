@@ -6,6 +6,7 @@ use reference::project::{encode_header, Header};
 use reference::record::Site;
 use reference::rules::EDITION_ONE;
 use std::io::Write;
+use std::path::Path;
 use std::process::{Command, Stdio};
 
 /// The program `crash_report`, as `rt check` leaves it.
@@ -13,7 +14,25 @@ pub const CRASH_REPORT: &str =
     concat!(env!("CARGO_MANIFEST_DIR"), "/../../target/bin/crash_report");
 
 /// The program `rounds`.
-const ROUNDS: &str = concat!(env!("CARGO_MANIFEST_DIR"), "/../../target/bin/rounds");
+pub const ROUNDS: &str = concat!(env!("CARGO_MANIFEST_DIR"), "/../../target/bin/rounds");
+
+/// Whether one of these programs is there, or which command makes it.
+pub fn is_made(program: &str) -> Result<(), String> {
+    let path = Path::new(program);
+    let name = path.file_name().unwrap_or_default().display();
+    match path.is_file() {
+        true => Ok(()),
+        false => Err(format!(
+            "target/bin/{name} is missing; this command makes it: rt check {name}"
+        )),
+    }
+}
+
+/// A run of one of these programs.
+pub fn command(program: &str) -> Command {
+    is_made(program).unwrap_or_else(|missing| panic!("{missing}"));
+    Command::new(program)
+}
 
 /// What `rounds` makes rounds of, in the order of the counts that its input
 /// starts with.
@@ -65,11 +84,11 @@ pub fn rounds_of(asked: &[(Job, u16)], edition: u8, sites: &[Site]) -> Vec<u8> {
 
 /// What `rounds` prints for an input.
 pub fn rounds(input: &[u8]) -> String {
-    let mut child = Command::new(ROUNDS)
+    let mut child = command(ROUNDS)
         .stdin(Stdio::piped())
         .stdout(Stdio::piped())
         .spawn()
-        .expect("the program of rounds runs; `rt check` makes it");
+        .expect("the program of rounds runs");
     let mut stdin = child.stdin.take().expect("a piped input");
     stdin.write_all(input).expect("rounds are asked for");
     drop(stdin);

@@ -1,7 +1,7 @@
 //! The program `crash_report`, run as a user runs it: known figures, the demo
 //! corridor, the largest files, and files that the reference makes.
 
-use engine::program::{full_project, longest_report, CRASH_REPORT};
+use engine::program::{command, full_project, is_made, longest_report, CRASH_REPORT};
 use reference::generate::{order, repeating_project, Random};
 use reference::lines;
 use reference::program::{check, judge, run, DEPTHS};
@@ -30,7 +30,8 @@ const SEED: u64 = 1;
 const REORDERED: usize = 2_000;
 
 fn printed(input: &[u8]) -> String {
-    run(CRASH_REPORT, input).expect("the program runs; `rt check` makes it")
+    is_made(CRASH_REPORT).unwrap_or_else(|missing| panic!("{missing}"));
+    run(CRASH_REPORT, input).expect("the program runs")
 }
 
 fn root() -> PathBuf {
@@ -50,7 +51,7 @@ fn stored_in(name: &str, bytes: &[u8]) -> PathBuf {
 
 /// Runs the program on given files, apart from any pipe.
 fn run_on(input: File, output: Stdio) -> Output {
-    Command::new(CRASH_REPORT)
+    command(CRASH_REPORT)
         .stdin(input)
         .stdout(output)
         .stderr(Stdio::piped())
@@ -156,7 +157,7 @@ fn one_site_too_many_at_its_longest() {
 fn input_in_pieces_is_one_file() {
     let file = full_project(EDITION_ONE, MOST_SITES);
     let whole = printed(&file);
-    let mut child = Command::new(CRASH_REPORT)
+    let mut child = command(CRASH_REPORT)
         .stdin(Stdio::piped())
         .stdout(Stdio::piped())
         .spawn()
@@ -216,7 +217,7 @@ fn slow_reader_gets_the_whole_report() {
     let whole = printed(&file);
     assert!(whole.len() > PIPE);
     let path = stored_in("longest.project", &file);
-    let mut child = Command::new(CRASH_REPORT)
+    let mut child = command(CRASH_REPORT)
         .stdin(File::open(&path).expect("the file"))
         .stdout(Stdio::piped())
         .spawn()

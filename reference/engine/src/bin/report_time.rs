@@ -1,10 +1,10 @@
 //! How long the program `crash_report` takes for the longest project file of each
 //! edition, from its start to its end, beside its time for an empty project.
 
-use engine::program::{full_project, CRASH_REPORT};
+use engine::program::{command, full_project, is_made, CRASH_REPORT};
 use reference::rules::{EDITIONS, EDITION_ONE, MOST_SITES};
 use std::fs::{self, File};
-use std::process::{Command, Stdio};
+use std::process::{ExitCode, Stdio};
 use std::time::{Duration, Instant};
 
 const RUNS: usize = 100;
@@ -12,17 +12,21 @@ const RUNS: usize = 100;
 fn run(path: &str) -> Duration {
     let input = File::open(path).expect("the project");
     let start = Instant::now();
-    let status = Command::new(CRASH_REPORT)
+    let status = command(CRASH_REPORT)
         .stdin(input)
         .stdout(Stdio::null())
         .status()
-        .expect("crash_report runs; `rt check` makes it");
+        .expect("crash_report runs");
     let time = start.elapsed();
     assert!(status.success());
     time
 }
 
-fn main() {
+fn main() -> ExitCode {
+    if let Err(missing) = is_made(CRASH_REPORT) {
+        eprintln!("{missing}");
+        return ExitCode::FAILURE;
+    }
     let file = std::env::temp_dir().join(format!("report_time.{}", std::process::id()));
     let path = file.to_str().expect("a plain path");
     println!("edition   sites   bytes   best ms   median ms   of {RUNS} runs");
@@ -38,4 +42,5 @@ fn main() {
         println!("{edition:7} {sites:7} {length:7} {best:9.2} {median:11.2}");
     }
     fs::remove_file(path).expect("the project is removed");
+    ExitCode::SUCCESS
 }

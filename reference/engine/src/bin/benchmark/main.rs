@@ -7,7 +7,7 @@
 
 mod intervals;
 
-use engine::program::{rounds, rounds_header, rounds_of, Job};
+use engine::program::{is_made, rounds, rounds_header, rounds_of, Job, ROUNDS};
 use engine::sites::{read_into, run_of, READ_NUMBERS};
 use engine::{doubles, lines, projects};
 use intervals::{numbers_of_sites, Library, LIBRARIES};
@@ -17,6 +17,7 @@ use reference::record::Site;
 use reference::rules::{EDITIONS, EDITION_ONE, KIND_NAMES, MOST_SITES, MOST_YEARS, SEGMENT};
 use std::hint::black_box;
 use std::iter;
+use std::process::ExitCode;
 use std::time::{Duration, Instant};
 
 /// Each figure is the least of so many measurements, of a program's run or of
@@ -158,7 +159,7 @@ fn double_time(kind: &Kind) -> f64 {
 }
 
 /// The rounds over the sites by which two runs differ.
-const ROUNDS: u16 = 300;
+const SITE_ROUNDS: u16 = 300;
 
 /// One making round's sum by the exported call, which the program must print.
 fn sum_of_lines(header: &Header, sites: &[Site]) -> u64 {
@@ -183,13 +184,13 @@ fn assert_same_figures(header: &Header, sites: &[Site]) {
 
 /// Nanoseconds for a site: reading its record, and making its line.
 fn line_times(edition: u8, sites: &[Site]) -> (f64, f64) {
-    let rounds = [[1, 1], [1, 1 + ROUNDS], [1 + ROUNDS, 1]];
+    let rounds = [[1, 1], [1, 1 + SITE_ROUNDS], [1 + SITE_ROUNDS, 1]];
     let inputs = rounds.map(|[lines, records]| {
         let asked = [(Job::Lines, lines), (Job::Records, records)];
         rounds_of(&asked, edition, sites)
     });
     let [none, read, made] = times_in_turn(&inputs);
-    let count = sites.len() as f64 * f64::from(ROUNDS);
+    let count = sites.len() as f64 * f64::from(SITE_ROUNDS);
     let reading = nanoseconds(read.saturating_sub(none), count);
     let both = nanoseconds(made.saturating_sub(none), count);
     (reading, both - reading)
@@ -483,7 +484,11 @@ fn print_projects(edition: u8, sites: &[Site]) {
     }
 }
 
-fn main() {
+fn main() -> ExitCode {
+    if let Err(missing) = is_made(ROUNDS) {
+        eprintln!("{missing}");
+        return ExitCode::FAILURE;
+    }
     print_brackets();
     for edition in EDITIONS {
         let mut random = Random::new(41);
@@ -495,4 +500,5 @@ fn main() {
         print_years(edition, &mut random);
         println!();
     }
+    ExitCode::SUCCESS
 }
