@@ -1,18 +1,17 @@
 //! The exact factors of a site, each a fraction.
 
-use crate::model::{
-    CrossingModel, Grade, SegmentModel, WidthTable, HEAVY_TRAFFIC, LIGHT_TRAFFIC, WIDTH_UNIT,
-};
+use crate::model::{CrossingModel, Grade, SegmentModel, WidthTable, WIDTH_UNIT};
 use crate::rational::Rational;
 use crate::record::Site;
 use crate::rules::Field;
 
 /// A width table's value at a column and a traffic.
 fn width_value<const N: usize>(table: &WidthTable<N>, column: usize, traffic: u64) -> Rational {
-    let value = if traffic < LIGHT_TRAFFIC {
+    let value = if traffic < table.light_below {
         table.light[column]
-    } else if traffic <= HEAVY_TRAFFIC {
-        table.light[column] + table.slope[column] * (traffic - LIGHT_TRAFFIC) as i64
+    } else if traffic <= table.heavy_above {
+        let above = traffic as i64 - table.slope_from as i64;
+        table.light[column] + table.slope[column] * above
     } else {
         table.heavy[column]
     };
@@ -20,26 +19,36 @@ fn width_value<const N: usize>(table: &WidthTable<N>, column: usize, traffic: u6
 }
 
 /// 1 + share (value - 1), written so that no part is negative.
-fn of_related(model: &SegmentModel, value: &Rational) -> Rational {
-    let share = model.related_share.exact();
+fn of_related<const N: usize>(table: &WidthTable<N>, value: &Rational) -> Rational {
+    let share = table.share.exact();
     &(&Rational::one() - &share) + &(&share * value)
 }
 
+/// The columns are 9 or less, 10, 11, 12 or more feet.
 pub fn lane(model: &SegmentModel, width: u64, traffic: u64) -> Rational {
-    let column = width.clamp(9, 12) - 9;
-    of_related(model, &width_value(&model.lane, column as usize, traffic))
+    let narrower = model.lane_most.iter().filter(|most| width > **most);
+    let value = width_value(&model.lane, narrower.count(), traffic);
+    of_related(&model.lane, &value)
+}
+
+/// The columns on both sides of a shoulder's width: twice its own, where it has
+/// one.
+fn shoulder_columns(model: &SegmentModel, width: u64) -> [usize; 2] {
+    let feet = &model.shoulder_feet;
+    let below = feet.iter().rposition(|feet| *feet <= width);
+    let above = feet.iter().position(|feet| *feet >= width);
+    [below.unwrap_or(0), above.unwrap_or(feet.len() - 1)]
 }
 
 /// The columns are 0, 2, 4, 6 and 8 or more feet; a width of 1, 3, 5 or 7
 /// takes the mean of its two neighbours, for the width value and for the type
 /// value, before the two are multiplied.
 pub fn shoulder(model: &SegmentModel, width: u64, shoulder_type: u64, traffic: u64) -> Rational {
-    let narrow = width.min(8);
-    let columns = [narrow / 2, narrow.div_ceil(2)].map(|column| column as usize);
+    let columns = shoulder_columns(model, width);
     let by_width = mean(columns.map(|column| width_value(&model.shoulder, column, traffic)));
     let row = &model.shoulder_type[shoulder_type as usize];
     let by_type = mean(columns.map(|column| Rational::of(row[column], 100)));
-    of_related(model, &(&by_width * &by_type))
+    of_related(&model.shoulder, &(&by_width * &by_type))
 }
 
 fn mean([one, other]: [Rational; 2]) -> Rational {
@@ -51,25 +60,27 @@ fn mean([one, other]: [Rational; 2]) -> Rational {
 pub fn curve(model: &SegmentModel, length: u64, radius: u64, spiral_ends: u64) -> Rational {
     let base = &model.curve_length.exact() * &Rational::of(length, 1_000);
     let sharp = &model.curve_radius.exact() * &Rational::of(1, radius);
-    let spiral = &model.curve_spiral.exact() * &Rational::of(spiral_ends, 2);
-    match sharp.checked_sub(&spiral) {
-        Some(added) => &(&base + &added) * &base.reciprocal(),
-        None => Rational::one(),
+    let spiral = &model.curve_spiral.exact() * &Rational::of(spiral_ends, model.curve_ends);
+    let least = Rational::whole(model.curve_least);
+    match (&base + &sharp).checked_sub(&spiral) {
+        Some(above) => least.max(&above * &base.reciprocal()),
+        None => least,
     }
 }
 
 /// The deficiency in thousandths.
 pub fn superelevation(model: &SegmentModel, deficiency: u64) -> Rational {
     let steps = &model.superelevation;
-    if deficiency < steps.start {
+    if deficiency < steps.under {
         return Rational::one();
     }
-    let (base, slope, from) = if deficiency <= steps.turn {
-        (Rational::one(), steps.first_slope, steps.start)
+    let (base, slope, from) = if deficiency <= steps.to {
+        (Rational::one(), steps.first_slope, steps.first_from)
     } else {
-        (steps.at_turn.exact(), steps.second_slope, steps.turn)
+        (steps.at_turn.exact(), steps.second_slope, steps.second_from)
     };
-    &base + &Rational::of(slope * (deficiency - from), 1_000)
+    let times = |thousandths: u64| Rational::of(slope * thousandths, 1_000);
+    &(&base + &times(deficiency)) - &times(from)
 }
 
 pub fn grade(model: &SegmentModel, percent: u64) -> Rational {

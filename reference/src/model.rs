@@ -16,21 +16,26 @@ impl Fraction {
     }
 }
 
-/// Values by width in hundred-millionths: constant below the light traffic,
-/// rising (or falling) with traffic up to the heavy traffic, constant above.
+/// Values by width in hundred-millionths: constant for light traffic, rising (or
+/// falling) with traffic, constant for heavy traffic.
 #[derive(Clone, Copy, Debug)]
 pub struct WidthTable<const COLUMNS: usize> {
+    /// Traffic below this has the light values.
+    pub light_below: u64,
+    /// A slope counts for each vehicle above this.
+    pub slope_from: u64,
+    /// Traffic above this has the heavy values.
+    pub heavy_above: u64,
     pub light: [i64; COLUMNS],
     pub slope: [i64; COLUMNS],
     pub heavy: [i64; COLUMNS],
+    /// The share of crashes that the width bears on: the factor is
+    /// 1 + share (value - 1).
+    pub share: Fraction,
 }
 
 /// The unit of the width tables.
 pub const WIDTH_UNIT: u64 = 100_000_000;
-/// Traffic below this is light; from here the slopes count.
-pub const LIGHT_TRAFFIC: u64 = 400;
-/// Traffic above this is heavy.
-pub const HEAVY_TRAFFIC: u64 = 2_000;
 
 /// Turns hundredths into the width tables' unit.
 const fn hundredths<const N: usize>(values: [i64; N]) -> [i64; N] {
@@ -43,15 +48,17 @@ const fn hundredths<const N: usize>(values: [i64; N]) -> [i64; N] {
     scaled
 }
 
-/// The factor of a superelevation deficiency: 1 below `start`, then rising by
-/// `first_slope` from 1, above `turn` by `second_slope` from `at_turn`. Start
-/// and turn are in thousandths.
+/// The factor of a superelevation deficiency in thousandths: 1 under `under`, then
+/// 1 and the first slope for each above `first_from`, above `to` `at_turn` and the
+/// second slope for each above `second_from`.
 #[derive(Clone, Copy, Debug)]
 pub struct Superelevation {
-    pub start: u64,
-    pub turn: u64,
+    pub under: u64,
+    pub first_from: u64,
     pub first_slope: u64,
+    pub to: u64,
     pub at_turn: Fraction,
+    pub second_from: u64,
     pub second_slope: u64,
 }
 
@@ -90,9 +97,11 @@ pub struct SegmentModel {
     pub base_exponent: Fraction,
     /// Million vehicle-miles for a vehicle a day over a mile for a year.
     pub exposure: Fraction,
-    /// Share of crashes that lane and shoulder bear on.
-    pub related_share: Fraction,
+    /// The most feet of each lane column but the last.
+    pub lane_most: [u64; 3],
     pub lane: WidthTable<4>,
+    /// The feet of the shoulder columns; the last has more feet too.
+    pub shoulder_feet: [u64; 5],
     pub shoulder: WidthTable<5>,
     /// Hundredths by shoulder type and the same five widths.
     pub shoulder_type: [[u64; 5]; 4],
@@ -100,6 +109,10 @@ pub struct SegmentModel {
     pub curve_length: Fraction,
     pub curve_radius: Fraction,
     pub curve_spiral: Fraction,
+    /// The formula's S is the spiral ends over this.
+    pub curve_ends: u64,
+    /// The least factor of a curve.
+    pub curve_least: u64,
     pub superelevation: Superelevation,
     pub grade: Grade,
     /// 0.0047, 0.0024, 1.199 and 0.35 of the two-way lane's formula.
@@ -164,20 +177,33 @@ pub const SECOND_EDITION: Model = Model {
     four_leg_signal: MANUAL_FOUR_LEG_SIGNAL,
 };
 
+const LANE: WidthTable<4> = WidthTable {
+    light_below: 400,
+    slope_from: 400,
+    heavy_above: 2_000,
+    light: hundredths([105, 102, 101, 100]),
+    slope: [28_100, 17_500, 2_500, 0],
+    heavy: hundredths([150, 130, 105, 100]),
+    share: Fraction(35, 100),
+};
+
+const SHOULDER: WidthTable<5> = WidthTable {
+    light_below: 400,
+    slope_from: 400,
+    heavy_above: 2_000,
+    light: hundredths([110, 107, 102, 100, 98]),
+    slope: [25_000, 14_300, 8_125, 0, -6_875],
+    heavy: hundredths([150, 130, 115, 100, 87]),
+    share: Fraction(35, 100),
+};
+
 const SEGMENT: SegmentModel = SegmentModel {
     base_exponent: Fraction(4_865, 10_000),
     exposure: Fraction(365, 1_000_000),
-    related_share: Fraction(35, 100),
-    lane: WidthTable {
-        light: hundredths([105, 102, 101, 100]),
-        slope: [28_100, 17_500, 2_500, 0],
-        heavy: hundredths([150, 130, 105, 100]),
-    },
-    shoulder: WidthTable {
-        light: hundredths([110, 107, 102, 100, 98]),
-        slope: [25_000, 14_300, 8_125, 0, -6_875],
-        heavy: hundredths([150, 130, 115, 100, 87]),
-    },
+    lane_most: [9, 10, 11],
+    lane: LANE,
+    shoulder_feet: [0, 2, 4, 6, 8],
+    shoulder: SHOULDER,
     shoulder_type: [
         [100, 100, 100, 100, 100],
         [100, 101, 101, 102, 102],
@@ -187,11 +213,15 @@ const SEGMENT: SegmentModel = SegmentModel {
     curve_length: Fraction(155, 100),
     curve_radius: Fraction(802, 10),
     curve_spiral: Fraction(12, 1_000),
+    curve_ends: 2,
+    curve_least: 1,
     superelevation: Superelevation {
-        start: 10,
-        turn: 20,
+        under: 10,
+        first_from: 10,
         first_slope: 6,
+        to: 20,
         at_turn: Fraction(106, 100),
+        second_from: 20,
         second_slope: 3,
     },
     grade: Grade::Power(Fraction(1_016, 1_000)),
@@ -213,7 +243,14 @@ const SEGMENT: SegmentModel = SegmentModel {
 
 const MANUAL_SEGMENT: SegmentModel = SegmentModel {
     base_exponent: Fraction(312, 1_000),
-    related_share: Fraction(574, 1_000),
+    lane: WidthTable {
+        share: Fraction(574, 1_000),
+        ..LANE
+    },
+    shoulder: WidthTable {
+        share: Fraction(574, 1_000),
+        ..SHOULDER
+    },
     grade: Grade::Steps {
         most: [3, 6],
         factors: [100, 110, 116],

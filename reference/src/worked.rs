@@ -249,7 +249,7 @@ fn crossing(edition: u8, kind: u8) -> Site {
 
 /// "Lane": r by traffic, and 1 + 0.35(r - 1); "0.574 in place of 0.35": 1 +
 /// 0.574(r - 1). A lane of 12 feet has 1.
-const LANES: [(u16, &[EachRow]); 5] = [
+const LANES: [(u16, &[EachRow]); 6] = [
     // Below 400: 1.05, 1.02, 1.01, 1.00; 8 feet is "9 or less".
     (
         399,
@@ -271,7 +271,16 @@ const LANES: [(u16, &[EachRow]); 5] = [
             (11, ["1.0035", "1.00574"]),
         ],
     ),
-    // 600 times 0.000281, 0.000175 and 0.000025 added: 1.2186, 1.125, 1.025.
+    // Once 0.000281, 0.000175 and 0.000025 added: 1.050281, 1.020175, 1.010025.
+    (
+        401,
+        &[
+            (9, ["1.01759835", "1.028861294"]),
+            (10, ["1.00706125", "1.01158045"]),
+            (11, ["1.00350875", "1.00575435"]),
+        ],
+    ),
+    // 600 times: 1.2186, 1.125, 1.025.
     (
         1_000,
         &[
@@ -321,12 +330,22 @@ const LIGHT_SHOULDERS: [EachRow; 9] = [
 /// 1), in edition 2 1 + 0.574(value - 1). A paved shoulder of 6 feet has 1.
 /// Document 02, request 2: "a width of 1, 3, 5 or 7 feet takes the mean of its
 /// two neighbours"; 8 feet is "8 or more".
-const SHOULDERS: [(u16, &[EachRow]); 5] = [
+const SHOULDERS: [(u16, &[EachRow]); 6] = [
     (399, &LIGHT_SHOULDERS),
     // Nothing is added yet.
     (400, &LIGHT_SHOULDERS),
-    // 600 times 0.00025, 0.000143, 0.00008125 and -0.00006875 added: 1.25,
-    // 1.1558, 1.06875, 0.93875; between them and 1.00 of 6 feet: 1.2029,
+    // Once 0.00025, 0.000143, 0.00008125 and -0.00006875 added: 1.10025, 1.070143,
+    // 1.02008125, 0.97993125.
+    (
+        401,
+        &[
+            (0, ["1.0350875", "1.0575435"]),
+            (2, ["1.02455005", "1.040262082"]),
+            (4, ["1.0070284375", "1.0115266375"]),
+            (8, ["0.9929759375", "0.9884805375"]),
+        ],
+    ),
+    // 600 times: 1.25, 1.1558, 1.06875, 0.93875; between them and 1.00 of 6 feet: 1.2029,
     // 1.112275, 1.034375, 0.969375.
     (
         1_000,
@@ -558,6 +577,7 @@ fn segment_factors(edition: u8) -> Vec<Figure> {
         (9, "1"),
         (10, "1"),
         (11, "1.006"),
+        (19, "1.054"),
         (20, "1.06"),
         (21, "1.063"),
         (100, "1.3"),

@@ -10,7 +10,8 @@ use reference::rational::Rational;
 use reference::record::Site;
 use reference::rules::{Field, EDITIONS, EDITION_ONE, EDITION_TWO};
 use reference::worked::{self, faults, figures};
-use std::collections::HashSet;
+use std::collections::{BTreeSet, HashSet};
+use std::iter::repeat_n;
 
 const DEPTH: u32 = 9;
 
@@ -79,7 +80,7 @@ fn notice_the_other_editions_model() {
 fn have_names_of_their_own() {
     let figures = figures();
     let names: HashSet<_> = figures.iter().map(|figure| &figure.name).collect();
-    assert_eq!((figures.len(), names.len()), (471, 471));
+    assert_eq!((figures.len(), names.len()), (487, 487));
 }
 
 /// A site's estimates where its shoulder is so many feet wide.
@@ -231,6 +232,104 @@ fn noticed(start: impl Into<String>, change: impl Fn(&mut Model) + 'static) -> N
     (start.into(), Box::new(change))
 }
 
+/// The limits of traffic of both width tables. A `light_below` of 401 would do as
+/// well as 400, since nothing is added at 400.
+fn changes_of_traffic_limits() -> Vec<Noticed> {
+    vec![
+        noticed("lane at 399, feet 9", |m| m.segment.lane.light_below -= 1),
+        noticed("lane at 401, feet 9", |m| m.segment.lane.light_below += 2),
+        noticed("lane at 400, feet 9", |m| m.segment.lane.slope_from -= 1),
+        noticed("lane at 1000, feet 9", |m| m.segment.lane.slope_from += 1),
+        noticed("lane at 2000, feet 9", |m| m.segment.lane.heavy_above -= 1),
+        noticed("lane at 2001, feet 9", |m| m.segment.lane.heavy_above += 1),
+        noticed("shoulder at 399, feet 2", |m| {
+            m.segment.shoulder.light_below -= 1
+        }),
+        noticed("shoulder at 401, feet 2", |m| {
+            m.segment.shoulder.light_below += 2
+        }),
+        noticed("shoulder at 400, feet 2", |m| {
+            m.segment.shoulder.slope_from -= 1
+        }),
+        noticed("shoulder at 1000, feet 2", |m| {
+            m.segment.shoulder.slope_from += 1
+        }),
+        noticed("shoulder at 2000, feet 2", |m| {
+            m.segment.shoulder.heavy_above -= 1
+        }),
+        noticed("shoulder at 2001, feet 2", |m| {
+            m.segment.shoulder.heavy_above += 1
+        }),
+    ]
+}
+
+/// The classes of width, by a foot. A lane of 12 feet and a shoulder of 6 are
+/// what the others are over.
+fn changes_of_width_classes() -> Vec<Noticed> {
+    let lane = |feet: u32| format!("lane at 399, feet {feet}");
+    let shoulder = |feet: u32| format!("shoulder at 399, feet {feet}");
+    let base = "segment base at 399";
+    vec![
+        noticed(lane(9), |m| m.segment.lane_most[0] -= 1),
+        noticed(lane(10), |m| m.segment.lane_most[0] += 1),
+        noticed(lane(10), |m| m.segment.lane_most[1] -= 1),
+        noticed(lane(11), |m| m.segment.lane_most[1] += 1),
+        noticed(lane(11), |m| m.segment.lane_most[2] -= 1),
+        noticed(lane(13), |m| m.segment.lane_most[2] += 1),
+        noticed(base, |m| m.segment.lane_most[2] += 1),
+        noticed(shoulder(1), |m| m.segment.shoulder_feet[0] += 1),
+        noticed(shoulder(2), |m| m.segment.shoulder_feet[1] -= 1),
+        noticed(shoulder(2), |m| m.segment.shoulder_feet[1] += 1),
+        noticed(shoulder(4), |m| m.segment.shoulder_feet[2] -= 1),
+        noticed(shoulder(4), |m| m.segment.shoulder_feet[2] += 1),
+        noticed(base, |m| m.segment.shoulder_feet[3] -= 1),
+        noticed(base, |m| m.segment.shoulder_feet[3] += 1),
+        noticed(shoulder(7), |m| m.segment.shoulder_feet[4] -= 1),
+        noticed(shoulder(8), |m| m.segment.shoulder_feet[4] += 1),
+    ]
+}
+
+/// A curve's numbers. An `under` of 11 would do as well as 10, since nothing is
+/// added at 10, and a `to` of 19 as well as 20, since both forms have 1.06 at 20.
+fn changes_of_curves() -> Vec<Noticed> {
+    vec![
+        noticed("curve, shorter", |m| m.segment.curve_length.0 += 1),
+        noticed("curve, no spiral", |m| m.segment.curve_radius.0 += 1),
+        noticed("curve, one spiral", |m| m.segment.curve_spiral.0 += 1),
+        noticed("curve, one spiral", |m| m.segment.curve_ends -= 1),
+        noticed("curve, one spiral", |m| m.segment.curve_ends += 1),
+        noticed("curve, flat with one spiral", |m| {
+            m.segment.curve_least -= 1
+        }),
+        noticed("curve, one spiral, hardly bent", |m| {
+            m.segment.curve_least += 1
+        }),
+        noticed("deficiency 9", |m| m.segment.superelevation.under -= 1),
+        noticed("deficiency 11", |m| m.segment.superelevation.under += 2),
+        noticed("deficiency 11", |m| {
+            m.segment.superelevation.first_from -= 1
+        }),
+        noticed("deficiency 11", |m| {
+            m.segment.superelevation.first_from += 1
+        }),
+        noticed("deficiency 20", |m| {
+            m.segment.superelevation.first_slope += 1
+        }),
+        noticed("deficiency 19", |m| m.segment.superelevation.to -= 2),
+        noticed("deficiency 21", |m| m.segment.superelevation.to += 1),
+        noticed("deficiency 21", |m| m.segment.superelevation.at_turn.0 += 1),
+        noticed("deficiency 21", |m| {
+            m.segment.superelevation.second_from -= 1
+        }),
+        noticed("deficiency 21", |m| {
+            m.segment.superelevation.second_from += 1
+        }),
+        noticed("deficiency 100", |m| {
+            m.segment.superelevation.second_slope += 1
+        }),
+    ]
+}
+
 /// Every number of the width and type tables, by a unit of its last digit in
 /// document 01.
 fn changes_of_widths() -> Vec<Noticed> {
@@ -286,23 +385,14 @@ fn changes_of_widths() -> Vec<Noticed> {
     changes
 }
 
-/// Every other number of a segment.
+/// Every other number of a segment that both editions have.
 fn changes_of_segments() -> Vec<Noticed> {
     vec![
         noticed("segment base", |m| m.segment.base_exponent.0 += 1),
         noticed("segment base", |m| m.segment.exposure.0 += 1),
-        noticed("lane at 2001, feet 9", |m| m.segment.related_share.0 += 1),
-        noticed("curve, shorter", |m| m.segment.curve_length.0 += 1),
-        noticed("curve, no spiral", |m| m.segment.curve_radius.0 += 1),
-        noticed("curve, one spiral", |m| m.segment.curve_spiral.0 += 1),
-        noticed("deficiency 11", |m| m.segment.superelevation.start += 1),
-        noticed("deficiency 21", |m| m.segment.superelevation.turn += 1),
-        noticed("deficiency 20", |m| {
-            m.segment.superelevation.first_slope += 1
-        }),
-        noticed("deficiency 21", |m| m.segment.superelevation.at_turn.0 += 1),
-        noticed("deficiency 100", |m| {
-            m.segment.superelevation.second_slope += 1
+        noticed("lane at 2001, feet 9", |m| m.segment.lane.share.0 += 1),
+        noticed("shoulder at 2001, feet 0", |m| {
+            m.segment.shoulder.share.0 += 1
         }),
         noticed("two-way lane", |m| m.segment.two_way_linear.0 += 1),
         noticed("two-way lane", |m| m.segment.two_way_square.0 += 1),
@@ -319,10 +409,12 @@ fn changes_of_segments() -> Vec<Noticed> {
         noticed("passing 2", |m| m.segment.passing[2] += 1),
         noticed("hazard rating 2", |m| m.segment.hazard_slope.0 += 1),
         noticed("hazard rating 4", |m| m.segment.hazard_slope.0 += 1),
+        noticed("segment base", |m| m.segment.hazard_base -= 1),
         noticed("segment base", |m| m.segment.hazard_base += 1),
         noticed("driveways at 1,", |m| m.segment.driveway_offset.0 += 1),
         noticed("driveways at 1,", |m| m.segment.driveway_slope.0 += 1),
         noticed("driveways at 400,", |m| m.segment.driveway_log_slope.0 -= 1),
+        noticed("segment base", |m| m.segment.driveway_base -= 1),
         noticed("segment base", |m| m.segment.driveway_base += 1),
         noticed("segment k at observed 0", larger_overdispersion),
         noticed("segment k at observed 500", larger_overdispersion),
@@ -336,9 +428,12 @@ fn larger_overdispersion(model: &mut Model) {
     }
 }
 
-/// The numbers of edition 1's grade, and its driveways without a fewest.
+/// The numbers of edition 1's grade and of sight, which it alone has, and its
+/// driveways without a fewest.
 fn changes_of_edition_one() -> Vec<Noticed> {
     vec![
+        noticed("3st sight 1", |m| m.three_leg_stop.sight_step.0 += 1),
+        noticed("4st sight 1", |m| m.four_leg_stop.sight_step.0 += 1),
         noticed("grade 1", |m| match &mut m.segment.grade {
             Grade::Power(base) => base.0 += 1,
             Grade::Steps { .. } => panic!("edition 1 has a power"),
@@ -384,6 +479,7 @@ fn changes_of_crossing(name: &str, of: fn(&mut Model) -> &mut CrossingModel) -> 
         noticed(named("base"), move |m| of(m).base_exponent.0 += 1),
         noticed(named("power of major"), move |m| of(m).major_power += 1),
         noticed(named("power of minor"), move |m| of(m).minor_power += 1),
+        noticed(named("power of major"), move |m| of(m).power_unit += 1),
         noticed(named("left-turn lanes 1"), move |m| of(m).left_turn[1] += 1),
         noticed(named("right-turn lanes 1"), move |m| {
             of(m).right_turn[1] += 1
@@ -413,33 +509,78 @@ fn changes_of_crossing(name: &str, of: fn(&mut Model) -> &mut CrossingModel) -> 
     changes
 }
 
-/// Limited sight, which edition 1 alone has.
-fn changes_of_sight() -> Vec<Noticed> {
-    vec![
-        noticed("3st sight 1", |m| m.three_leg_stop.sight_step.0 += 1),
-        noticed("4st sight 1", |m| m.four_leg_stop.sight_step.0 += 1),
-    ]
+/// Every change of an edition's model.
+fn changes(edition: u8) -> Vec<Noticed> {
+    let of_edition = match edition {
+        EDITION_ONE => changes_of_edition_one(),
+        _ => changes_of_edition_two(),
+    };
+    let groups = [
+        changes_of_traffic_limits(),
+        changes_of_width_classes(),
+        changes_of_widths(),
+        changes_of_curves(),
+        changes_of_segments(),
+        changes_of_crossing("3st", |m| &mut m.three_leg_stop),
+        changes_of_crossing("4st", |m| &mut m.four_leg_stop),
+        changes_of_crossing("4sg", |m| &mut m.four_leg_signal),
+        of_edition,
+    ];
+    groups.into_iter().flatten().collect()
 }
 
 #[test]
 fn notice_every_number_of_each_model() {
     for edition in EDITIONS {
-        let mut changes = changes_of_widths();
-        changes.extend(changes_of_segments());
-        changes.extend(changes_of_crossing("3st", |m| &mut m.three_leg_stop));
-        changes.extend(changes_of_crossing("4st", |m| &mut m.four_leg_stop));
-        changes.extend(changes_of_crossing("4sg", |m| &mut m.four_leg_signal));
-        if edition == EDITION_ONE {
-            changes.extend(changes_of_sight());
-            changes.extend(changes_of_edition_one());
-        } else {
-            changes.extend(changes_of_edition_two());
-        }
-        for (start, change) in changes {
+        for (start, change) in changes(edition) {
             let mut model = *Model::of_edition(edition);
             change(&mut model);
             let start = worked::named(edition, &start);
             assert!(!faults_of(&model, &start).is_empty(), "{start}");
         }
+    }
+}
+
+/// Every number of a model's record with its field's name. Of a fraction it is the
+/// number above.
+fn numbers(model: &Model) -> Vec<(String, i64)> {
+    let text = format!("{model:#?}");
+    let lines: Vec<&str> = text.lines().map(str::trim).collect();
+    let (mut numbers, mut field) = (Vec::new(), "");
+    for (at, line) in lines.iter().enumerate() {
+        let (name, value) = line.split_once(": ").unwrap_or((field, line));
+        field = name;
+        let is_below = at >= 2 && lines[at - 2].ends_with("Fraction(");
+        if let (Ok(number), false) = (value.trim_end_matches(',').parse(), is_below) {
+            numbers.push((field.to_string(), number));
+        }
+    }
+    numbers
+}
+
+/// What the other test rests on: each change is of one number, and together they
+/// are of every number but those that no site reads, a second turn lane of a
+/// 3ST, sight of a 4SG, and in edition 2 sight of each crossing.
+#[test]
+fn every_number_of_each_model_is_changed() {
+    for edition in EDITIONS {
+        let own = Model::of_edition(edition);
+        let before = numbers(own);
+        let mut left: BTreeSet<usize> = (0..before.len()).collect();
+        for (start, change) in changes(edition) {
+            let mut model = *own;
+            change(&mut model);
+            let after = numbers(&model);
+            let places = (0..before.len()).filter(|at| before[*at] != after[*at]);
+            let [place] = places.collect::<Vec<_>>()[..] else {
+                panic!("{start} is not a change of one number");
+            };
+            left.remove(&place);
+        }
+        let left: Vec<&str> = left.iter().map(|at| before[*at].0.as_str()).collect();
+        let sights = if edition == EDITION_ONE { 1 } else { 3 };
+        let unread = ["left_turn", "right_turn"].into_iter();
+        let unread: Vec<&str> = unread.chain(repeat_n("sight_step", sights)).collect();
+        assert_eq!(left, unread);
     }
 }
