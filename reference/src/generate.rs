@@ -404,8 +404,8 @@ fn assemble(header: &Header, count: u16, records: &[Vec<u8>]) -> Vec<u8> {
     file
 }
 
-/// A record taken apart, free to be made wrong: the values of each standing
-/// field, more than one where a traffic has later years.
+/// A record taken apart, free to be made wrong: the values of each field
+/// whose bit is set, more than one where a traffic has later years.
 struct RawRecord {
     kind: u8,
     map: u16,
@@ -419,8 +419,8 @@ impl RawRecord {
         let words = record[RECORD_HEAD..].chunks(2);
         let mut values = words.map(|word| u16::from_be_bytes([word[0], word[1]]));
         let table = rules(header.edition, kind).unwrap_or(&[]).iter();
-        let standing = table.filter(|rule| map >> rule.bit & 1 == 1);
-        let fields = standing.map(|rule| {
+        let set = table.filter(|rule| map >> rule.bit & 1 == 1);
+        let fields = set.map(|rule| {
             let count = values_of(map, header.years, rule);
             values.by_ref().take(count).collect()
         });
@@ -437,7 +437,7 @@ impl RawRecord {
         (self.map & ((1 << bit) - 1)).count_ones() as usize
     }
 
-    /// Makes a bit stand with this value.
+    /// Sets a bit with this value.
     fn put(&mut self, bit: u32, value: u16) {
         let at = self.position(bit);
         if self.map >> bit & 1 == 0 {
@@ -499,7 +499,7 @@ fn damage_record(random: &mut Random, header: &Header, record: &[u8]) -> Vec<u8>
     raw.encode()
 }
 
-/// Makes a bit stand that the kind lacks, where there is one: of the lowest two,
+/// Sets a bit that the kind lacks, where there is one: of the lowest two,
 /// which another edition or kind has, with a value that it takes.
 fn put_lacking_bit(random: &mut Random, raw: &mut RawRecord, rules: &[Rule]) {
     let is_lacking = |bit: &u32| rules.iter().all(|rule| rule.bit != *bit);

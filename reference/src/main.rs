@@ -116,8 +116,11 @@ fn print(output: impl AsRef<[u8]>) -> Outcome {
     }
 }
 
+/// A name and what it prints the numbers of.
+type Stored = (&'static str, fn() -> Vec<u64>);
+
 /// The numbers that the engine stores, by name.
-const STORED: [(&str, fn() -> Vec<u64>); 6] = [
+const STORED: [Stored; 6] = [
     ("powers", stored::powers),
     ("logarithms", stored::logarithms),
     ("exponentials", stored::exponentials),

@@ -47,7 +47,7 @@ const CAUSES: [(u8, &str); 10] = [
     (cause::KIND, "the kind is above 3"),
     (
         cause::LACKING_BIT,
-        "a bit stands that the kind does not have in this edition",
+        "a bit is set that the kind does not have in this edition",
     ),
     (
         cause::UNMATCHED_BITS,
@@ -212,7 +212,7 @@ fn two_bytes(part: &[u8], at: usize) -> u16 {
     u16::from_be_bytes([part[at], part[at + 1]])
 }
 
-fn stands(map: u16, rule: &Rule) -> bool {
+fn is_set(map: u16, rule: &Rule) -> bool {
     map >> rule.bit & 1 == 1
 }
 
@@ -235,8 +235,8 @@ pub fn read_site(edition: u64, years: u64, part: &[u8]) -> Result<(Site, usize),
     let rules = rules(edition, kind).ok_or(cause::KIND)?;
     let map = two_bytes(part, 1);
     check_map(map, years, rules)?;
-    let standing = rules.iter().filter(|rule| stands(map, rule));
-    let values: usize = standing.map(|rule| values_of(map, years, rule)).sum();
+    let set = rules.iter().filter(|rule| is_set(map, rule));
+    let values: usize = set.map(|rule| values_of(map, years, rule)).sum();
     let length = RECORD_HEAD + 2 * values;
     if part.len() < length {
         return Err(cause::RUNS_PAST_END);
@@ -252,7 +252,7 @@ fn is_yearly(map: u16) -> bool {
     map >> YEARLY_BIT & 1 == 1
 }
 
-/// The values that a standing field has in a record.
+/// How many values a field has in a record where its bit is set.
 pub fn values_of(map: u16, years: u8, rule: &Rule) -> usize {
     if is_yearly(map) && rule.is_traffic() {
         usize::from(years)
@@ -273,12 +273,12 @@ fn check_map(map: u16, years: u8, rules: &[Rule]) -> Result<(), u8> {
     }
     let curve = rules
         .iter()
-        .any(|rule| rule.presence == Presence::Curve && stands(map, rule));
+        .any(|rule| rule.presence == Presence::Curve && is_set(map, rule));
     for rule in rules {
         let matched = match rule.presence {
-            Presence::Needed => stands(map, rule),
-            Presence::Curve => stands(map, rule) == curve,
-            Presence::CurveDefault(_) => curve || !stands(map, rule),
+            Presence::Needed => is_set(map, rule),
+            Presence::Curve => is_set(map, rule) == curve,
+            Presence::CurveDefault(_) => curve || !is_set(map, rule),
             Presence::History | Presence::Default(_) => true,
         };
         if !matched {
@@ -288,7 +288,7 @@ fn check_map(map: u16, years: u8, rules: &[Rule]) -> Result<(), u8> {
     Ok(())
 }
 
-/// Reads the standing fields in rising bit order, a traffic's later years
+/// Reads the fields whose bits are set in rising order, a traffic's later years
 /// after its first; each value must be in its range (8) and no default (9).
 /// Absent fields take their defaults.
 fn read_fields(
@@ -302,7 +302,7 @@ fn read_fields(
         let value = values.next().ok_or(cause::RUNS_PAST_END)?;
         rule.allows(value).then_some(value).ok_or(cause::RANGE)
     };
-    for rule in rules.iter().filter(|rule| stands(map, rule)) {
+    for rule in rules.iter().filter(|rule| is_set(map, rule)) {
         let value = next(rule)?;
         if rule.default() == Some(value) {
             return Err(cause::DEFAULT_SPELLED);
@@ -313,7 +313,7 @@ fn read_fields(
         }
     }
     let curve = site.is_curve();
-    for rule in rules.iter().filter(|rule| !stands(map, rule)) {
+    for rule in rules.iter().filter(|rule| !is_set(map, rule)) {
         let applies = curve || !rule.is_of_curve();
         site.set(rule.field, rule.default().filter(|_| applies));
     }

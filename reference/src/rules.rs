@@ -85,18 +85,18 @@ pub const FIELD_NAMES: [(Field, &str); 20] = [
 /// The fields that may have a value for each year.
 pub const TRAFFIC_FIELDS: [Field; 2] = [Field::Traffic, Field::MinorTraffic];
 
-/// When a field stands in a record, and what its absence means.
+/// When a field's bit is set in a record, and what its absence means.
 #[derive(Clone, Copy, Debug, PartialEq, Eq)]
 pub enum Presence {
-    /// Always stands.
+    /// Always set.
     Needed,
-    /// Stands where there is a history.
+    /// Set where there is a history.
     History,
-    /// Curve length or radius: both stand, or the road is straight.
+    /// Curve length or radius: both are set, or the road is straight.
     Curve,
     /// Absent, it has this default, which is never spelled out.
     Default(u16),
-    /// As `Default` on a curve; on a straight road it may not stand.
+    /// As `Default` on a curve; on a straight road it may not be set.
     CurveDefault(u16),
 }
 
@@ -227,7 +227,7 @@ const FOUR_LEG_SIGNAL_RULES: [Rule; 5] = [
     count(5, Field::RightTurnLanes, 2),
 ];
 
-/// A kind's rules of every edition; those that one lacks stand last.
+/// A kind's rules of every edition; those that one lacks come last.
 fn table(kind: u8) -> Option<&'static [Rule]> {
     match kind {
         SEGMENT => Some(&SEGMENT_RULES),

@@ -1,7 +1,7 @@
 //! Worked figures: what each number of an edition's model makes of a site,
 //! worked out by hand from the text of document 01 as document 02 amends it,
 //! and so apart from any table of the engine or of the reference. The working
-//! stands beside each figure. Quotations without a document are from document
+//! is beside each figure. Quotations without a document are from document
 //! 01, and for edition 2 from document 02's sixth request. What both editions
 //! have is worked once and asked of both.
 //!

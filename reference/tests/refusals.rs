@@ -208,7 +208,7 @@ fn seven_needed_and_curve_bits() {
     }
 }
 
-/// The map and fields of a record in which this bit stands with this value,
+/// The map and fields of a record in which this bit is set with this value,
 /// on a curve where the bit needs one.
 fn record_with(kind: u8, bit: u32, value: u16) -> Vec<u8> {
     let curve = kind == 0 && (6..10).contains(&bit);
