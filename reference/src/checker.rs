@@ -74,38 +74,52 @@ pub const PREDICTED_EACH: u64 = 4;
 pub const EXPECTED_EACH: u64 = 8;
 
 /// What a pair's width may be apart from its part of high.
-#[derive(Default)]
 struct Allowance {
     predicted: u128,
     expected: u128,
 }
 
-impl Allowance {
+/// What sites and their observed crashes count for in the widths.
+struct Counted {
+    sites: u64,
+    crashes: Rational,
+}
+
+impl Counted {
     /// A site counts once for each term of its prediction, and each of its
-    /// observed crashes as often, times the crash's weight. What the crashes
-    /// count is rounded up once for a site.
-    fn of_site(model: &Model, site: &Site, years: u8) -> Allowance {
+    /// observed crashes as often, times the crash's weight.
+    fn of_site(model: &Model, site: &Site, years: u8) -> Counted {
         let sites = site.terms(years).len() as u64;
-        let crashes = Natural::from(sites * site.observed().unwrap_or(0));
-        let counted = model.crash_weight(site).ceil_scaled(&crashes);
-        let counted = counted.to_u64().expect("a count of crashes");
-        Allowance {
-            predicted: u128::from(PREDICTED_EACH * sites),
-            expected: u128::from(EXPECTED_EACH * (sites + counted)),
+        let crashes = Rational::whole(sites * site.observed().unwrap_or(0));
+        Counted {
+            sites,
+            crashes: &crashes * &model.crash_weight(site),
         }
     }
 
-    /// The totals' is that of all sites.
-    fn of_project(model: &Model, project: &Project) -> Allowance {
-        let years = project.header.years;
-        let sites = project.sites.iter();
-        sites.fold(Allowance::default(), |sum, site| {
-            let more = Allowance::of_site(model, site, years);
-            Allowance {
-                predicted: sum.predicted + more.predicted,
-                expected: sum.expected + more.expected,
+    /// All sites of a project.
+    fn of_project(model: &Model, project: &Project) -> Counted {
+        let none = Counted {
+            sites: 0,
+            crashes: Rational::zero(),
+        };
+        project.sites.iter().fold(none, |sum, site| {
+            let more = Counted::of_site(model, site, project.header.years);
+            Counted {
+                sites: sum.sites + more.sites,
+                crashes: &sum.crashes + &more.crashes,
             }
         })
+    }
+
+    /// What the crashes count is rounded up once, for a site or for the totals.
+    fn allowance(&self) -> Allowance {
+        let crashes = self.crashes.ceil_scaled(&Natural::one());
+        let crashes = crashes.to_u64().expect("a count of crashes");
+        Allowance {
+            predicted: u128::from(PREDICTED_EACH * self.sites),
+            expected: u128::from(EXPECTED_EACH * (self.sites + crashes)),
+        }
     }
 }
 
@@ -254,7 +268,7 @@ fn sum_faults(lines: &[u64], totals: &[u64]) -> Vec<Wrong> {
 /// Every fault of a site's four numbers over so many years that shows without
 /// estimates: order, widths and the expected pair.
 pub fn site_line_faults(model: &Model, years: u8, site: &Site, numbers: &[u64]) -> Vec<Wrong> {
-    let mut faults = pair_faults(numbers, &Allowance::of_site(model, site, years));
+    let mut faults = pair_faults(numbers, &Counted::of_site(model, site, years).allowance());
     faults.extend(history_faults(model, site, numbers));
     faults
 }
@@ -268,7 +282,7 @@ fn shape_faults(model: &Model, project: &Project, report: &[u64]) -> Vec<Fault> 
         let wrongs = site_line_faults(model, project.header.years, site, numbers);
         faults.extend(wrongs.into_iter().map(|wrong| Fault { line, wrong }));
     }
-    let mut wrongs = pair_faults(totals, &Allowance::of_project(model, project));
+    let mut wrongs = pair_faults(totals, &Counted::of_project(model, project).allowance());
     wrongs.extend(sum_faults(lines, totals));
     let line = Line::Totals;
     faults.extend(wrongs.into_iter().map(|wrong| Fault { line, wrong }));

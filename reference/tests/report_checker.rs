@@ -462,12 +462,18 @@ fn the_totals_widths_end_where_the_demand_says() {
         assert_totals_widths(&project, [4, plain]);
         project.sites[3] = of_years(project.sites[3], project.header.years);
         assert_totals_widths(&project, [8, yearly]);
-        // Rounded up at each site: two miles with five crashes each count 7 and
-        // 7, not 12.36.
+        // Rounded up once over all sites: two miles with five crashes each count
+        // 6.18 each, so 12.36 and 13 together, not 7 and 7.
         let mile = Site::plain(edition, SEGMENT, 5_000, 1_000).with(Field::Observed, 5);
         project.sites = vec![mile; 2];
-        let counted = if edition == EDITION_ONE { 10 } else { 14 };
+        let counted = if edition == EDITION_ONE { 10 } else { 13 };
         assert_totals_widths(&project, [2, counted]);
+        // 1,200 segments of 20 miles with a crash each count 1.0118 each, so
+        // 1,214.16.
+        let long = Site::plain(edition, SEGMENT, 5_000, 20_000).with(Field::Observed, 1);
+        project.sites = vec![long; 1_200];
+        let counted = if edition == EDITION_ONE { 1_200 } else { 1_215 };
+        assert_totals_widths(&project, [1_200, counted]);
     }
 }
 

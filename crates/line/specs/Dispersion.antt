@@ -2,21 +2,19 @@
 use Prim.Native.Nat.{ℕ, zero, suc, _+_, _*_, _≤_, _<_}
 use mathlib.Core.Path.{_≡_, refl}
 use mathlib.Core.Bool.{Bool, true, false, cond}
-use native.Mathlib.Nat.{mul-le-mul-left, mul-le-mul-right, le-of-mul-le-mul-right}
+use native.Mathlib.Nat.{mul-le-mul-left, mul-le-mul-right}
 use native.Mathlib.Omega.{arith}
 use lib.Dec.{eqb, lit<, lit≤}
 use borrow.Author.Tests.{eqb-true}
-use Rattle.estimate.specs.Fraction.{Fraction, _≤ᶠ_, fraction, _//_, whole, _+ᶠ_}
+use Rattle.estimate.specs.Fraction.{Fraction, _≤ᶠ_, fraction, _//_, whole, _+ᶠ_, _*ᶠ_}
 use Rattle.estimate.specs.FractionLaws.{//-num, //-den}
-use Rattle.wide.specs.Scaling.{ceiling}
-use Rattle.wide.specs.Rounding.{ceiling-ge}
 use Rattle.site.specs.declared.values.Site.{Site}
 use Rattle.site.specs.Writing.{Valid}
 use Rattle.site.specs.Numbers.{number, site-traffic, segment-sizes}
 use Rattle.model.specs.Coefficients.{Coefficients, byKind, dispersionByKind, dispersionByLength, editionOne, editionTwo, coefficientsOf}
 use Rattle.model.specs.Editions.{by-edition}
 use Rattle.model.specs.Expected.{overdispersionOf}
-use Rattle.model.specs.StatedWidths.{predictedEach, expectedEach, sitesCounted, observedWeight}
+use Rattle.model.specs.StatedWidths.{predictedEach, expectedEach, sitesCounted, crashesCounted}
 use Rattle.model.specs.TermLaws.{by-count}
 
 -- sizes of kn / kd with which the code's numbers fit
@@ -25,27 +23,27 @@ pub record Overdispersed (kn kd : ℕ) : Type 0 where
   pub kd-least : 0 < kd
   pub kd-most : kd ≤ 20000
 
--- a site that counts as n, and its history of O crashes as a weight: 4 n (1 + kO) and the 2 of the roundings are at most 8 (n + weight)
-pub record Weighs (kn kd O n weight : ℕ) : Type 0 where
+-- a site that counts as n, and its O crashes, which count for a fraction: 4 n (1 + kO) and the 2 of the roundings are at most 8 times both
+pub record Weighs (kn kd O n : ℕ) (crashes : Fraction) : Type 0 where
   pub some : 1 ≤ n
-  pub enough : predictedEach * n * (kd + kn * O) + 2 * kd ≤ expectedEach * (n + weight) * kd
+  pub enough : (predictedEach * n * (kd + kn * O) + 2 * kd) * crashes .den ≤ expectedEach * (n * crashes .den + crashes .num) * kd
 
 -- a crash counts for at least k
 pub record Dispersed (c : Coefficients) : Type 0 where
   pub sizes : (edition years : ℕ) (site : Site) → Valid edition years site → let k = overdispersionOf c site in Overdispersed (k .num) (k .den)
   pub counted : (kind length : ℕ) → c .overdispersion kind length ≤ᶠ c .crash-count kind length
 
--- crashes that count for k each, rounded up, are enough
-count-enough : (k count : Fraction) (O n : ℕ) → k ≤ᶠ count → 1 ≤ n → Weighs (k .num) (k .den) O n (ceiling (n * O) (count .num) (count .den))
-count-enough k count O n h some =
-    let weight = ceiling (n * O) (count .num) (count .den) in
-    let up = ceiling-ge (n * O) (count .num) (count .den) (count .pos) in
-    let enough : n * O * k .num ≤ weight * k .den =
-    le-of-mul-le-mul-right {k = count .den} (omega (arith, mul-le-mul-left (n * O) (h .cross), mul-le-mul-right (k .den) up)) (count .pos) in
-    record { some = some; enough = omega (arith, mul-le-mul-right (k .den) some) }
+-- crashes that count for k each are enough
+count-enough : (k count : Fraction) (O n : ℕ) → k ≤ᶠ count → 1 ≤ n → Weighs (k .num) (k .den) O n (whole (n * O) *ᶠ count)
+unfolding whole fraction _*ᶠ_
+count-enough k count O n h some = record {
+  some = some;
+  enough = omega (arith, mul-le-mul-left (n * O) (h .cross), mul-le-mul-right (k .den * count .den) some);
+}
 
 pub weighs : {c : Coefficients} → Dispersed c → (years : ℕ) (site : Site) → 1 ≤ years → let k = overdispersionOf c site in
-    Weighs (k .num) (k .den) (number (site .observed)) (sitesCounted years site) (observedWeight c years site)
+    Weighs (k .num) (k .den) (number (site .observed)) (sitesCounted years site) (crashesCounted c years site)
+unfolding crashesCounted
 weighs {c} dispersed years site some =
     count-enough (overdispersionOf c site) _ (number (site .observed)) (sitesCounted years site) (dispersed .counted _ _)
     (by-count (λ n. 1 ≤ n) years site some (lit≤ tt))

@@ -28,18 +28,21 @@ module _ (E D n K F : ℕ) where
   rounded-down-near h = omega (arith, mul-le-mul-right F h)
 
 -- two figures x / (B + u) and y / (B + v) where x u = y v, from x / B and y / B
-further : (R r c x y B u v : ℕ) → x * u ≡ y * v → R * (x * B) ≤ R * (y * B) + R * (c * (B * B)) + r * (x * B) →
-    R * (x * (B + u)) ≤ R * (y * (B + v)) + R * (c * ((B + v) * (B + u))) + r * (x * (B + u))
+further : (R r c x y B u v : ℕ) → x * u ≡ y * v → R * (x * B) ≤ R * (y * B) + c * (B * B) + r * (x * B) →
+    R * (x * (B + u)) ≤ R * (y * (B + v)) + c * ((B + v) * (B + u)) + r * (x * (B + u))
 further R r c x y B u v e h = omega (arith, ap (λ z. R * z) e)
 
-near : (R w r c low high P B : ℕ) → R * high ≤ R * low + R * w + r * high → w * P ≤ c * B →
-    R * (high * P * B) ≤ R * (low * P * B) + R * (c * (B * B)) + r * (high * P * B)
-near R w r c low high P B n h = omega (arith, mul-le-mul-right (P * B) n, mul-le-mul-left (R * B) h)
+near : (R w r c low high P B : ℕ) → R * high ≤ R * low + R * w + r * high → R * w * P ≤ c * B →
+    R * (high * P * B) ≤ R * (low * P * B) + c * (B * B) + r * (high * P * B)
+near R w r c low high P B n h = omega (arith, mul-le-mul-right (P * B) n, mul-le-mul-left B h)
 
 -- the two figures of a pair before they are rounded, over the product of their denominators B + a low and B + a high
-apart : (R w r c low high P B a : ℕ) → R * high ≤ R * low + R * w + r * high → w * P ≤ c * B →
-    R * (high * P * (B + a * low)) ≤ R * (low * P * (B + a * high)) + R * (c * ((B + a * high) * (B + a * low))) + r * (high * P * (B + a * low))
+apart : (R w r c low high P B a : ℕ) → R * high ≤ R * low + R * w + r * high → R * w * P ≤ c * B →
+    R * (high * P * (B + a * low)) ≤ R * (low * P * (B + a * high)) + c * ((B + a * high) * (B + a * low)) + r * (high * P * (B + a * low))
 apart R w r c low high P B a n h = further R r c (high * P) (low * P) B (a * low) (a * high) (omega arith) (near R w r c low high P B n h)
+
+same-product : (R d w K : ℕ) → R * d * w * (1000000 * K) ≤ R * (w * K) * (d * 1000000)
+same-product R d w K = omega arith
 
 module _ (k : Fraction) (O : ℕ) where
   -- the formula's denominator at n millionths, over k's
@@ -120,18 +123,20 @@ module _ (k : Fraction) (O : ℕ) where
     unfolding expectedHigh weighed millionths _//_ fraction denominator
     expected-high-≤-history = ceiling-≤ 1000000 _ _ _ (denominator-positive n) below-history
 
-  -- THE WIDTH: a predicted pair that is w + (r / R) high apart gives an expected pair that is c + 2 + (r / R) high apart, where
-  -- c is at least w (1 + kO)
-  module _ (R w r c low high : ℕ) (narrow : Narrow R w r low high) (most : w * (k .den + k .num * O) ≤ c * k .den) where
-    pub expected-width : Narrow R (c + 2) r (expectedLow k O low) (expectedHigh k O high)
+  -- THE WIDTH: a predicted pair that is w + (r / R) high apart gives an expected pair that is w (1 + kO) + 2 + (r / R) high apart
+  module _ (R w r low high : ℕ) (narrow : Narrow R w r low high) where
+    pub expected-width : R * k .den * expectedHigh k O high
+        ≤ R * k .den * expectedLow k O low + (R * (w * (k .den + k .num * O)) + 2 * (R * k .den)) + r * k .den * expectedHigh k O high
     unfolding expectedLow expectedHigh weighed millionths _//_ fraction denominator
     expected-width =
         let K = k .den + k .num * O in
         let DL = k .den * 1000000 + k .num * low in
         let DH = k .den * 1000000 + k .num * high in
-        rounded-width R c r (floor 1000000 (low * K) DL) (ceiling 1000000 (high * K) DH) (high * (1000000 * K) * DL) (low * (1000000 * K) * DH) (DH * DL)
+        rounded-width (R * k .den) (R * (w * K)) (r * k .den) (floor 1000000 (low * K) DL) (ceiling 1000000 (high * K) DH)
+        (high * (1000000 * K) * DL) (low * (1000000 * K) * DH) (DH * DL)
         (mul-pos (denominator-positive high) (denominator-positive low))
-        (apart R w r c low high (1000000 * K) (k .den * 1000000) (k .num) (narrow .width) (omega (arith, mul-le-mul-left 1000000 most)))
+        (apart (R * k .den) w (r * k .den) (R * (w * K)) low high (1000000 * K) (k .den * 1000000) (k .num)
+        (omega (arith, mul-le-mul-right (k .den) (narrow .width))) (same-product R (k .den) w K))
         (rounded-up-below (ceiling 1000000 (high * K) DH) DH high K DL (ceiling-lt 1000000 (high * K) DH (denominator-positive high)))
         (rounded-up-above (ceiling 1000000 (high * K) DH) DH high K DL (ceiling-ge 1000000 (high * K) DH (denominator-positive high)))
         (rounded-down-near (floor 1000000 (low * K) DL) DL low K DH (floor-lt 1000000 (low * K) DL (denominator-positive low)))

@@ -12,6 +12,7 @@ pub mod Expected
 pub mod StatedWidths
 pub mod Editions
 pub mod CrashCounts
+pub mod CountedWidth
 pub mod Grade
 pub mod TermLaws
 pub mod SameTraffic

@@ -14,7 +14,7 @@ use Rattle.header.specs.HeaderLaws.{limits-of, accepted-header}
 use Rattle.model.specs.Coefficients.{coefficientsOf}
 use Rattle.prediction.specs.Editions.{edition-rated}
 use Rattle.line.specs.declared.Line.{Line}
-use Rattle.line.specs.LineLaws.{edition-line}
+use Rattle.line.specs.LineLaws.{edition-line, edition-counted}
 use Rattle.line.specs.Weighing.{line-small}
 use Rattle.project.specs.declared.ScanAnswer.the-variants.{Accepted}
 use Rattle.project.specs.File.{yearsIn, scanRecords, scanFile, sitesIn}
@@ -59,11 +59,13 @@ module _ (s : List ℕ) (n : ℕ) (accepted : scanFile s ≡ Accepted n) where
   pub demand-met : (rest : List ℕ) → Demand s (reportNumbers (linesIn s) ++ rest)
   demand-met rest =
       let v = all-valid (editionIn s) (yearsIn s) (sitesIn s) (facts .sites .valid) in
-      let stands = edition-line (editionIn s) (headerIn s) (limits-of (headerIn s) (facts .limits)) in
+      let within = limits-of (headerIn s) (facts .limits) in
+      let stands = edition-line (editionIn s) (headerIn s) within in
+      let counted = edition-counted (editionIn s) (headerIn s) within in
       rw (append-assoc (allNumbers (linesIn s)) (numbersOf (totalOf (linesIn s))) rest)
       (record {
-        each = λ i h. report-each (coefficientsIn s) (headerIn s) stands (sitesIn s) v rest i (omega (arith, h));
-        totals = report-totals (coefficientsIn s) (headerIn s) stands (sitesIn s) v rest;
+        each = λ i h. report-each (coefficientsIn s) (headerIn s) stands counted (sitesIn s) v rest i (omega (arith, h));
+        totals = report-totals (coefficientsIn s) (headerIn s) stands counted (sitesIn s) v rest;
       })
 
   module _ (header : Header) (sites : ℕ) (header-is : header ≡ headerIn s) (sites-are : sites ≡ countIn s) where

@@ -3,9 +3,9 @@
 -- reader promises.
 use Prim.Native.Nat.{ℕ, _+_, _*_, _≤_, _<_}
 use mathlib.Core.Path.{_≡_}
-use mathlib.Core.List.{List, [], _∷_}
+use mathlib.Core.List.{List, []}
 use lib.ListN.{length, getD}
-use Rattle.estimate.specs.Fraction.{Fraction, whole, millionths, _+ᶠ_}
+use Rattle.estimate.specs.Fraction.{Fraction, millionths}
 use Rattle.estimate.specs.Standing.{Between}
 use Rattle.wide.specs.Rounding.{Narrow}
 use Rattle.site.specs.declared.values.Site.{Site}
@@ -17,7 +17,7 @@ use Rattle.model.specs.Coefficients.{Coefficients}
 use Rattle.model.specs.Predicted.{predictedUnder, predictedOver}
 use Rattle.model.specs.Expected.{expectedUnder, expectedOver}
 use Rattle.line.specs.declared.Line.{Line}
-use Rattle.model.specs.StatedWidths.{widthParts, predictedEach, expectedEach, sitesCounted, observedWeight}
+use Rattle.model.specs.StatedWidths.{widthParts, predictedEach, expectedEach, addedUp, sitesCountedIn, observedIn}
 use Rattle.line.specs.Stands.{LineStands}
 use Rattle.project.specs.File.{sitesIn}
 use Rattle.project.specs.Causes.{reportLength, NoCause, FirstCause}
@@ -39,25 +39,11 @@ abbrev pub siteAt : List Site → ℕ → Site
 siteAt sites i = getD sites i (siteOf 0 [] noLater noLater)
 
 -- "A project's estimates are sums over sites"
-unfoldable pub sumOfSites : (Site → ℕ → Fraction) → List Site → ℕ → Fraction
-sumOfSites estimate [] d = whole 0
-sumOfSites estimate (site ∷ sites) d = estimate site d +ᶠ sumOfSites estimate sites d
+abbrev pub sumOfSites : (Site → ℕ → Fraction) → List Site → ℕ → Fraction
+sumOfSites estimate sites d = addedUp (λ site. estimate site d) sites
 
--- what the sites of a list count together
-unfoldable pub countOver : (Site → ℕ) → List Site → ℕ
-countOver each [] = 0
-countOver each (site ∷ sites) = each site + countOver each sites
-
--- "In demand 3's widths such a site counts as Y sites": the sites, each as it counts
-abbrev pub sitesCountedIn : (years : ℕ) → List Site → ℕ
-sitesCountedIn years sites = countOver (sitesCounted years) sites
-
--- "A project's observed crashes are the sum of the O that stand", each as it counts
-abbrev pub observedIn : Coefficients → (years : ℕ) → List Site → ℕ
-observedIn c years sites = countOver (observedWeight c years) sites
-
--- the totals of a list of sites: at most 4 a site as it counts, or 8 for sites and crashes as they count together, and a millionth of
--- the high apart
+-- the totals of a list of sites: at most 4 a site as it counts, or 8 for sites and crashes as they count together, rounded up once, and
+-- a millionth of the high apart
 pub record TotalsStand (c : Coefficients) (header : Header) (sites : List Site) (total : Line) : Type 0 where
   pub predicted-between : Between (millionths (total .«predicted_low»)) (millionths (total .«predicted_high»))
       (sumOfSites (predictedUnder c header) sites) (sumOfSites (predictedOver c header) sites)

@@ -1,5 +1,5 @@
--- The report of valid sites, read back by index, meets the demand where the line of each stands: lines that stand have totals that
--- stand.
+-- The report of valid sites, read back by index, meets the demand where the line of each stands: lines that stand, and are as wide as
+-- their sites and crashes count before these are rounded up, have totals that stand.
 use Prim.Native.Nat.{ℕ, zero, suc, _+_, _*_, _<_}
 use mathlib.Core.Path.{_≡_, refl, ap, _∙_}
 use mathlib.Core.List.{List, [], _∷_, _++_, map}
@@ -13,12 +13,14 @@ use Rattle.site.specs.declared.values.Site.{Site}
 use Rattle.site.specs.Writing.{Valid}
 use Rattle.header.specs.declared.Header.{Header}
 use Rattle.model.specs.Coefficients.{Coefficients}
+use Rattle.model.specs.StatedWidths.{widthParts, expectedEach, sitesCounted, crashesCounted, addedUp, countOver, sitesCountedIn}
+use Rattle.model.specs.CountedWidth.{CountedWidth, none-counted, counted-adds, counted-narrow}
 use Rattle.prediction.specs.PredictedLaws.{millionths-add}
 use Rattle.line.specs.declared.Line.{Line}
 use Rattle.line.specs.Line.{siteLine}
 use Rattle.line.specs.Stands.{LineStands}
 use Rattle.report.specs.Report.{numbersOf, allNumbers, noLine, totalOf}
-use Rattle.report.specs.Demand.{lineAt, siteAt, sumOfSites, countOver, TotalsStand}
+use Rattle.report.specs.Demand.{lineAt, siteAt, TotalsStand}
 
 -- two figures between their numbers have a sum between the sums of these; a sum of none is between 0 and 0
 between-adds : (a b x y : ℕ) {f g u v : ℕ → Fraction} → Between (millionths a) (millionths b) f g → Between (millionths x) (millionths y) u v
@@ -60,9 +62,16 @@ pub length-lines : (c : Coefficients) (header : Header) (sites : List Site) → 
 length-lines c header [] = refl
 length-lines c header (site ∷ sites) = ap suc (length-lines c header sites)
 
--- THE REPORT of valid sites, whatever follows it, where the line of each stands
+-- what a line's expected width is before the crashes are rounded up
+abbrev pub LineCounted : Coefficients → Header → Site → Type 0
+LineCounted c header site =
+    CountedWidth widthParts expectedEach (sitesCounted (header .years) site) (crashesCounted c (header .years) site)
+    (siteLine c header site .«expected_low») (siteLine c header site .«expected_high»)
+
+-- THE REPORT of valid sites, whatever follows it, where the line of each stands and is as wide as its sites and crashes count
 module _ (c : Coefficients) (header : Header)
-    (stands : (site : Site) → Valid (header .edition) (header .years) site → LineStands c header site (siteLine c header site)) where
+    (stands : (site : Site) → Valid (header .edition) (header .years) site → LineStands c header site (siteLine c header site))
+    (counted : (site : Site) → Valid (header .edition) (header .years) site → LineCounted c header site) where
   abbrev linesOf : List Site → List Line
   linesOf sites = map (siteLine c header) sites
 
@@ -72,15 +81,23 @@ module _ (c : Coefficients) (header : Header)
   each-stands (site ∷ sites) v zero h = stands site (v .0)
   each-stands (site ∷ sites) v (suc i) h = each-stands sites (v .1) i (omega arith)
 
+  -- the width of the totals before the crashes are rounded up
+  totals-counted : (sites : List Site) → AllValid (header .edition) (header .years) sites → let total = totalOf (linesOf sites) in
+      CountedWidth widthParts expectedEach (sitesCountedIn (header .years) sites) (addedUp (crashesCounted c (header .years)) sites)
+      (total .«expected_low») (total .«expected_high»)
+  unfolding totalOf addedUp countOver
+  totals-counted [] v = none-counted widthParts expectedEach
+  totals-counted (site ∷ sites) v = counted-adds widthParts expectedEach _ _ _ _ _ _ _ _ (counted site (v .0)) (totals-counted sites (v .1))
+
   pub totals-stand : (sites : List Site) → AllValid (header .edition) (header .years) sites → TotalsStand c header sites (totalOf (linesOf sites))
-  unfolding totalOf sumOfSites countOver
+  unfolding totalOf addedUp countOver
   totals-stand [] v = record {
     predicted-between = none-between;
     expected-between = none-between;
     predicted-in-order = lit≤ tt;
     expected-in-order = lit≤ tt;
     predicted-narrow = record { width = lit≤ tt };
-    expected-narrow = record { width = lit≤ tt };
+    expected-narrow = counted-narrow widthParts expectedEach _ _ _ _ (totals-counted [] v);
   }
   totals-stand (site ∷ sites) v =
       let s = stands site (v .0) in
@@ -91,7 +108,7 @@ module _ (c : Coefficients) (header : Header)
         predicted-in-order = omega (arith, s .predicted-in-order, r .predicted-in-order);
         expected-in-order = omega (arith, s .expected-in-order, r .expected-in-order);
         predicted-narrow = record { width = omega (arith, s .predicted-narrow .width, r .predicted-narrow .width) };
-        expected-narrow = record { width = omega (arith, s .expected-narrow .width, r .expected-narrow .width) };
+        expected-narrow = counted-narrow widthParts expectedEach _ _ _ _ (totals-counted (site ∷ sites) v);
       }
 
   module _ (sites : List Site) (valid : AllValid (header .edition) (header .years) sites) (rest : List ℕ) where

@@ -1,16 +1,15 @@
 -- EVERY PART OF DEMAND 3 IS NEEDED: a report that fails one part, at one site or in its totals, does not meet the demand. The
 -- numbers of the report are named by their index, and the widths are written out.
 use Prim.Native.Nat.{ℕ, _+_, _*_, _≤_, _<_}
-use mathlib.Core.Path.{_≡_, refl, ap, _∙_}
-use mathlib.Core.Bool.{Bool, true, false, cond}
+use mathlib.Core.Path.{_≡_}
+use mathlib.Core.Bool.{true, false, cond}
 use mathlib.Core.Logic.{_⊎_}
-use mathlib.Core.List.{List, [], _∷_}
+use mathlib.Core.List.{List, _∷_}
 use lib.ListN.{length, getD}
-use lib.Dec.{leb, eqb, lit≤}
-use borrow.Author.Tests.{leb-true, leb-false, eqb-true, eqb-false}
+use lib.Dec.{lit≤}
 use native.Mathlib.Omega.{arith}
 use Rattle.wide.specs.Scaling.{ceiling}
-use Rattle.estimate.specs.Fraction.{fraction, _//_, millionths, _<ᶠ_}
+use Rattle.estimate.specs.Fraction.{fraction, _//_, whole, millionths, _≤ᶠ_, _<ᶠ_}
 use Rattle.estimate.specs.FractionLaws.{not-≤ᶠ-and-<ᶠ, <ᶠ-≤ᶠ-trans, ≤ᶠ-<ᶠ-trans}
 use Rattle.site.specs.declared.values.Site.{Site}
 use Rattle.site.specs.declared.values.Slot.the-variants.{Number}
@@ -18,22 +17,17 @@ use Rattle.header.specs.Header.{editionIn, headerIn}
 use Rattle.site.specs.Rules.{mostYears}
 use Rattle.site.specs.LaterLaws.{years-within}
 use Rattle.site.specs.Yearly.{yearly}
-use Rattle.site.specs.Writing.{Valid}
-use Rattle.site.specs.Numbers.{number, segment-sizes, site-traffic}
+use Rattle.site.specs.Numbers.{number}
 use Rattle.model.specs.Predicted.{predictedUnder, predictedOver}
 use Rattle.model.specs.Expected.{expectedUnder, expectedOver}
-use Rattle.model.specs.Coefficients.{coefficientsOf}
-use Rattle.model.specs.StatedWidths.{sitesCounted, observedWeight}
-use Rattle.model.specs.CrashCounts.{weight-in-edition-one, weight-at-crossing, weight-on-segment}
+use Rattle.model.specs.StatedWidths.{sitesCounted}
+use Rattle.model.specs.CrashCounts.{sitesOver, sites-over, crashesOver, counted-at-most}
 use Rattle.model.specs.TermLaws.{by-count}
 use Rattle.line.specs.NeededParts as line
-use Rattle.project.specs.declared.ScanAnswer.the-variants.{Accepted}
-use Rattle.project.specs.File.{yearsIn, sitesIn, scanFile}
-use Rattle.project.specs.SitesRead.{accepted-sites, sites-years}
+use Rattle.project.specs.File.{yearsIn, sitesIn}
+use Rattle.project.specs.SitesRead.{sites-years}
 use Rattle.report.specs.Report.{coefficientsIn}
-use Rattle.report.specs.DemandLaws.{AllValid}
-use Rattle.report.specs.Accepted.{all-valid}
-use Rattle.report.specs.Demand.{Demand, siteAt, sumOfSites, countOver, sitesCountedIn, observedIn}
+use Rattle.report.specs.Demand.{Demand, siteAt, sumOfSites}
 
 -- ONE SITE'S LINE, the numbers from 4 i on
 module _ (bytes report : List ℕ) (i : ℕ) (h : i < length (sitesIn bytes)) where
@@ -115,49 +109,6 @@ module _ (bytes report : List ℕ) (i : ℕ) (h : i < length (sitesIn bytes)) wh
     pub site-expected-high-above-both : predictedHigh < expectedHigh → observed * 1000000 < expectedHigh → Fails
     site-expected-high-above-both l k m = line.expected-high-above-both _ _ _ _ observed history l k (m .each i h)
 
--- the sites of a list, one with a traffic for each of Y years as Y
-unfoldable pub sitesOver : (years : ℕ) → List Site → ℕ
-sitesOver years [] = 0
-sitesOver years (site ∷ sites) = cond (yearly site) years 1 + sitesOver years sites
-
--- and what their observed crashes count for: each as often as its site, and on a segment of edition 2 (L + 236) / L times that, rounded
--- up once a site
-unfoldable pub crashesOf : (edition years : ℕ) → Site → ℕ
-crashesOf edition years site =
-    let crashes = cond (yearly site) years 1 * number (site .observed) in
-    cond (leb edition 1) crashes (cond (eqb (site .kind) 0) (ceiling crashes (number (site .length) + 236) (number (site .length))) crashes)
-
-unfoldable pub crashesOver : (edition years : ℕ) → List Site → ℕ
-crashesOver edition years [] = 0
-crashesOver edition years (site ∷ sites) = crashesOf edition years site + crashesOver edition years sites
-
--- these are the counts of the demand
-sites-over : (years : ℕ) (sites : List Site) → sitesCountedIn years sites ≡ sitesOver years sites
-unfolding sitesOver countOver sitesCounted
-sites-over years [] = refl
-sites-over years (site ∷ sites) = ap (λ (rest : ℕ). cond (yearly site) years 1 + rest) (sites-over years sites)
-
-crashes-of : (edition years : ℕ) (site : Site) → Valid edition years site
-    → observedWeight (coefficientsOf edition) years site ≡ crashesOf edition years site
-unfolding crashesOf sitesCounted
-crashes-of edition years site valid = by (leb edition 1) (eqb (site .kind) 0) refl refl
-  where
-    by : (first segment : Bool) → leb edition 1 ≡ first → eqb (site .kind) 0 ≡ segment
-        → observedWeight (coefficientsOf edition) years site ≡ crashesOf edition years site
-    by true segment e k = weight-in-edition-one years site edition (leb-true edition 1 e) ∙ rw e
-    by false false e k = weight-at-crossing years site edition (eqb-false (site .kind) 0 k) ∙ rw (e, k)
-    by false true e k =
-        let is = eqb-true (site .kind) 0 k in
-        let sizes = segment-sizes edition years site valid is _ (site-traffic edition years site valid) in
-        weight-on-segment years site edition (leb-false edition 1 e) is (sizes .length-least) ∙ rw (e, k)
-
-crashes-over : (edition years : ℕ) (sites : List Site) → AllValid edition years sites
-    → observedIn (coefficientsOf edition) years sites ≡ crashesOver edition years sites
-unfolding crashesOver countOver
-crashes-over edition years [] v = refl
-crashes-over edition years (site ∷ sites) v =
-    rw (crashes-of edition years site (v .0)) (ap (λ (rest : ℕ). crashesOf edition years site + rest) (crashes-over edition years sites (v .1)))
-
 -- THE TOTALS, the four numbers after the lines of n sites
 module _ (bytes report : List ℕ) where
   abbrev n : ℕ
@@ -203,16 +154,15 @@ module _ (bytes report : List ℕ) where
   pub total-predicted-too-wide : 1000000 * (low + 4 * sitesOver (yearsIn bytes) (sitesIn bytes)) + high < 1000000 * high → Wrong
   total-predicted-too-wide l m = omega (arith, m .totals .predicted-narrow .width, sites-over (yearsIn bytes) (sitesIn bytes))
 
-  pub total-expected-too-wide : (count : ℕ) → scanFile bytes ≡ Accepted count
-      → 1000000 * (lowExpected + 8 * (sitesOver (yearsIn bytes) (sitesIn bytes) + crashesOver (editionIn bytes) (yearsIn bytes) (sitesIn bytes))) + highExpected
-      < 1000000 * highExpected → Wrong
-  total-expected-too-wide count accepted l m =
-      let valid = all-valid (editionIn bytes) (yearsIn bytes) (sitesIn bytes) (accepted-sites bytes count accepted .sites .valid) in
+  -- more than 8 for each site and for each of t crashes, t being any whole number that is not below what the crashes count for
+  pub total-expected-too-wide : (t : ℕ) → crashesOver (editionIn bytes) (yearsIn bytes) (sitesIn bytes) ≤ᶠ whole t
+      → 1000000 * (lowExpected + 8 * (sitesOver (yearsIn bytes) (sitesIn bytes) + t)) + highExpected < 1000000 * highExpected → Wrong
+  total-expected-too-wide t most l m =
       omega (
         arith,
         m .totals .expected-narrow .width,
         sites-over (yearsIn bytes) (sitesIn bytes),
-        crashes-over (editionIn bytes) (yearsIn bytes) (sitesIn bytes) valid,
+        counted-at-most (editionIn bytes) (yearsIn bytes) (sitesIn bytes) t most,
       )
 
 -- a site of a project counts as ten sites at most

@@ -67,26 +67,30 @@ exact : (R a b r rho lo hi A B W : ℕ) → lo ≤ hi → Narrow R a r lo hi →
 exact R a b r rho lo hi A B W order narrow factor most =
     omega (arith, mul-le-mul-right A (narrow .width), mul-le-mul-left lo factor, mul-le-mul-right (rho * A) order, mul-le-mul-left R most)
 
--- two fractions X / W and Y / W that are a known width apart, rounded outward: each rounding adds at most 1
-pub rounded-width : (R b s lo' hi' X Y W : ℕ) → zero < W → R * X ≤ R * Y + R * (b * W) + s * X → hi' * W ≤ X + W → X ≤ hi' * W → Y ≤ lo' * W + W
-    → Narrow R (b + 2) s lo' hi'
+-- two fractions X / W and Y / W that are at most (b + s X / W) / R apart, rounded outward: each rounding adds at most 1
+pub rounded-width : (R b s lo' hi' X Y W : ℕ) → zero < W → R * X ≤ R * Y + b * W + s * X → hi' * W ≤ X + W → X ≤ hi' * W → Y ≤ lo' * W + W
+    → R * hi' ≤ R * lo' + (b + 2 * R) + s * hi'
 rounded-width R b s lo' hi' X Y W pos e up most low =
-    record {
-      width = le-of-mul-le-mul-right {m = R * hi'} {n = R * lo' + R * (b + 2) + s * hi'} {k = W}
-          (omega (arith, mul-le-mul-left R up, mul-le-mul-left s most, mul-le-mul-left R low))
-          pos;
-    }
+    le-of-mul-le-mul-right {m = R * hi'} {n = R * lo' + (b + 2 * R) + s * hi'} {k = W}
+    (omega (arith, mul-le-mul-left R up, mul-le-mul-left s most, mul-le-mul-left R low))
+    pos
 
 -- THE WIDTH. After scaling by a factor hn / hd that is itself rho / R wide, and that takes a to at most b, it is at most b + 2 + ((r + rho) / R) * hi' wide
 pub scaled-width : (R a b r rho lo hi ln ld hn hd : ℕ) → zero < ld → zero < hd → lo ≤ hi → Narrow R a r lo hi
     → R * (hn * ld) ≤ R * (ln * hd) + rho * (hn * ld) → a * hn ≤ b * hd
     → Narrow R (b + 2) (r + rho) (floor lo ln ld) (ceiling hi hn hd)
 scaled-width R a b r rho lo hi ln ld hn hd pl ph order narrow factor most =
-    rounded-width R b (r + rho) (floor lo ln ld) (ceiling hi hn hd) (hi * (hn * ld)) (lo * (ln * hd)) (hd * ld) (mul-pos ph pl)
-    (exact R a b r rho lo hi (hn * ld) (ln * hd) (hd * ld) order narrow factor (omega (arith, mul-le-mul-right ld most)))
+    let X = hi * (hn * ld) in
+    let Y = lo * (ln * hd) in
+    let W = hd * ld in
+    let apart : R * X ≤ R * Y + R * (b * W) + (r + rho) * X =
+    exact R a b r rho lo hi (hn * ld) (ln * hd) W order narrow factor (omega (arith, mul-le-mul-right ld most)) in
+    let e : R * X ≤ R * Y + R * b * W + (r + rho) * X = omega arith in
+    let w = rounded-width R (R * b) (r + rho) (floor lo ln ld) (ceiling hi hn hd) X Y W (mul-pos ph pl) e
     (omega (arith, mul-le-mul-right ld (ceiling-lt hi hn hd ph)))
     (omega (arith, mul-le-mul-right ld (ceiling-ge hi hn hd ph)))
-    (omega (arith, mul-le-mul-right hd (floor-lt lo ln ld pl)))
+    (omega (arith, mul-le-mul-right hd (floor-lt lo ln ld pl))) in
+    record { width = omega (arith, w) }
 
 -- the order of the bounds is kept
 pub scaled-order : (lo hi ln ld hn hd : ℕ) → zero < ld → zero < hd → lo ≤ hi → ln * hd ≤ hn * ld → floor lo ln ld ≤ ceiling hi hn hd
