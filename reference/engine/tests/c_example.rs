@@ -1,6 +1,6 @@
 //! The C example, compiled against the header and the archive, prints the demo
 //! corridor's report by each edition, and refusals as the program does, and finds each file
-//! again that it writes from a file's sites.
+//! again that it writes from a file's sites. What it cannot read it tells.
 
 use engine::program::full_project;
 use engine::projects::project_into;
@@ -19,7 +19,7 @@ fn compiled(name: &str) -> PathBuf {
     let program = Path::new(env!("CARGO_TARGET_TMPDIR")).join(name);
     let status = Command::new("cc")
         .args([
-            "-std=c11",
+            "-std=c99",
             "-Wall",
             "-Wextra",
             "-Werror",
@@ -68,6 +68,21 @@ fn stored(name: &str, bytes: &[u8]) -> PathBuf {
 fn refused_file() {
     let project = stored("refused.project", &[3, 1, 0, 1, 0, 1, 0, 0]);
     assert_eq!(printed(&compiled("refused"), &project), "refused 3 at 0\n");
+}
+
+/// A folder is opened and cannot be read; a file that is not there is not opened.
+#[test]
+fn what_cannot_be_read() {
+    let program = compiled("unread");
+    for path in ["", "no_such.project"] {
+        let output = Command::new(&program)
+            .arg(Path::new(env!("CARGO_TARGET_TMPDIR")).join(path))
+            .output()
+            .expect("the example runs");
+        assert_eq!(output.status.code(), Some(2), "{path}");
+        assert!(output.stdout.is_empty(), "{output:?}");
+        assert_eq!(output.stderr, b"corridor: reading failed\n");
+    }
 }
 
 #[test]

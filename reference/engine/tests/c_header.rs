@@ -1,6 +1,6 @@
 //! `include/crash_unit.h` compiles without a warning as C and as C++, its names
-//! are the engine's sizes, document 01's numbers and the stated widths, and what
-//! it says of stack and state is so.
+//! are the engine's sizes, slots, document 01's numbers and the stated widths, and
+//! what it says of stack and state is so.
 
 use engine::lines::line_into;
 use engine::program::full_project;
@@ -14,6 +14,9 @@ use std::collections::BTreeMap;
 use std::fs;
 use std::path::{Path, PathBuf};
 use std::process::Command;
+
+#[path = "c_header/slots.rs"]
+mod slots;
 
 /// The calls that the archive exports.
 const CALLS: usize = 9;
@@ -198,9 +201,9 @@ fn sizes_of_a_site_are_the_engines() {
     assert_eq!(power_into(32, 60, 100, &mut ends[..short]), TOO_SHORT);
     assert_eq!(power_into(32, 60, 100, &mut ends), DONE);
     // A crossing has no length, and each traffic has every later year.
-    assert_eq!(site[2], names["CRASH_ABSENT"]);
+    assert_eq!(site[size("CRASH_LENGTH")], names["CRASH_ABSENT"]);
     let later = size("CRASH_LATER_YEARS");
-    let years = site.len() - 2 * later..site.len();
+    let years = size("CRASH_LATER_TRAFFIC")..site.len();
     assert_eq!(later + 1, size("CRASH_MOST_YEARS"));
     assert!(site[years].iter().all(|number| *number <= 20_000));
 }
