@@ -5,13 +5,14 @@ use std::collections::HashSet;
 use std::fs;
 use std::path::{Path, PathBuf};
 
-const PAGES: [&str; 6] = [
+const PAGES: [&str; 7] = [
     "README.md",
     "docs/ARCHITECTURE.md",
     "docs/CHANGES.md",
     "docs/CLAIMS.md",
     "docs/DECISIONS.md",
     "docs/REVIEW.md",
+    "docs/SPEED.md",
 ];
 
 /// Names and files that the pages cite at least.

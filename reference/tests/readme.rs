@@ -39,6 +39,22 @@ fn of_rules(edition: u8) -> Vec<[String; 5]> {
         .collect()
 }
 
+/// A kind of a row, with its own high where it has one: `4st`, `3st (to 1)`.
+fn kind_of(text: &str) -> (&str, Option<&str>) {
+    let own = text
+        .strip_suffix(')')
+        .and_then(|text| text.split_once(" (to "));
+    own.map_or((text, None), |(kind, high)| (kind, Some(high)))
+}
+
+/// The kinds of a row, `all` or by name.
+fn kinds_of(cell: &str) -> Vec<(&str, Option<&str>)> {
+    if cell == "all" {
+        return KIND_NAMES.map(|kind| (kind, None)).to_vec();
+    }
+    cell.split(", ").map(kind_of).collect()
+}
+
 /// The same of the README's rows, one for each kind of a row.
 fn of_readme() -> Vec<[String; 5]> {
     let path = Path::new(env!("CARGO_MANIFEST_DIR")).join("../README.md");
@@ -55,7 +71,9 @@ fn of_readme() -> Vec<[String; 5]> {
             panic!("not six cells: {line}");
         };
         let range = range.replace(',', "");
-        for kind in kinds.split(", ") {
+        for (kind, high) in kinds_of(kinds) {
+            let low = range.split(" to ").next().unwrap_or("");
+            let range = high.map_or(range.clone(), |high| format!("{low} to {high}"));
             rows.push([name, bit, &range, default, kind].map(str::to_string));
         }
     }
