@@ -1,4 +1,5 @@
--- The header of a project file: its values, their limits, and its refusals.
+-- The header of a project file as the code follows it: its values, the tests of their limits, its bytes and its refusals. Layout and Causes
+-- state the same by byte number.
 use Prim.Native.Nat.{ℕ}
 use mathlib.Core.Bool.{Bool, cond, _&&_}
 use mathlib.Core.List.{List, _∷_, _++_}

@@ -12,9 +12,24 @@ use Rattle.site.specs.Digits.{Bytes, two-bytes, bytes-of-word}
 use Rattle.site.specs.Bytes.{bytes-cons, bytes-append, two-bytes-of}
 use Rattle.header.specs.declared.Header.{Header}
 use Rattle.site.specs.Rules.{editionKnown}
+use Rattle.header.specs.Layout.{BytesByHeader}
 use Rattle.header.specs.Header.{headerLength, headerIn, countIn, admits, headerBytes}
 use Rattle.header.specs.Causes.{HeaderAccepted}
-use Rattle.header.specs.HeaderLaws.{admitted, edition-few}
+use Rattle.header.specs.HeaderLaws.{admitted, edition-few, tests-accept}
+
+-- WHAT IS WRITTEN is, byte for byte, what the values are by byte number
+pub bytes-by-header : (header : Header) (sites : ℕ) → BytesByHeader header sites (headerBytes header sites)
+bytes-by-header header sites = record {
+  eight = refl;
+  byte-0 = refl;
+  byte-1 = refl;
+  byte-2 = refl;
+  byte-3 = refl;
+  byte-4 = refl;
+  byte-5 = refl;
+  byte-6 = refl;
+  byte-7 = refl;
+}
 
 -- what a list says of its header
 pub record HeaderRead (header : Header) (sites : ℕ) (s : List ℕ) : Type 0 where
@@ -26,13 +41,12 @@ module _ (header : Header) (sites : ℕ) (known : editionKnown (header .edition)
   -- values within their limits are read as they were written, whatever follows them
   pub written-header : (rest : List ℕ) → HeaderRead header sites (headerBytes header sites ++ rest)
   written-header rest =
-      let a = admitted header sites e in
       let header-same : headerIn (headerBytes header sites ++ rest) ≡ header = rw (two-bytes (header .segments), two-bytes (header .crossings)) in
       let count-same : countIn (headerBytes header sites ++ rest) ≡ sites = two-bytes sites in
       record {
         header-is = header-same;
         count-is = count-same;
-        accepted = record { long = omega arith; edition = known; limits = rw header-same (a .limits); few = omega (arith, count-same, a .few) };
+        accepted = tests-accept _ (omega arith) known (rw (header-same, count-same) e);
       }
 
   -- they fit their bytes

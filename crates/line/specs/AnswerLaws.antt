@@ -1,12 +1,13 @@
 -- The answer of the public call: a line exactly where the edition is known and header and site are within their ranges, and it
 -- stands; otherwise the first refusal.
-use mathlib.Core.Path.{_≡_, refl}
-use mathlib.Core.Bool.{true, false}
+use mathlib.Core.Path.{_≡_, refl, sym, _∙_}
+use mathlib.Core.Bool.{true, false, true≢false}
 use Rattle.site.specs.declared.values.Site.{Site}
 use Rattle.site.specs.Rules.{editionKnown}
 use Rattle.site.specs.Writing.{sound}
 use Rattle.header.specs.declared.Header.{Header}
 use Rattle.header.specs.Header.{inLimits}
+use Rattle.header.specs.HeaderLaws.{limits-of, limits-pass}
 use Rattle.model.specs.Coefficients.{Coefficients}
 use Rattle.line.specs.declared.LineAnswer.{LineAnswer}
 use Rattle.line.specs.declared.LineAnswer.the-variants.{Made, EditionUnknown, OutsideLimits, OutsideRange}
@@ -26,12 +27,12 @@ module _ (c : Coefficients) (header : Header) (site : Site) where
   module _ (known : editionKnown (header .edition) ≡ true) where
     pub header-outside : inLimits header ≡ false → Answered OutsideLimits
     unfolding lineAnswer lineRefusal
-    header-outside out = (rw (known, out) refl, (rw (known, out) refl, (known, out)))
+    header-outside out = (rw (known, out) refl, (rw (known, out) refl, (known, λ within. true≢false (sym (limits-pass header within) ∙ out))))
 
     module _ (within : inLimits header ≡ true) where
       pub site-outside : sound (header .edition) (header .years) site ≡ false → Answered OutsideRange
       unfolding lineAnswer lineRefusal
-      site-outside out = (rw (known, within, out) refl, (rw (known, within, out) refl, (known, within, out)))
+      site-outside out = (rw (known, within, out) refl, (rw (known, within, out) refl, (known, limits-of header within, out)))
 
       pub all-inside : sound (header .edition) (header .years) site ≡ true → LineStands c header site (siteLine c header site)
           → Answered (Made (siteLine c header site))

@@ -10,7 +10,7 @@ use Rattle.site.specs.declared.values.Slot.the-variants.{Number}
 use Rattle.site.specs.Rules.{editionKnown}
 use Rattle.site.specs.Writing.{sound}
 use Rattle.header.specs.declared.Header.{Header}
-use Rattle.header.specs.Header.{inLimits}
+use Rattle.header.specs.Causes.{HeaderWithin}
 use Rattle.model.specs.Coefficients.{Coefficients}
 use Rattle.model.specs.Predicted.{predictedUnder, predictedOver}
 use Rattle.model.specs.Expected.{expectedUnder, expectedOver}
@@ -46,6 +46,6 @@ pub record LineStands (c : Coefficients) (header : Header) (site : Site) (line :
 abbrev pub AnswerStands : Coefficients → Header → Site → LineAnswer → Type 0
 AnswerStands c header site (Made line) = LineStands c header site line
 AnswerStands c header site EditionUnknown = editionKnown (header .edition) ≡ false
-AnswerStands c header site OutsideLimits = (editionKnown (header .edition) ≡ true) × (inLimits header ≡ false)
+AnswerStands c header site OutsideLimits = (editionKnown (header .edition) ≡ true) × (HeaderWithin header → ⊥)
 AnswerStands c header site OutsideRange =
-    (editionKnown (header .edition) ≡ true) × (inLimits header ≡ true) × (sound (header .edition) (header .years) site ≡ false)
+    (editionKnown (header .edition) ≡ true) × HeaderWithin header × (sound (header .edition) (header .years) site ≡ false)

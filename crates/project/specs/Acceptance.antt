@@ -14,6 +14,7 @@ use Rattle.site.specs.RecordCauses.{RecordCause, edition-neither, years-outside
 use Rattle.site.specs.RecordCauses.{field-spelled, cause-number, cause-not-zero}
 use Rattle.header.specs.Header.{editionIn, countIn}
 use Rattle.header.specs.Causes.{HeaderCause, header-cut, header-edition, header-limits, HeaderAccepted}
+use Rattle.header.specs.HeaderLaws.{accepted-edition}
 use Rattle.project.specs.declared.ScanAnswer.{ScanAnswer}
 use Rattle.project.specs.declared.ScanAnswer.the-variants.{Accepted, Refused}
 use Rattle.project.specs.File.{yearsIn, scanFile}
@@ -34,7 +35,7 @@ module _ (s : List ℕ) (room : ℕ) where
 
   record-none : NoCause s room → HeaderAccepted s → (p : ℕ) {number : ℕ} → RecordCause (editionIn s) (yearsIn s) (drop p s) number → RecordNumber s number p
       → ⊥
-  record-none none header p (edition-neither one two) r = not-both _ (header .edition) (neither-unknown (editionIn s) one two)
+  record-none none header p (edition-neither one two) r = not-both _ (accepted-edition s header) (neither-unknown (editionIn s) one two)
   record-none none header p (years-outside x y) r = not-both _ (years-known s header) y
   record-none none header p (map-past x y h) r = none .none-past p (record-past r)
   record-none none header p (kind-above x y h k) r = none .kinds-known p r
@@ -64,8 +65,8 @@ module _ (s : List ℕ) (room : ℕ) where
         record {
           none-past = λ p r. past-free r;
           none-after = λ p r. let e = same-place s (r .starts) (w .ends) in let m = r .more in omega arith;
-          edition-right = λ p r. not-both _ (w .header .edition) (neither-unknown (editionIn s) (r .not-one) (r .not-two));
-          limits-kept = λ p r. r .outside (w .header .limits, w .header .few);
+          edition-right = λ p r. not-both _ (accepted-edition s (w .header)) (neither-unknown (editionIn s) (r .not-one) (r .not-two));
+          limits-kept = λ p r. r .outside (w .header .limits);
           kinds-known = λ p r. record-free 5 p r;
           none-lacked = λ p r. record-free 6 p r;
           none-missing = λ p r. record-free 7 p r;

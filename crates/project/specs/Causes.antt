@@ -25,7 +25,7 @@ pub record RecordNumber (s : List ℕ) (number p : ℕ) : Type 0 where
 
 -- "header, kind, map or field runs past the end": 1, at 0 for the header. A year's traffic too: "a missing value is 1"
 pub data RunsPast (s : List ℕ) : ℕ → Type 0 where
-  header-past : length s < headerLength → RunsPast s 0
+  header-past : length s < 8 → RunsPast s 0
   record-past : {p : ℕ} → RecordNumber s 1 p → RunsPast s p
 
 -- "bytes after the last record": 2, at the "place of the first"

@@ -15,7 +15,7 @@ use Rattle.site.specs.Record.{word, readSite}
 use Rattle.site.specs.BytesRead.{bears, past-nothing}
 use Rattle.site.specs.Theorems.{longest, bears-most, read-length}
 use Rattle.header.specs.Header.{editionIn, headerLength, countIn, mostSites, headerNumber}
-use Rattle.header.specs.HeaderLaws.{header-accepted}
+use Rattle.header.specs.HeaderLaws.{header-accepted, accepted-admitted}
 use Rattle.project.specs.declared.ScanAnswer.the-variants.{Refused}
 use Rattle.project.specs.File.{yearsIn, afterRecord, scanRecords, scanFile}
 use Rattle.project.specs.Scan.{scan-past-header, scan-header}
@@ -91,7 +91,7 @@ module _ (s t : List ℕ) (full : longestFile < length s) where
   same-by true e =
       let z = eqb-true (headerNumber s) 0 e in
       let header = header-accepted s z in
-      let few = header .few in
+      let few = accepted-admitted s header .few in
       scan-past-header (s ++ t) (same-header ∙ z)
       ∙ rw (same-edition, same-years, same-count) (same-records (editionIn s) (yearsIn s) (countIn s) (countIn s) 0 headerLength (omega arith) (omega arith))
       ∙ sym (scan-past-header s z)

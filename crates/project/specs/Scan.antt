@@ -20,7 +20,7 @@ use Rattle.site.specs.Accepted.{number-read}
 use Rattle.site.specs.Theorems.{read-length}
 use Rattle.header.specs.Header.{editionIn, headerLength, countIn, inLimits, headerNumber}
 use Rattle.header.specs.Causes.{HeaderAccepted}
-use Rattle.header.specs.HeaderLaws.{header-cause, cause-header, header-not-zero, header-accepted, accepted-header}
+use Rattle.header.specs.HeaderLaws.{header-cause, cause-header, header-not-zero, header-accepted, accepted-header, accepted-admitted}
 use Rattle.project.specs.declared.ScanAnswer.{ScanAnswer}
 use Rattle.project.specs.declared.ScanAnswer.the-variants.{Accepted, Refused}
 use Rattle.project.specs.File.{yearsIn, afterRecord, place-of-record, scanRecords, scanFile}
@@ -29,7 +29,7 @@ use Rattle.project.specs.Causes.{Starts, first, next, RecordNumber, Byte
 -- an accepted header has years that the site reader takes: no record of the file is refused with 4
 pub years-known : (s : List ℕ) → HeaderAccepted s → yearsKnown (yearsIn s) ≡ true
 unfolding inLimits
-years-known s a = and-left (yearsKnown (yearsIn s)) _ (a .limits)
+years-known s a = and-left (yearsKnown (yearsIn s)) _ (accepted-admitted s a .limits)
 
 pub read-zero : (edition years : ℕ) (x : List ℕ) (value : Site) (n : ℕ) → readSite edition years x ≡ site.Read value n → refusalOf edition years x ≡ 0
 read-zero edition years x value n e = sym (number-read edition years x) ∙ ap readNumber e

@@ -15,7 +15,7 @@ use Rattle.site.specs.Writing.{Valid}
 use Rattle.site.specs.Accepted.{reading}
 use Rattle.site.specs.ReadWrite.{read-valid}
 use Rattle.header.specs.Header.{editionIn, inLimits, headerLength, headerIn, countIn, mostSites}
-use Rattle.header.specs.HeaderLaws.{accepted-header}
+use Rattle.header.specs.HeaderLaws.{accepted-header, accepted-edition, accepted-admitted}
 use Rattle.project.specs.declared.ScanAnswer.the-variants.{Accepted, Refused}
 use Rattle.project.specs.File.{yearsIn, afterRecord, scanRecords, scanFile, taken, sitesFrom, sitesIn}
 use Rattle.project.specs.Scan.{scan-past-header, accepted-exactly}
@@ -77,13 +77,14 @@ unfolding sitesIn
 accepted-sites s n e =
     let w = accepted-exactly s n .0 e in
     let c = w .count-is in
-    let few = w .header .few in
+    let header = accepted-admitted s (w .header) in
+    let few = header .few in
     let q : scanRecords (editionIn s) (yearsIn s) (countIn s) (countIn s) headerLength s ≡ Accepted n =
     sym (scan-past-header s (accepted-header s (w .header))) ∙ e in
     record {
       long = w .header .long;
-      edition = w .header .edition;
-      limits = w .header .limits;
+      edition = accepted-edition s (w .header);
+      limits = header .limits;
       count-is = c;
       few = omega arith;
       sites =

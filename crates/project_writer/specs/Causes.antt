@@ -8,12 +8,12 @@ use Rattle.site.specs.declared.values.Site.{Site}
 use Rattle.site.specs.Rules.{editionKnown}
 use Rattle.site.specs.Writing.{Valid}
 use Rattle.header.specs.declared.Header.{Header}
-use Rattle.header.specs.Header.{inLimits, mostSites}
+use Rattle.header.specs.Causes.{HeaderWithin}
 use Rattle.project_writer.specs.ProjectFile.{fileOf}
 
--- "Header limits": of years, calibrations and sites
+-- "Header limits": of years, calibrations and, "The limit becomes 1,200", sites
 abbrev pub LimitsKept : Header → List Site → Type 0
-LimitsKept header sites = (inLimits header ≡ true) × (length sites ≤ mostSites)
+LimitsKept header sites = HeaderWithin header × (length sites ≤ 1200)
 
 -- the sites before an index are valid in a project of an edition and of so many years
 abbrev pub ValidBelow : (edition years : ℕ) → List Site → ℕ → Type 0

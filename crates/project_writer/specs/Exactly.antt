@@ -42,7 +42,7 @@ module _ (header : Header) (sites : List Site) where
 
   -- what passes the tests of the limits and of the sites, and the converse
   pub limits-kept : admits header (length sites) ≡ true → LimitsKept header sites
-  limits-kept e = let a = admitted header (length sites) e in (a .limits, a .few)
+  limits-kept e = let a = admitted header (length sites) e in (a .within, a .few)
 
   pub writable : editionKnown (header .edition) ≡ true → admits header (length sites) ≡ true → counted ≡ length sites → Writable header sites
   writable x e all = record { edition = x; limits = limits-kept e; valid = all-valid-exactly (header .edition) (header .years) sites .0 all }

@@ -19,7 +19,7 @@ use Rattle.site.specs.WriteRead.{write-read}
 use Rattle.site.specs.ReadWrite.{read-write}
 use Rattle.header.specs.declared.Header.{Header}
 use Rattle.header.specs.Header.{headerLength, editionIn, headerIn, countIn, mostSites, headerBytes}
-use Rattle.header.specs.HeaderLaws.{accepted-header}
+use Rattle.header.specs.HeaderLaws.{accepted-header, limits-of}
 use Rattle.header.specs.HeaderBytes.{written-header, header-bytes, header-again}
 use Rattle.project.specs.declared.ScanAnswer.the-variants.{Accepted, Refused}
 use Rattle.project.specs.File.{yearsIn, afterRecord, taken, scanRecords, scanFile, sitesFrom, sitesIn}
@@ -118,7 +118,7 @@ accepted-writable s n e =
     let few : length (sitesIn s) ≤ mostSites = omega (arith, file .sites .count-is, file .few) in
     record {
       edition = file .edition;
-      limits = (file .limits, few);
+      limits = (limits-of (headerIn s) (file .limits), few);
       valid = all-valid-exactly (editionIn s) (yearsIn s) (sitesIn s) .0 (sites-sound (editionIn s) (yearsIn s) n (sitesIn s) (file .sites));
     }
 

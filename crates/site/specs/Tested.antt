@@ -2,20 +2,22 @@
 use mathlib.Core.Path.{_≡_, refl, sym, _∙_}
 use mathlib.Core.Bool.{Bool, true, false, _&&_, _||_, not, and-false, true≢false}
 use mathlib.Core.List.{List, [], _∷_}
+use mathlib.Core.Logic.{_↔_, _⊎_, inl, inr}
 use Prim.Native.Nat.{ℕ, zero, suc, _+_, _<_, _≤_}
 use native.Mathlib.Omega.{arith}
 use lib.ListN.{length, getD, length-map}
 use lib.Dec.{leb, ltb, eqb}
-use borrow.Author.Tests.{eqb-true, leb-true, lt-leb}
+use borrow.Author.Tests.{eqb-true, leb-true, le-leb, lt-leb}
 use Rattle.site.specs.declared.rules.Rule.{Rule}
 use Rattle.site.specs.declared.rules.Rule.the-variants.{Foreign, Lacking, Needed, Optional, Default}
 use Rattle.site.specs.declared.rules.Entry.{Entry}
 use Rattle.site.specs.declared.rules.Entry.the-variants.{Always, OnCurve}
 use Rattle.site.specs.declared.values.Slot.the-variants.{Absent}
-use Rattle.site.specs.Rules.{hasSight, entriesBy, entriesOf, lastKind, editionKnown, slotCount, allows, absentOf, needed, lacking, bits}
+use Rattle.site.specs.Rules.{hasSight, entriesBy, entriesOf, lastKind, editionKnown, mostYears, yearsKnown, slotCount, allows, absentOf, needed, lacking, bits}
 use Rattle.site.specs.Rules.{ruleOf, onCurve, settled, settle}
 use Rattle.site.specs.Writing.{fits}
-use Rattle.laws.specs.Truth.{and-left, and-right}
+use Rattle.site.specs.LaterLaws.{years-within}
+use Rattle.laws.specs.Truth.{and-left, and-right, not-both}
 
 -- a kind is one of four
 pub by-kind : (P : ℕ → Type 0) → P 0 → P 1 → P 2 → P 3 → (kind : ℕ) → kind ≤ lastKind → P kind
@@ -35,6 +37,26 @@ neither-unknown (suc zero) one two = absurd (one refl)
 neither-unknown (suc (suc zero)) one two = absurd (two refl)
 neither-unknown (suc (suc (suc edition))) one two =
     let more : 2 < suc (suc (suc edition)) = omega arith in rw (lt-leb _ _ more) (and-false (leb 1 (suc (suc (suc edition)))))
+
+pub known-either : (edition : ℕ) → (editionKnown edition ≡ true) ↔ ((edition ≡ 1) ⊎ (edition ≡ 2))
+known-either edition = (either edition, known)
+  where
+    either : (edition : ℕ) → editionKnown edition ≡ true → (edition ≡ 1) ⊎ (edition ≡ 2)
+    either zero e = not-both _ e refl
+    either (suc zero) e = inl refl
+    either (suc (suc zero)) e = inr refl
+    either (suc (suc (suc edition))) e = not-both _ e (neither-unknown (suc (suc (suc edition))) (λ one. omega arith) (λ two. omega arith))
+
+    known : (edition ≡ 1) ⊎ (edition ≡ 2) → editionKnown edition ≡ true
+    known (inl one) = rw one
+    known (inr two) = rw two
+
+-- 1 to 10 are the years
+pub years-exactly : (years : ℕ) → (yearsKnown years ≡ true) ↔ ((1 ≤ years) × (years ≤ 10))
+years-exactly years = (
+  λ e. (years-within years e .0, omega (arith, years-within years e .1)),
+  λ h. rw (le-leb 1 years (h .0), le-leb years mostYears (omega (arith, h .1))),
+)
 
 -- and an edition has limited sight at stop crossings, or lacks it
 pub by-rules : (P : Bool → ℕ → Type 0) → ((sight : Bool) → P sight 0) → P true 1 → P false 1 → P true 2 → P false 2
