@@ -4,17 +4,28 @@ use Prim.Native.Nat.{ℕ, _+_, _*_, _≤_, _<_}
 use mathlib.Core.Path.{_≡_, ap}
 use native.Mathlib.Nat.{mul-pos, mul-le-mul-left, mul-le-mul-right}
 use native.Mathlib.Omega.{arith}
-use Rattle.estimate.specs.Fraction.{Fraction, fraction, _≤ᶠ_, _//_, millionths}
+use Rattle.estimate.specs.Fraction.{Fraction, fraction, _≤ᶠ_, _=ᶠ_, _//_, millionths}
 use Rattle.estimate.specs.FractionLaws.{≤ᶠ-trans}
 use Rattle.estimate.specs.Standing.{LowRight, HighRight}
 use Rattle.wide.specs.Scaling.{floor, ceiling}
 use Rattle.wide.specs.Rounding.{Narrow, floor-le, floor-lt, ceiling-ge, ceiling-lt, ≤-floor, floor-≤, ≤-ceiling, ceiling-≤, scaled-order, rounded-width}
-use Rattle.model.specs.Expected.{weighed, expectedLow, expectedHigh}
+use Rattle.site.specs.declared.values.Slot.{Slot}
+use Rattle.site.specs.declared.values.Slot.the-variants.{Absent, Number}
+use Rattle.model.specs.Expected.{weighed, withHistory, expectedLow, expectedHigh}
 
 -- a larger prediction has a larger expectation
 pub weighed-mono : (k : Fraction) (O : ℕ) {N M : Fraction} → N ≤ᶠ M → weighed k O N ≤ᶠ weighed k O M
 unfolding weighed
 weighed-mono k O h = record { cross = omega (arith, mul-le-mul-left (k .den * (k .den + k .num * O)) (h .cross)) }
+
+-- equal predictions have equal expectations, with a history and without one
+weighed-same : (k : Fraction) (O : ℕ) {N M : Fraction} → N =ᶠ M → weighed k O N =ᶠ weighed k O M
+unfolding weighed
+weighed-same k O e = record { cross = omega (arith, ap (λ (z : ℕ). k .den * (k .den + k .num * O) * z) (e .cross)) }
+
+pub history-same : (k : Fraction) (slot : Slot) {N M : Fraction} → N =ᶠ M → withHistory k slot N =ᶠ withHistory k slot M
+history-same k Absent e = e
+history-same k (Number O) e = weighed-same k O e
 
 -- what a rounding E of a million times n K / D says, times another denominator F
 module _ (E D n K F : ℕ) where

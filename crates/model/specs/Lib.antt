@@ -15,8 +15,8 @@ pub mod CrashCounts
 pub mod CountedWidth
 pub mod Grade
 pub mod TermLaws
-pub mod SameTraffic
 pub mod ExpectedLaws
+pub mod SameTraffic
 pub mod Truncation
 pub mod Neighbours
 pub mod KnownFigures

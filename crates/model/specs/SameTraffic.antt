@@ -1,5 +1,5 @@
 -- THE YEARS OF A TERM: a product is in proportion to its years, so that a site whose later years all have the traffic of the first has
--- the estimates of the site without later years. A sum of terms that are each of all the years has other ones.
+-- the estimates of the site without later years, predicted and expected. A sum of terms that are each of all the years has other ones.
 use Prim.Native.Nat.{ℕ, zero, suc, _+_, _-_, _*_, _≤_, _<_}
 use mathlib.Core.Path.{_≡_, refl, ap}
 use mathlib.Core.Bool.{Bool, true, false, cond}
@@ -18,6 +18,8 @@ use Rattle.site.specs.Writing.{slotsOf}
 use Rattle.header.specs.declared.Header.{Header}
 use Rattle.model.specs.Coefficients.{Coefficients}
 use Rattle.model.specs.Parts.{Part, Term, exact, termAt, segmentStart, segmentParts, crossingStart, crossingParts, partsOf}
+use Rattle.model.specs.Expected.{overdispersionOf, expectedUnder, expectedOver}
+use Rattle.model.specs.ExpectedLaws.{history-same}
 use Rattle.model.specs.Predicted.{productUnder, productOver, termOf, yearTerm, laterTerms, yearlyTerms, termsOf, sumUnder, sumOver, predictedUnder, predictedOver}
 
 -- a product whose first factor has so many times the numerator of another's
@@ -110,3 +112,12 @@ module _ (k : Coefficients) (header : Header) (site : Site) (d : ℕ) (some : 1 
       rw each
       (same-sum (λ term. productOver d (partsOf k (header .segments) (header .crossings) site term)) (sumOver k header site d) refl
       (λ term terms. refl) site (by-years (productOver d) (λ x parts. refl) k (header .segments) (header .crossings) site _ _) (header .years) some same)
+
+  -- "the history still covers the whole period": it is weighed against the same prediction
+  pub same-expected-under : expectedUnder k header site d =ᶠ expectedUnder k header (ofOneTraffic site) d
+  unfolding expectedUnder
+  same-expected-under = history-same (overdispersionOf k site) (site .observed) same-under
+
+  pub same-expected-over : expectedOver k header site d =ᶠ expectedOver k header (ofOneTraffic site) d
+  unfolding expectedOver
+  same-expected-over = history-same (overdispersionOf k site) (site .observed) same-over
