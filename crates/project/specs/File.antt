@@ -9,7 +9,7 @@ use lib.Dec.{ltb, eqb}
 use Rattle.site.specs.declared.values.Site.{Site}
 use Rattle.site.specs.declared.values.SiteAnswer.{SiteAnswer}
 use Rattle.site.specs.declared.values.SiteAnswer.the-variants as site
-use Rattle.site.specs.Answers.{readPlace}
+use Rattle.site.specs.Answers.{readValue}
 use Rattle.site.specs.Record.{readSite}
 use Rattle.header.specs.Header.{editionIn, headerLength, headerIn, countIn, headerNumber}
 use Rattle.project.specs.declared.ScanAnswer.{ScanAnswer}
@@ -22,7 +22,7 @@ yearsIn s = headerIn s .years
 -- "Each record is handed to the site reader as the part that starts at its kind byte .. the project reader adds the part's
 -- start to the place": what follows the record at a place
 abbrev pub afterRecord : (at : ℕ) → SiteAnswer → (ℕ → ScanAnswer) → ScanAnswer
-afterRecord at (site.Refused number) k = Refused number (at + readPlace (site.Refused number))
+afterRecord at (site.Refused number) k = Refused number (at + readValue (site.Refused number))
 afterRecord at (site.Read site n) k = k (at + n)
 
 -- "Place is the record's first byte": the reader's place is 0

@@ -1,4 +1,4 @@
--- How the tests of the years and of a record's bytes come out, in document 01's order, and a record that passes them all.
+-- How the tests of the edition, of the years and of a record's bytes come out, in document 01's order, and a record that passes them all.
 use mathlib.Core.Path.{_≡_, refl, ap, sym, _∙_}
 use mathlib.Core.Bool.{Bool, true, false, cond, _||_, not, true≢false}
 use mathlib.Core.List.{List}

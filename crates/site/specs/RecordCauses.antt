@@ -1,5 +1,5 @@
--- Document 01's causes to refuse the bytes that a record starts, 4 of the years, then 1 and 5 to 9, in its own words and order and by
--- bit number.
+-- Document 01's causes to refuse the bytes that a record starts, 3 of the edition and 4 of the years, then 1 and 5 to 9, in its own words
+-- and order and by bit number.
 -- The site reader has a number for them exactly where that cause is the first.
 use mathlib.Core.Path.{_≡_, refl, ap, sym, _∙_}
 use mathlib.Core.Bool.{Bool, true, false, cond, _&&_, _||_, not, Bool·not-not}

@@ -154,6 +154,10 @@ writeRefusal edition years site room =
     (cond (yearsKnown years) (cond (soundSite edition years site) (cond (leb (length (recordOf edition site)) room) 0 10) 8) 4)
     3
 
+-- and of a site that is measured: the writer's where the buffer just suffices
+abbrev pub measureRefusal : (edition years : ℕ) → Site → ℕ
+measureRefusal edition years site = writeRefusal edition years site (length (recordOf edition site))
+
 -- what the site writer answers
 unfoldable pub writeAnswer : (edition years : ℕ) → Site → ℕ → WriteAnswer
 writeAnswer edition years site room = wroteAnswer (writeRefusal edition years site room) (length (recordOf edition site))

@@ -202,7 +202,7 @@ pub enum SiteAnswer {
     Refused(u8),
 }
 
-// What a site's record measures, before any of it is written.
+// The length of a site's record, before any of it is written, or that the edition, the years or the site is outside its range.
 pub enum Measure {
     Length(usize),
     OutsideRange,

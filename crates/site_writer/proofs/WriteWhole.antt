@@ -26,23 +26,23 @@ use Rattle.site.specs.Tested.{bitCount, tested-rules}
 use Rattle.site.specs.WriteRead.{firstField, secondField, otherFields, bytes-parts}
 use Rattle.site.specs.LaterLaws.{later-read-back}
 use Rattle.site.specs.Theorems.{ten-exactly, zero-exactly}
-use Rattle.site.specs.Promises.{WritesSite, writes-site}
+use Rattle.site.specs.Promises.{MeasuresSite, measures-site, WritesSite, writes-site}
 
 -- an edition or years outside their limits, a kind above the last, or later years that are not right are outside their range
 module _ (edition years : ℕ) (site : Site) where
-  not-measured : sound edition years site ≡ false → OutsideRange ≡ measureOf edition years site
+  not-measured : sound edition years site ≡ false → MeasuresSite edition years site OutsideRange
   unfolding measureOf
-  not-measured e = rw e
+  not-measured e = measures-site edition years site OutsideRange (rw e)
 
-  pub edition-outside : editionKnown edition ≡ false → OutsideRange ≡ measureOf edition years site
+  pub edition-outside : editionKnown edition ≡ false → MeasuresSite edition years site OutsideRange
   unfolding sound
   edition-outside e = not-measured (rw e)
 
-  pub years-outside : yearsKnown years ≡ false → OutsideRange ≡ measureOf edition years site
+  pub years-outside : yearsKnown years ≡ false → MeasuresSite edition years site OutsideRange
   unfolding sound
   years-outside e = not-measured (rw e (and-false (editionKnown edition)))
 
-  pub kind-outside : lastKind < site .kind → OutsideRange ≡ measureOf edition years site
+  pub kind-outside : lastKind < site .kind → MeasuresSite edition years site OutsideRange
   unfolding sound soundSite
   kind-outside h = not-measured (rw (lt-leb (site .kind) lastKind h) (by (editionKnown edition) (yearsKnown years)))
     where
@@ -51,7 +51,7 @@ module _ (edition years : ℕ) (site : Site) where
       by true false = refl
       by false b = refl
 
-  pub later-outside : laterSound years site ≡ false → OutsideRange ≡ measureOf edition years site
+  pub later-outside : laterSound years site ≡ false → MeasuresSite edition years site OutsideRange
   unfolding sound soundSite
   later-outside e =
       not-measured

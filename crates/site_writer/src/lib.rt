@@ -10,9 +10,9 @@ ghost use Rattle.site.specs.Rules.{lastKind, slotCount, laterYears, yearsKnown,
 ghost use Rattle.site.specs.Yearly.{laterGiven};
 ghost use Rattle.laws.specs.Stores.{Puts};
 ghost use Rattle.site.specs.Writing.{curveHeld, rulesHeld, fits, allFit, slotBit, mapOf, twoBytes, slotBytes, fieldBytes, bytesOf};
-ghost use Rattle.site.specs.Writing.{laterBytes, spreadBytes, recordOf, laterFits, laterSound, sound, Valid, measureOf};
+ghost use Rattle.site.specs.Writing.{laterBytes, spreadBytes, recordOf, laterFits, laterSound, sound, Valid};
 ghost use Rattle.site.specs.Tested.{bitCount};
-ghost use Rattle.site.specs.Promises.{WritesSite};
+ghost use Rattle.site.specs.Promises.{MeasuresSite, WritesSite};
 use site::rules;
 use site::rules::Entry;
 use site::rules::LAST_KIND;
@@ -271,7 +271,7 @@ fn is_later_sound(years: u64, site: Site) -> bool
 
 // The length of a site's record, where nothing of it is outside its range.
 pub fn measure_site(edition: u64, years: u64, site: Site) -> Measure
-    ensures { λ r. ⌜ r ≡ measureOf edition years site ⌝ }
+    ensures { λ r. ⌜ MeasuresSite edition years site r ⌝ }
 {
     if !rules::is_edition_known(edition) {
         return Measure::OutsideRange;

@@ -4,6 +4,7 @@ use borrow.Author.Tests.{not-true, not-false}
 use mathlib.Core.Path.{_≡_, sym, _∙_}
 use mathlib.Core.Bool.{true}
 use Rattle.site.specs.Rules.{yearsKnown}
+use Rattle.site.specs.Promises.{measures-site}
 use Rattle.site_writer.proofs.WriteWhole.{edition-outside, years-outside, kind-outside, later-outside, found, measured-by}
 use Rattle.site_writer.proofs.measure_site.Statement.{statement}
 use Rattle.site_writer.proofs.measure_site.Tie as tie
@@ -46,7 +47,7 @@ returns-5 c =
     let f = found (a .edition) (a .site) _ _ (kind .if3 .left) (slots .slots-of .ensures) (rules .rules-held .ensures) in
     let whole = measured-by f (a .years) (sym (later .before .is-later-sound .ensures) ∙ not-false _ (later .if4 .left))
     (sym (edition .before .is-edition-known .ensures) ∙ not-false _ (edition .if1 .left)) (years-in years) in
-    rw (whole, ← given .later-given .ensures .0, ← minor .minor-later .ensures .0) (c .measure-slots .ensures)
+    measures-site _ _ _ _ (rw (whole, ← given .later-given .ensures .0, ← minor .minor-later .ensures .0) (c .measure-slots .ensures))
 
 pub measure-site-spec : {M : Type 1} → statement M
 measure-site-spec =

@@ -17,7 +17,7 @@ edition-in c = sym (c .before .before .is-edition-known .ensures) ∙ not-false 
 
 measured : (c : tie.After-measure) → let years = c .before .before .before in let a = years .before .before .before .before .before .args in
     Valid (a .edition) (a .years) (a .site) × (c .measure .given .0 .0 ≡ length (recordOf (a .edition) (a .site)))
-measured c = measured-length _ _ _ _ (sym (c .before .before .measure-site .ensures) ∙ c .measure .given .1)
+measured c = measured-length _ _ _ _ (sym (c .before .before .measure-site .ensures .answer-is) ∙ c .measure .given .1)
 
 returns : tie.Need-returns
 returns c = edition-refused _ _ _ _ (sym (c .before .is-edition-known .ensures) ∙ not-true _ (c .if1 .taken))
@@ -36,7 +36,7 @@ returns-4 c =
     let measure = c .before .before in
     let years = measure .before in
     outside _ _ _ _ (edition-in (years .before)) (sym (years .before .are-years-known .ensures) ∙ not-false _ (years .if2 .left))
-    (measured-outside _ _ _ (sym (measure .measure-site .ensures) ∙ c .enum-told .given .1))
+    (measured-outside _ _ _ (sym (measure .measure-site .ensures .answer-is) ∙ c .enum-told .given .1))
 
 returns-5 : tie.Need-returns-5
 returns-5 c =

@@ -22,7 +22,7 @@ limits c = let course = c .before .before in rw (course .course2 .given .1) at (
 -- what a length that is measured tells of the site
 measured : (c : tie.After-measure) → let told = c .before .before .before in let start = told .before .before .before .before in
     Valid (start .args .edition) (start .args .years) (start .args .site) × (c .measure .given .0 .0 ≡ length (recordOf (start .args .edition) (start .args .site)))
-measured c = measured-length _ _ _ _ (sym (c .before .before .measure-site .ensures) ∙ c .measure .given .1)
+measured c = measured-length _ _ _ _ (sym (c .before .before .measure-site .ensures .answer-is) ∙ c .measure .given .1)
 
 -- a site that is written is valid and its record fits
 placed : (c : tie.After-course3) → let start = c .before .before .before in
@@ -47,7 +47,7 @@ add-t19 c =
 returns-2 : tie.Need-returns-2
 returns-2 c =
     let site = c .before .before in
-    let outside = measured-outside _ _ _ (sym (site .measure-site .ensures) ∙ c .enum-told .given .1) in
+    let outside = measured-outside _ _ _ (sym (site .measure-site .ensures .answer-is) ∙ c .enum-told .given .1) in
     rw (site .before .before .course2 .given .1, outside) (refl, refl)
 
 returns-3 : tie.Need-returns-3
