@@ -1,10 +1,10 @@
 -- e^x and e^(-x) at depth d, for a fraction x from 0.
 use Prim.Native.Nat.{ℕ, zero, suc, _+_, _*_, _^_, _<_}
-use mathlib.Core.Path.{_≡_, ap}
+use mathlib.Core.Path.{_≡_, refl, ap}
 use native.Mathlib.Nat.{mul-pos, pow-zero, pow-suc, one-le-pow}
 use native.Mathlib.Omega.{arith}
 use lib.Dec.{lit<}
-use Rattle.estimate.specs.Fraction.{Fraction, _=ᶠ_, whole, fraction, inverse, _+ᶠ_, _*ᶠ_}
+use Rattle.estimate.specs.Fraction.{Fraction, _=ᶠ_, whole, fraction, _//_, inverse, _+ᶠ_, _*ᶠ_}
 
 -- x^i/i! at x = n/D: its numerator n^i, one factor at a time,
 unfoldable pub termNum : (n i : ℕ) → ℕ
@@ -43,23 +43,27 @@ sumWithTail m x = record {
   pos = term-den-positive (x .den) (suc m) (x .pos);
 }
 
--- "e^x, x at least 0, m = 40 + d: under is the sum"
+-- "m = 40 + d"
+abbrev pub lastTerm : (d : ℕ) → ℕ
+lastTerm d = 40 + d
+
+-- "e^x, x at least 0 ..: under is the sum"
 unfoldable pub expUnder : (d : ℕ) → Fraction → Fraction
-expUnder d x = partialSum (40 + d) x
+expUnder d x = partialSum (lastTerm d) x
 
 -- "over adds" the tail
 unfoldable pub expOver : (d : ℕ) → Fraction → Fraction
-expOver d x = sumWithTail (40 + d) x
+expOver d x = sumWithTail (lastTerm d) x
 
 pub exp-under-positive : (d : ℕ) (x : Fraction) → 0 < expUnder d x .num
 unfolding expUnder partialSum
-exp-under-positive d x = sum-num-positive (x .num) (x .den) (40 + d) (x .pos)
+exp-under-positive d x = sum-num-positive (x .num) (x .den) (lastTerm d) (x .pos)
 
 pub exp-over-positive : (d : ℕ) (x : Fraction) → 0 < expOver d x .num
 unfolding expOver sumWithTail
 exp-over-positive d x =
-    let some : 0 < x .den * suc (40 + d) = mul-pos (x .pos) (omega arith) in
-    omega (arith, mul-pos (sum-num-positive (x .num) (x .den) (40 + d) (x .pos)) some)
+    let some : 0 < x .den * suc (lastTerm d) = mul-pos (x .pos) (omega arith) in
+    omega (arith, mul-pos (sum-num-positive (x .num) (x .den) (lastTerm d) (x .pos)) some)
 
 -- "For e^(-x), reciprocals, exchanged."
 unfoldable pub expNegUnder : (d : ℕ) → Fraction → Fraction
@@ -120,3 +124,20 @@ partial-sum-adds-terms (suc m) x = record { cross = omega (arith, terms-more m x
 pub with-tail-adds-terms : (m : ℕ) (x : Fraction) → sumWithTail m x =ᶠ addedTerms m x +ᶠ whole 2 *ᶠ term (suc m) x
 unfolding sumWithTail whole fraction _+ᶠ_ _*ᶠ_
 with-tail-adds-terms m x = record { cross = omega (arith, terms-more m x (partial-sum-adds-terms m x) 2) }
+
+-- WORKED FIGURES
+
+-- e^1 at depth d: under is the sum to the m-th term, and over adds 2/f
+pub record EToOne (d m f : ℕ) : Type 0 where
+  pub under : expUnder d (whole 1) =ᶠ addedTerms m (whole 1)
+  pub over : expOver d (whole 1) =ᶠ expUnder d (whole 1) +ᶠ 2 // f
+
+-- at depth 1 to the 41st, and 2/42! more
+pub e-at-depth-one : EToOne 1 41 1405006117752879898543142606244511569936384000000000
+unfolding expUnder expOver partialSum sumWithTail sumNum termNum termDen whole fraction _+ᶠ_ _//_
+e-at-depth-one = record { under = partial-sum-adds-terms 41 (whole 1); over = record { cross = refl } }
+
+-- at depth 2 to the 42nd, and 2/43! more
+pub e-at-depth-two : EToOne 2 42 60415263063373835637355132068513997507264512000000000
+unfolding expUnder expOver partialSum sumWithTail sumNum termNum termDen whole fraction _+ᶠ_ _//_
+e-at-depth-two = record { under = partial-sum-adds-terms 42 (whole 1); over = record { cross = refl } }

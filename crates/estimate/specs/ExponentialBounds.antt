@@ -5,7 +5,7 @@ use native.Mathlib.Omega.{arith}
 use Rattle.estimate.specs.Fraction.{Fraction, fraction, _≤ᶠ_, _<ᶠ_, _=ᶠ_, whole, tenThousandths, inverse, _+ᶠ_, _*ᶠ_, _^ᶠ_}
 use Rattle.estimate.specs.FractionLaws.{≤ᶠ-trans, ≤ᶠ-refl, *ᶠ-mono, ^ᶠ-mono, inverse-antitone}
 use Rattle.estimate.specs.Standing.{LowRight, HighRight}
-use Rattle.estimate.specs.Exponential.{partialSum, sumWithTail, expUnder, expOver, expNegUnder, expNegOver, exp-under-positive, exp-over-positive}
+use Rattle.estimate.specs.Exponential.{partialSum, sumWithTail, lastTerm, expUnder, expOver, expNegUnder, expNegOver, exp-under-positive, exp-over-positive}
 use Rattle.estimate.specs.ExponentialLaws.{tail-bounds-every-sum, partial-sum-mono, sum-with-tail-mono, partial-sum-strict, sum-with-tail-strict}
 use Rattle.estimate.specs.ExponentialLaws.{sum-≤-with-tail, one-≤-partial-sum, one-plus-≤-partial-sum, sum-with-tail-zero}
 use Rattle.estimate.specs.ExponentialProducts.{partial-sum-submultiplicative, partial-sum-supermultiplicative}
@@ -63,12 +63,12 @@ exp-powers-in-order p q h k l = exp-bounds-in-order (at-most-power q h) (at-leas
 
 pub exp-under-at-most : (d : ℕ) (x : Fraction) → AtMostExp (expUnder d x) x
 unfolding expUnder
-exp-under-at-most d x = at-most-by-sum (40 + d) (≤ᶠ-refl (partialSum (40 + d) x))
+exp-under-at-most d x = at-most-by-sum (lastTerm d) (≤ᶠ-refl (partialSum (lastTerm d) x))
 
 -- up to 21 the tail law holds at depth 0 already
 pub exp-over-at-least : (d : ℕ) (x : Fraction) → x ≤ᶠ whole 21 → AtLeastExp (expOver d x) x
 unfolding expOver whole _*ᶠ_
-exp-over-at-least d x h = at-least-by-tail (40 + d) (omega (arith, h .cross)) (≤ᶠ-refl (sumWithTail (40 + d) x))
+exp-over-at-least d x h = at-least-by-tail (lastTerm d) (omega (arith, h .cross)) (≤ᶠ-refl (sumWithTail (lastTerm d) x))
 
 pub exp-under-≤-over : (x : Fraction) → x ≤ᶠ whole 21 → (d e : ℕ) → expUnder d x ≤ᶠ expOver e x
 exp-under-≤-over x h d e = exp-bounds-in-order (exp-under-at-most d x) (exp-over-at-least e x h) (≤ᶠ-refl x)
@@ -79,11 +79,11 @@ exp-neg-under-≤-over x h d e = inverse-antitone (exp-under-positive e x) (exp-
 
 pub exp-under-≥-one : (d : ℕ) (x : Fraction) → whole 1 ≤ᶠ expUnder d x
 unfolding expUnder
-exp-under-≥-one d x = one-≤-partial-sum (40 + d) x
+exp-under-≥-one d x = one-≤-partial-sum (lastTerm d) x
 
 pub exp-over-zero : (d : ℕ) (x : Fraction) → x .num ≡ 0 → expOver d x =ᶠ whole 1
 unfolding expOver
-exp-over-zero d x e = sum-with-tail-zero (40 + d) x e
+exp-over-zero d x e = sum-with-tail-zero (lastTerm d) x e
 
 pub exp-neg-under-positive : (d : ℕ) (x : Fraction) → 0 < expNegUnder d x .num
 unfolding expNegUnder inverse
@@ -91,28 +91,28 @@ exp-neg-under-positive d x = expOver d x .pos
 
 pub exp-under-≥-one-plus : (d : ℕ) (x : Fraction) → whole 1 +ᶠ x ≤ᶠ expUnder d x
 unfolding expUnder
-exp-under-≥-one-plus d x = one-plus-≤-partial-sum (40 + d) x (omega arith)
+exp-under-≥-one-plus d x = one-plus-≤-partial-sum (lastTerm d) x (omega arith)
 
 -- at one depth no limit on x is needed
 pub exp-under-≤-own-over : (d : ℕ) (x : Fraction) → expUnder d x ≤ᶠ expOver d x
 unfolding expUnder expOver
-exp-under-≤-own-over d x = sum-≤-with-tail (40 + d) x
+exp-under-≤-own-over d x = sum-≤-with-tail (lastTerm d) x
 
 pub exp-under-mono : (d : ℕ) {x y : Fraction} → x ≤ᶠ y → expUnder d x ≤ᶠ expUnder d y
 unfolding expUnder
-exp-under-mono d h = partial-sum-mono h (40 + d)
+exp-under-mono d h = partial-sum-mono h (lastTerm d)
 
 pub exp-over-mono : (d : ℕ) {x y : Fraction} → x ≤ᶠ y → expOver d x ≤ᶠ expOver d y
 unfolding expOver
-exp-over-mono d h = sum-with-tail-mono h (40 + d)
+exp-over-mono d h = sum-with-tail-mono h (lastTerm d)
 
 pub exp-under-strict : (d : ℕ) {x y : Fraction} → x <ᶠ y → expUnder d x <ᶠ expUnder d y
 unfolding expUnder
-exp-under-strict d h = partial-sum-strict h (40 + d) (omega arith)
+exp-under-strict d h = partial-sum-strict h (lastTerm d) (omega arith)
 
 pub exp-over-strict : (d : ℕ) {x y : Fraction} → x <ᶠ y → expOver d x <ᶠ expOver d y
 unfolding expOver
-exp-over-strict d h = sum-with-tail-strict h (40 + d) (omega arith)
+exp-over-strict d h = sum-with-tail-strict h (lastTerm d) (omega arith)
 
 -- STANDING
 

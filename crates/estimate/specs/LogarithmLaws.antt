@@ -1,12 +1,11 @@
 -- Laws of the estimates of ln: what bounds them at every depth, and their order.
-use Prim.Native.Nat.{ℕ, _+_, _*_, _^_, _≤_, _<_}
-use native.Mathlib.Nat.{le-add-right}
+use Prim.Native.Nat.{ℕ, _*_, _^_, _≤_, _<_}
 use native.Mathlib.Omega.{arith}
 use lib.Dec.{lit≤}
 use Rattle.estimate.specs.Fraction.{Fraction, _≤ᶠ_, _<ᶠ_, whole, decimal}
 use Rattle.estimate.specs.FractionLaws.{≤ᶠ-trans, ≤ᶠ-refl, <ᶠ-≤ᶠ-trans, ≤ᶠ-<ᶠ-trans, ≤ᶠ-of-not-<ᶠ, not-≤ᶠ-and-<ᶠ, decimal-mono}
 use Rattle.estimate.specs.Standing.{LowRight, HighRight}
-use Rattle.estimate.specs.Exponential.{partialSum, expUnder, expOver, sumNum, termNum, termDen}
+use Rattle.estimate.specs.Exponential.{partialSum, lastTerm, expUnder, expOver, sumNum, termNum, termDen}
 use Rattle.estimate.specs.ExponentialLaws.{partial-sums-grow, partial-sum-mono}
 use Rattle.estimate.specs.ExponentialBounds.{AtMostExp, AtLeastExp, at-most-weaker, at-least-weaker, exp-bounds-in-order}
 use Rattle.estimate.specs.ExponentialBounds.{exp-under-at-most, exp-over-at-least, exp-under-strict, exp-over-strict, exp-under-≤-own-over}
@@ -45,7 +44,7 @@ ln-high-stands one b h = record { at = λ d _. above-ln-under one b h d }
 module _ {A : Fraction} (b : ℕ) (h : A ≤ᶠ partialSum 40 (whole b)) where
   at-depth : (d : ℕ) → A ≤ᶠ expUnder d (whole b)
   unfolding expUnder
-  at-depth d = ≤ᶠ-trans h (partial-sums-grow (whole b) 40 (40 + d) (le-add-right 40 d))
+  at-depth d = ≤ᶠ-trans h (partial-sums-grow (whole b) 40 (lastTerm d) (omega arith))
 
   pub ln-under-≤-whole : whole 1 ≤ᶠ A → (d : ℕ) → lnUnder d A ≤ᶠ whole b
   ln-under-≤-whole one d =
@@ -57,7 +56,7 @@ module _ {A : Fraction} (b : ℕ) (h : A ≤ᶠ partialSum 40 (whole b)) where
   ln-over-≤-whole d =
       let same : whole b ≤ᶠ decimal d (b * 10 ^ d) = unfold whole decimal in omega arith in
       let back : decimal d (b * 10 ^ d) ≤ᶠ whole b = unfold whole decimal in omega arith in
-      ≤ᶠ-trans (decimal-mono d (ln-smallest-is d A .least (b * 10 ^ d) (≤ᶠ-trans (at-depth d) (unfold expUnder in partial-sum-mono same (40 + d))))) back
+      ≤ᶠ-trans (decimal-mono d (ln-smallest-is d A .least (b * 10 ^ d) (≤ᶠ-trans (at-depth d) (unfold expUnder in partial-sum-mono same (lastTerm d))))) back
 
 -- 10^9 is less than e^21, and 20000 less than e^10
 ten-to-nine : whole (10 ^ 9) ≤ᶠ partialSum 40 (whole 21)

@@ -1,4 +1,3 @@
 -- What the proofs share.
 pub mod Entries
 pub mod Fitting
-pub mod Answers

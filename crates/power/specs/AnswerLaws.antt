@@ -1,12 +1,15 @@
--- The answer of the public call: its test is the range's, and the bracket that is answered stands.
+-- The answer of the public call: its test is the range's, the bracket that is answered stands, and what a form of the call ensures.
 use Prim.Native.Nat.{ℕ}
+use mathlib.Core.Path.{_≡_}
 use native.Mathlib.Omega.{arith}
 use borrow.Author.Tests.{le-leb, lt-ltb, eq-eqb}
 use lib.Dec.{leb, eqb, leb→le, ltb→lt, eqb→eq}
 use Rattle.laws.specs.Table.{both-left, both-right}
-use Rattle.bracket.specs.Answer.{Answers, answer-stands}
+use Rattle.bracket.specs.Answer.{Answers, answer-stands, refused, given}
+use Rattle.bracket.specs.declared.Bracket.{Bracket}
+use Rattle.bracket.specs.declared.BracketAnswer.the-variants.{Between, OutOfRange}
 use Rattle.remainder.specs.Remainder.{Exponent}
-use Rattle.power.specs.Exponents.{placeOf, place-of-holds, exponent-small}
+use Rattle.power.specs.Exponents.{exponentAt, placeOf, place-of-holds, exponent-small}
 use Rattle.power.specs.Power.{powerBracket, PowerRange, inRange, StandingPower, powerAnswer, PowerStands}
 use Rattle.power.specs.PowerLaws.{power-standing}
 
@@ -39,3 +42,14 @@ module _ (base num den : ℕ) where
   pub power-answer-stands : PowerStands base num den (powerAnswer base num den)
   unfolding powerAnswer
   power-answer-stands = answer-stands power-answers
+
+  -- THE TWO ANSWERS OF A FORM OF THE CALL, with all that it ensures
+  pub power-refused : (PowerRange base num den → ⊥) → (OutOfRange ≡ powerAnswer base num den) × (PowerRange base num den → ⊥)
+  unfolding powerAnswer
+  power-refused = refused power-answers
+
+  -- the bracket that was made at the place of num hundredths
+  pub power-given : {place : ℕ} {b : Bracket} → place ≡ placeOf num → PowerRange base num den → b ≡ powerBracket base (exponentAt place) 100
+      → (Between b ≡ powerAnswer base num den) × StandingPower base num den b
+  unfolding powerAnswer
+  power-given e r is = given power-answers r (rw (is, e, place-of-holds num (r .stored), r .hundredths))

@@ -1,14 +1,17 @@
-// Brackets of powers with each end by a walk of its own and scaled in two words, as `power` found them before request 5. For the
-// program `rounds` alone, so that the benchmark times both forms in one run.
+// Brackets of powers with each end by a walk of its own and scaled in two words, and the call that answers them: `power` as it was
+// before request 5. For the programs alone that run both forms: `rounds`, which times them, and `power_forms`, which compares them.
 ghost use mathlib.Core.Path.{_≡_};
 ghost use Prim.Native.Nat.{_≤_, _<_};
 ghost use Rattle.power.specs.Exponents.{exponentAt};
 ghost use Rattle.power.specs.Stored.{StoredPowers};
-ghost use Rattle.power.specs.Power.{powerLow, powerHigh, powerBracket};
+ghost use Rattle.power.specs.Power.{powerLow, powerHigh, powerBracket, powerAnswer, PowerStands};
 use bracket::Bracket;
+use bracket::BracketAnswer;
 use power::BILLION;
+use power::stored::exponent_place;
 use power::stored::hundredths;
 use power::stored::stored_bounds;
+use power::stored::stored_powers;
 use remainder::SCALE;
 use remainder::log_bounds;
 use remainder::raised_high;
@@ -54,4 +57,27 @@ pub fn power_by_ends_with(stored: &[u64; 2560], base: u64, exponent: u64) -> Bra
         high_num: power_high_with(stored, base, exponent),
         high_den: BILLION,
     }
+}
+
+// A bracket of base^(num / den), or that the base or the exponent is out of range. What it ensures is what `power` ensures: both
+// answers are `powerAnswer base num den`, and so the same for every argument, inside the range or out.
+pub fn power_by_ends(base: u64, num: u64, den: u64) -> BracketAnswer
+    ensures { λ r. ⌜ r ≡ powerAnswer base num den ⌝ }
+    ensures stands { λ r. ⌜ PowerStands base num den r ⌝ }
+{
+    if base < 1 {
+        return BracketAnswer::OutOfRange;
+    }
+    if 20000 < base {
+        return BracketAnswer::OutOfRange;
+    }
+    if den != 100 {
+        return BracketAnswer::OutOfRange;
+    }
+    let exponent = exponent_place(num);
+    if 5 <= exponent {
+        return BracketAnswer::OutOfRange;
+    }
+    let stored = stored_powers();
+    BracketAnswer::Between(power_by_ends_with(&stored, base, exponent))
 }

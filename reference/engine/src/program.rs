@@ -1,5 +1,5 @@
-//! The engine's programs `crash_report` and `rounds`, and the longest files and
-//! reports that the first is run on.
+//! The engine's programs `crash_report`, `rounds` and `power_forms`, and the
+//! longest files and reports that the first is run on.
 
 use reference::lines;
 use reference::project::{encode_header, Header};
@@ -15,6 +15,9 @@ pub const CRASH_REPORT: &str =
 
 /// The program `rounds`.
 pub const ROUNDS: &str = concat!(env!("CARGO_MANIFEST_DIR"), "/../../target/bin/rounds");
+
+/// The program `power_forms`.
+const POWER_FORMS: &str = concat!(env!("CARGO_MANIFEST_DIR"), "/../../target/bin/power_forms");
 
 /// Whether one of these programs is there, or which command makes it.
 pub fn is_made(program: &str) -> Result<(), String> {
@@ -84,13 +87,23 @@ pub fn rounds_of(asked: &[(Job, u16)], edition: u8, sites: &[Site]) -> Vec<u8> {
 
 /// What `rounds` prints for an input.
 pub fn rounds(input: &[u8]) -> String {
-    let mut child = command(ROUNDS)
+    output_of(ROUNDS, input)
+}
+
+/// What `power_forms` prints for an input.
+pub fn power_forms(input: &[u8]) -> String {
+    output_of(POWER_FORMS, input)
+}
+
+/// What a program prints that reads its input to the end first.
+fn output_of(program: &str, input: &[u8]) -> String {
+    let mut child = command(program)
         .stdin(Stdio::piped())
         .stdout(Stdio::piped())
         .spawn()
-        .expect("the program of rounds runs");
+        .expect("the program runs");
     let mut stdin = child.stdin.take().expect("a piped input");
-    stdin.write_all(input).expect("rounds are asked for");
+    stdin.write_all(input).expect("the input is read");
     drop(stdin);
     let output = child.wait_with_output().expect("it ends");
     assert!(output.status.success());

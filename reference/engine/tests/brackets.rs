@@ -1,7 +1,7 @@
 //! Every bracket the engine can be asked for, against the reference's own
 //! estimates.
 
-use engine::program::{rounds, rounds_of, Job};
+use engine::program::{power_forms, rounds, rounds_of, Job};
 use engine::{power_into, Bracket, EXPONENTIAL_PARTS, LOGARITHM_PARTS, POWER_PARTS};
 use reference::estimates::{self, Estimates};
 use reference::rational::Rational;
@@ -87,6 +87,65 @@ fn both_forms_of_a_power_have_the_ends_of_the_call() {
     for form in [Job::Powers, Job::PowersByEnds] {
         assert_eq!(rounds(&rounds_of(&[(form, 1)], EDITION_ONE, &[])), printed);
     }
+}
+
+/// Arguments of a power, inside its range and out, with one of each that is
+/// inside it modulo 2^32.
+const BASES: [u64; 8] = [0, 1, 257, 19_999, 20_000, 20_001, (1 << 32) + 2, u64::MAX];
+const NUMS: [u64; 10] = [0, 20, 49, 60, 61, 79, 80, 120, (1 << 32) + 60, u64::MAX];
+const DENS: [u64; 9] = [0, 1, 5, 99, 100, 101, 200, (1 << 32) + 100, u64::MAX];
+
+const NO_BRACKET: &str = "out of range";
+
+/// The four numbers that the exported call leaves, or that there are none.
+fn answer_of(base: u64, num: u64, den: u64) -> String {
+    let mut ends = [0; 4];
+    match power_into(base, num, den, &mut ends) {
+        engine::DONE => ends.map(|end| end.to_string()).join(" "),
+        number => {
+            assert_eq!(number, engine::OUT_OF_RANGE);
+            NO_BRACKET.to_string()
+        }
+    }
+}
+
+/// Of each argument in the input of `power_forms` two lines, one of a form each,
+/// are printed: both have the bracket of the exported call inside the range, and
+/// none outside it.
+fn assert_forms_answer(input: &[u8], printed: &str) {
+    let number = |bytes: &[u8]| u64::from_be_bytes(bytes.try_into().expect("eight bytes"));
+    let lines: Vec<&str> = printed.lines().collect();
+    assert_eq!(24 * lines.len(), 2 * input.len());
+    for (argument, forms) in input.chunks(24).zip(lines.chunks(2)) {
+        let [base, num, den] = [0, 8, 16].map(|at| number(&argument[at..at + 8]));
+        let is_inside =
+            (1..=LARGEST_BASE).contains(&base) && EXPONENTS.contains(&num) && den == 100;
+        let answer = answer_of(base, num, den);
+        assert_eq!(answer != NO_BRACKET, is_inside, "{base} {num}/{den}");
+        assert_eq!(forms, [&answer, &answer], "{base} {num}/{den}");
+    }
+}
+
+/// The program `power_forms` runs the call of a power as it is and as it was
+/// when each end had a walk of its own.
+#[test]
+fn both_forms_of_the_call_answer_alike_inside_the_range_and_out() {
+    let mut input = Vec::new();
+    for base in BASES {
+        for num in NUMS {
+            for den in DENS {
+                input.extend([base, num, den].iter().flat_map(|n| n.to_be_bytes()));
+            }
+        }
+    }
+    assert_forms_answer(&input, &power_forms(&input));
+}
+
+#[test]
+fn the_stored_output_of_the_forms_is_that_of_the_call() {
+    let input = include_bytes!("../../../crates/power_forms/stdin");
+    let stored = include_str!("../../../crates/power_forms/stdout");
+    assert_forms_answer(input, stored);
 }
 
 #[test]

@@ -1,6 +1,6 @@
 use native.Mathlib.Omega.{arith}
 use borrow.Author.Needs.{needs}
-use Rattle.power.proofs.Answers.{power-refused, power-given}
+use Rattle.power.specs.AnswerLaws.{power-refused, power-given}
 use Rattle.power.proofs.power.Statement.{statement}
 use Rattle.power.proofs.power.Tie as tie
 
