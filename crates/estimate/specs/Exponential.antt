@@ -127,17 +127,17 @@ with-tail-adds-terms m x = record { cross = omega (arith, terms-more m x (partia
 
 -- WORKED FIGURES
 
--- e^1 at depth d: under is the sum to the m-th term, and over adds 2/f
+-- e^1 at depth d: under is the sum for i from 0 to m, and over adds 2/f
 pub record EToOne (d m f : ℕ) : Type 0 where
   pub under : expUnder d (whole 1) =ᶠ addedTerms m (whole 1)
   pub over : expOver d (whole 1) =ᶠ expUnder d (whole 1) +ᶠ 2 // f
 
--- at depth 1 to the 41st, and 2/42! more
+-- at depth 1 for i to 41, and 2/42! more
 pub e-at-depth-one : EToOne 1 41 1405006117752879898543142606244511569936384000000000
 unfolding expUnder expOver partialSum sumWithTail sumNum termNum termDen whole fraction _+ᶠ_ _//_
 e-at-depth-one = record { under = partial-sum-adds-terms 41 (whole 1); over = record { cross = refl } }
 
--- at depth 2 to the 42nd, and 2/43! more
+-- at depth 2 for i to 42, and 2/43! more
 pub e-at-depth-two : EToOne 2 42 60415263063373835637355132068513997507264512000000000
 unfolding expUnder expOver partialSum sumWithTail sumNum termNum termDen whole fraction _+ᶠ_ _//_
 e-at-depth-two = record { under = partial-sum-adds-terms 42 (whole 1); over = record { cross = refl } }

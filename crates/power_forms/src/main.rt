@@ -9,11 +9,13 @@ use libc::STDOUT_FILENO;
 use power::power;
 use power_by_ends::power_by_ends;
 
+// What the upper four bytes of a number count.
 const HALF: u64 = 4294967296;
 
 // The bytes of three numbers.
 const ARGUMENTS: usize = 24;
 
+// What follows so many arguments is not read.
 const INPUT_ROOM: usize = 4096 * ARGUMENTS;
 
 fn wide(byte: u8) -> u64
