@@ -1,5 +1,5 @@
 // Brackets of powers with each end by a walk of its own and scaled in two words, and the call that answers them: `power` as it was
-// before request 5. For the programs alone that run both forms: `rounds`, which times them, and `power_forms`, which compares them.
+// before request 5. Two programs alone call it, beside the new form: `rounds` times both, and `power_forms` prints what both answer.
 ghost use mathlib.Core.Path.{_≡_};
 ghost use Prim.Native.Nat.{_≤_, _<_};
 ghost use Rattle.power.specs.Exponents.{exponentAt};
