@@ -64,8 +64,8 @@ extern "C" {
  *   CRASH_EXPECTED_EACH * (sites + observed crashes) + high / CRASH_WIDTH_PARTS for an expected pair,
  * of a line, which has one site, and of a report's totals, all in millionths of a crash; a site with traffic year by year counts
  * as so many sites as the project has years, and each of its observed crashes as so many. In edition 2 an observed crash of a
- * segment counts 1 + k times as much, where k is 236 / length, the length in thousandths of a mile, and what the crashes of a
- * site count is rounded up once a site. And for a bracket
+ * segment counts 1 + k times as much, where k is 236 / length, the length in thousandths of a mile. What the crashes count for is
+ * rounded up once: in a line for its site, in the totals for the sum over all sites. And for a bracket
  *   high / CRASH_POWER_PARTS of a power, high / CRASH_EXPONENTIAL_PARTS of e^x and of e^(-x),
  *   1 / CRASH_LOGARITHM_PARTS of a logarithm, whatever its high. */
 #define CRASH_PREDICTED_EACH 4
