@@ -65,6 +65,11 @@ one-plus-≤-partial-sum m x h = ≤ᶠ-trans {b = partialSum 1 x} (omega arith)
 
 -- THE SUMS RISE WITH x
 
+pub term-mono : {n n' : ℕ} → n ≤ n' → (i : ℕ) → termNum n i ≤ termNum n' i
+unfolding termNum
+term-mono h zero = omega arith
+term-mono h (suc i) = mul-le-mul (term-mono h i) h
+
 term-rises : (x y : Fraction) → x ≤ᶠ y → (m : ℕ) → termNum (x .num) m * termDen (y .den) m ≤ termNum (y .num) m * termDen (x .den) m
 unfolding termNum termDen
 term-rises x y h zero = omega arith

@@ -1,4 +1,5 @@
--- What a reader must believe: Fraction, Search, Power, Exponential and Logarithm, the estimates at depth d; Standing, when a bound is right.
+-- What a reader must believe: Fraction, Search, Power, Exponential and Logarithm, the estimates at depth d, with the definitions that head
+-- SignedExponent; Standing, when a bound is right.
 -- Laws: of these (the modules called Laws), and those that carry a computed bound to every depth.
 pub mod Fraction
 pub mod Search
@@ -13,5 +14,6 @@ pub mod Sequences
 pub mod ExponentialLaws
 pub mod ExponentialProducts
 pub mod ExponentialBounds
+pub mod SignedExponent
 pub mod LogarithmLaws
 pub mod Remainder

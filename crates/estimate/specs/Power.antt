@@ -1,6 +1,6 @@
 -- A^(p/q) at depth d, for any p and any q from 1 (document 01 has q = 100).
 use Prim.Native.Nat.{ℕ, zero, suc, _+_, _*_, _^_, _≤_, _<_, zero-le}
-use mathlib.Core.Path.{_≡_}
+use mathlib.Core.Path.{_≡_, ap}
 use native.Mathlib.Nat.{le-trans, mul-zero, pow-suc, pow-le-pow-left, mul-le-mul-right, one-le-pow, zero-lt-suc, not-suc-le-zero, not-le-of-lt}
 use native.Mathlib.Omega.{arith}
 use native.Mathlib.Numerals.{add-one}
@@ -55,14 +55,23 @@ power-largest-value d A p q t hq h k =
     largest-unique (power-largest-is d A p q hq)
     (largest-by-neighbour (λ r s l g. le-trans (pow-le-pow-left l q) g) h (λ g. not-le-of-lt k (rw add-one g)))
 
+-- both estimates by the same certificate
+pub record PowerValue (d A p q t : ℕ) : Type 0 where
+  pub under : powerUnder d A p q ≡ decimal d t
+  pub over : powerOver d A p q ≡ decimal d (t + 1)
+
+pub power-value : (d A p q t : ℕ) → 0 < q → AtMostPower t (10 ^ d) A p q → A ^ p * (10 ^ d) ^ q < (t + 1) ^ q → PowerValue d A p q t
+unfolding powerUnder powerOver
+power-value d A p q t hq h k = let is = power-largest-value d A p q t hq h k in record { under = ap (λ s. decimal d s) is; over = ap (λ s. decimal d (s + 1)) is }
+
 -- "32^0.60 at depth 1: 8.0 and 8.1"
 pub record ThirtyTwoToSixTenths : Type 0 where
   pub under : powerUnder 1 32 60 100 =ᶠ 80 // 10
   pub over : powerOver 1 32 60 100 =ᶠ 81 // 10
 
-thirty-two : powerLargest 1 32 60 100 ≡ 80
-thirty-two = power-largest-value 1 32 60 100 _ (lit< tt) (lit≤ tt) (lit< tt)
+thirty-two : PowerValue 1 32 60 100 80
+thirty-two = power-value 1 32 60 100 _ (lit< tt) (lit≤ tt) (lit< tt)
 
 pub thirty-two-to-six-tenths : ThirtyTwoToSixTenths
-unfolding powerUnder powerOver decimal _//_
-thirty-two-to-six-tenths = record { under = rw thirty-two (omega arith); over = rw thirty-two (omega arith) }
+unfolding decimal _//_
+thirty-two-to-six-tenths = record { under = rw (thirty-two .under) (omega arith); over = rw (thirty-two .over) (omega arith) }

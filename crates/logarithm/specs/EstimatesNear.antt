@@ -1,19 +1,15 @@
 -- The two estimates of a logarithm at depth 12 are near each other: what the over-estimate of e^x exceeds its under-estimate by
 -- is less than what 10^-12 more of x adds.
 use Prim.Native.Nat.{ℕ, zero, suc, _+_, _*_, _^_, _≤_, _<_}
-use native.Mathlib.Nat.{le-trans, mul-le-mul, mul-le-mul-left, mul-le-mul-right, not-suc-le-self}
+use native.Mathlib.Nat.{le-trans, mul-le-mul-left, mul-le-mul-right, not-suc-le-self}
 use native.Mathlib.Omega.{arith}
 use lib.Dec.{lit≤}
 use Rattle.estimate.specs.Fraction.{Fraction, _≤ᶠ_, fraction, whole, decimal}
 use Rattle.estimate.specs.FractionLaws.{≤ᶠ-trans, ≤ᶠ-of-not-<ᶠ, <ᶠ-≤ᶠ}
 use Rattle.estimate.specs.Exponential.{termNum, termDen, sumNum, partialSum, sumWithTail, expUnder, expOver}
+use Rattle.estimate.specs.ExponentialLaws.{term-mono}
 use Rattle.estimate.specs.Logarithm.{lnLargest, lnSmallest, lnUnder, ln-largest-is, ln-smallest-is}
 use Rattle.estimate.specs.LogarithmLaws.{ln-under-≤-ten}
-
-term-mono : {n n' : ℕ} → n ≤ n' → (i : ℕ) → termNum n i ≤ termNum n' i
-unfolding termNum
-term-mono h zero = lit≤ tt
-term-mono h (suc i) = mul-le-mul (term-mono h i) h
 
 -- 1/D more of x = n/D adds 1/D at least to each sum from the second on
 one-more : (D S S' den c T T' : ℕ) → D * S + den ≤ D * S' → T ≤ T' → D * (S * c + T) + den * c ≤ D * (S' * c + T')
