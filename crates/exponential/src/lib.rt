@@ -1,5 +1,6 @@
 // Brackets of e^(x / 10000) and e^(-x / 10000), x from 0 to 14: the stored e^i of the whole part times e^f of the rest.
 pub mod stored;
+pub mod stored_bracket;
 pub mod taylor;
 
 ghost use mathlib.Core.Path.{_≡_};

@@ -3,9 +3,9 @@ use Prim.Native.Nat.{ℕ, _-_, _*_}
 use mathlib.Core.Bool.{cond}
 use mathlib.Core.List.{List, [], _∷_, _++_, map}
 use lib.Dec.{leb, eqb}
-use Rattle.estimate.specs.Fraction.{Fraction, _//_, whole, tenThousandths, lesser, greater}
+use Rattle.estimate.specs.Fraction.{Fraction, _//_, whole, lesser, greater}
 use Rattle.estimate.specs.Power.{powerUnder, powerOver}
-use Rattle.estimate.specs.Exponential.{expUnder, expOver, expNegUnder, expNegOver}
+use Rattle.estimate.specs.SignedExponent.{SignedExponent, Plus, Minus, signedExpUnder, signedExpOver}
 use Rattle.estimate.specs.Logarithm.{lnUnder, lnOver}
 use Rattle.site.specs.declared.values.Site.{Site}
 use Rattle.site.specs.declared.numbers.Segment.{Segment}
@@ -31,15 +31,16 @@ abbrev pub power : (traffic hundredths : ℕ) → Part
 power traffic hundredths = record { under = λ d. powerUnder d traffic hundredths 100; over = λ d. powerOver d traffic hundredths 100 }
 
 -- e^x and e^(-x), x in ten-thousandths
-abbrev pub exponential : ℕ → Part
-exponential x = record { under = λ d. expUnder d (tenThousandths x); over = λ d. expOver d (tenThousandths x) }
+abbrev pub exponential : SignedExponent → Part
+exponential x = record { under = λ d. signedExpUnder d x; over = λ d. signedExpOver d x }
 
-abbrev pub exponentialNegative : ℕ → Part
-exponentialNegative x = record { under = λ d. expNegUnder d (tenThousandths x); over = λ d. expNegOver d (tenThousandths x) }
+-- a base factor's exponent is below 0
+abbrev pub baseExponent : Coefficients → (kind : ℕ) → SignedExponent
+baseExponent k kind = Minus (k .base-exponent kind)
 
 -- "e^(0.0668(RHR − 3))": a rating below 3 has a negative exponent
-abbrev pub hazard : ℕ → Part
-hazard rating = cond (leb 3 rating) (exponential (668 * (rating - 3))) (exponentialNegative (668 * (3 - rating)))
+abbrev pub hazardExponent : (rating : ℕ) → SignedExponent
+hazardExponent rating = cond (leb 3 rating) (Plus (668 * (rating - 3))) (Minus (668 * (3 - rating)))
 
 -- "the driveway part takes the lesser of its two values at ln's estimates. Over takes .. the greater of the two"
 abbrev pub driveways : Coefficients → (count traffic : ℕ) → Part
@@ -87,12 +88,12 @@ pub data Factor : Type 0 where
 
 abbrev pub partOf : Coefficients → Factor → Part
 partOf k (Exact factor) = exact (exactValue k factor)
-partOf k (Base kind) = exponentialNegative (k .base-exponent kind)
-partOf k (Hazard rating) = hazard rating
+partOf k (Base kind) = exponential (baseExponent k kind)
+partOf k (Hazard rating) = exponential (hazardExponent rating)
 partOf k (Driveways count traffic) = driveways k count traffic
 partOf k (MajorTraffic kind traffic) = power traffic (majorExponent kind)
 partOf k (MinorTraffic kind traffic) = power traffic (minorExponent kind)
-partOf k (Skew kind degrees) = exponential (skewExponent kind * degrees)
+partOf k (Skew kind degrees) = exponential (Plus (skewExponent kind * degrees))
 
 -- "e^(−0.4865) × the factors × e^(0.0668(RHR − 3)) × (0.2 + c·DD)/(0.2 + 5c)" of every road; its two factors of a grade are
 -- document 01's power of 1.016 (`grade-is`)

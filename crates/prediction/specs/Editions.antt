@@ -9,17 +9,17 @@ use lib.Dec.{T, leb, leb→le}
 use Rattle.laws.specs.Table.{both, both-left, both-right, allBelow, all-below}
 use Rattle.estimate.specs.Fraction.{fraction, _//_, whole, _^ᶠ_}
 use Rattle.bracket.specs.Pieces.{Piece, bounds, hasRoom, grown, absoluteMost}
+use Rattle.exponential.specs.StoredBrackets.{storedLimit, storedHigh}
 use Rattle.site.specs.declared.numbers.Segment.{Segment}
 use Rattle.site.specs.declared.numbers.Crossing.{Crossing}
 use Rattle.site.specs.Numbers.{by-crossing}
 use Rattle.model.specs.Coefficients.{Coefficients, editionOne, editionTwo, coefficientsOf}
 use Rattle.model.specs.Editions.{by-edition}
-use Rattle.model.specs.Parts.{Base, partOf, straightFactors, curveFactors, segmentFactors, crossingFactors}
+use Rattle.model.specs.Parts.{straightFactors, curveFactors, segmentFactors, crossingFactors}
 use Rattle.model.specs.FactorBounds.{Bounded, edition-one-bounded, edition-two-bounded}
-use Rattle.prediction.specs.Stored.{storedBracket, storedWidth}
 use Rattle.prediction.specs.Factors.{piecesOf}
 use Rattle.prediction.specs.Pair.{unit}
-use Rattle.prediction.specs.Kept.{narrowly, carriedMost, Roomy, Rated, segmentMost, crossingMost}
+use Rattle.prediction.specs.Kept.{carriedMost, Roomy, Rated, segmentMost, crossingMost}
 
 -- the room of a start through factors, as a test
 roomy : (most : ℕ) → List Piece → Bool
@@ -38,19 +38,16 @@ roomy-by-test {most} {pieces} t =
       steps = leb→le _ _ (both-right (leb (grown most ms) carriedMost) _ rest);
     }
 
--- the base factors of an edition: within the exponential's range, and narrow
-baseKept : Coefficients → ℕ → Bool
-baseKept k kind = both (leb (k .base-exponent kind) 210000) (narrowly (storedBracket (partOf k (Base kind))))
+-- a base factor is within the range of stored ones
+baseWithin : Coefficients → ℕ → Bool
+baseWithin k kind = leb (k .base-exponent kind) storedLimit
 
 -- ANY EDITION whose numbers pass these tests
 module _ (k : Coefficients) (bounded : Bounded k) (least : T (leb 200 (k .driveway-constant))) (most : T (leb (k .driveway-constant) 1000))
-    (bases : T (allBelow (baseKept k) 4))
+    (bases : T (allBelow (baseWithin k) 4))
     (straight : (v : Segment) → T (roomy segmentMost (piecesOf k (straightFactors v ++ []))))
     (bent : (v : Segment) → T (roomy segmentMost (piecesOf k (straightFactors v ++ curveFactors v))))
     (crossing : (v : Crossing) → 1 ≤ v .kind → v .kind ≤ 3 → T (roomy crossingMost (piecesOf k (crossingFactors v)))) where
-  base-kept : (kind : ℕ) → kind ≤ 3 → T (baseKept k kind)
-  base-kept kind h = all-below (baseKept k) 4 bases kind (omega arith)
-
   segment-roomy : (v : Segment) → Roomy segmentMost (piecesOf k (segmentFactors v))
   unfolding segmentFactors
   segment-roomy v = by (v .curved)
@@ -60,13 +57,12 @@ module _ (k : Coefficients) (bounded : Bounded k) (least : T (leb 200 (k .drivew
       by false = roomy-by-test (straight v)
 
   rated-by-tests : Rated k
-  unfolding baseKept
+  unfolding baseWithin
   rated-by-tests = record {
     bounded = bounded;
     constant-least = leb→le _ _ least;
     constant-most = leb→le _ _ most;
-    base-most = λ kind h. leb→le _ _ (both-left (leb (k .base-exponent kind) 210000) _ (base-kept kind h));
-    base-narrow = λ kind h. both-right (leb (k .base-exponent kind) 210000) _ (base-kept kind h);
+    base-within = λ kind h. leb→le _ _ (all-below (baseWithin k) 4 bases kind (omega arith));
     segment-room = segment-roomy;
     crossing-room = λ v from to. roomy-by-test (crossing v from to);
   }
@@ -78,13 +74,13 @@ by-its-kind k v three-leg four-leg signal from to =
     by-crossing (λ kind. v .kind ≡ kind → T (roomy crossingMost (piecesOf k (crossingFactors v)))) three-leg four-leg signal (v .kind) from to refl
 
 edition-one-rated : Rated editionOne
-unfolding editionOne allBelow baseKept narrowly storedBracket storedWidth roomy straightFactors curveFactors crossingFactors whole _//_ fraction _^ᶠ_
+unfolding editionOne allBelow baseWithin storedHigh roomy straightFactors curveFactors crossingFactors whole _//_ fraction _^ᶠ_
 edition-one-rated =
     rated-by-tests editionOne edition-one-bounded tt tt tt (λ v. tt) (λ v. tt)
     (λ v. by-its-kind editionOne v (λ e. rw e tt) (λ e. rw e tt) (λ e. rw e tt))
 
 edition-two-rated : Rated editionTwo
-unfolding editionTwo allBelow baseKept narrowly storedBracket storedWidth roomy straightFactors curveFactors crossingFactors whole _//_ fraction _^ᶠ_
+unfolding editionTwo allBelow baseWithin storedHigh roomy straightFactors curveFactors crossingFactors whole _//_ fraction _^ᶠ_
 edition-two-rated =
     rated-by-tests editionTwo edition-two-bounded tt tt tt (λ v. tt) (λ v. tt)
     (λ v. by-its-kind editionTwo v (λ e. rw e tt) (λ e. rw e tt) (λ e. rw e tt))

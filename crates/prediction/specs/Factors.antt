@@ -7,19 +7,19 @@ use Rattle.bracket.specs.Bracket.{powerWidth, exponentialWidth, logarithmWidth}
 use Rattle.bracket.specs.Ratio.{exactly}
 use Rattle.bracket.specs.Pieces.{Piece}
 use Rattle.exponential.specs.Exponential.{expBracket}
+use Rattle.exponential.specs.StoredBrackets.{storedBracket, storedWidth, storedHigh}
 use Rattle.power.specs.Power.{powerBracket}
 use Rattle.driveways.specs.Driveways.{drivewaysOf, drivewaysMost}
 use Rattle.model.specs.Coefficients.{Coefficients, byKind}
 use Rattle.model.specs.Crossings.{majorExponent, minorExponent, skewExponent}
-use Rattle.model.specs.Parts.{Factor, Exact, Base, Hazard, Driveways, MajorTraffic, MinorTraffic, Skew, exactValue, partOf, hazard}
+use Rattle.model.specs.Parts.{Factor, Exact, Base, Hazard, Driveways, MajorTraffic, MinorTraffic, Skew, exactValue, partOf, baseExponent, hazardExponent}
 use Rattle.model.specs.FactorBounds.{capOf}
-use Rattle.prediction.specs.Stored.{storedBracket, storedMost, storedWidth}
 
 -- THE BRACKET of a factor
 abbrev pub bracketOf : Coefficients → Factor → Bracket
 bracketOf k (Exact factor) = exactly (exactValue k factor)
-bracketOf k (Base kind) = storedBracket (partOf k (Base kind))
-bracketOf k (Hazard rating) = storedBracket (hazard rating)
+bracketOf k (Base kind) = storedBracket (baseExponent k kind)
+bracketOf k (Hazard rating) = storedBracket (hazardExponent rating)
 bracketOf k (Driveways count traffic) = drivewaysOf (k .driveway-constant) (k .fewest-driveways) count traffic
 bracketOf k (MajorTraffic kind traffic) = powerBracket traffic (majorExponent kind) 100
 bracketOf k (MinorTraffic kind traffic) = powerBracket traffic (minorExponent kind) 100
@@ -61,7 +61,7 @@ minorMost = byKind 1 130 422 9
 
 abbrev pub mostOf : Coefficients → Factor → Fraction
 mostOf k (Exact factor) = capOf k factor
-mostOf k (Base kind) = storedMost (partOf k (Base kind))
+mostOf k (Base kind) = storedHigh (baseExponent k kind)
 mostOf k (Hazard rating) = hazardMost
 mostOf k (Driveways count traffic) = drivewaysMost (k .driveway-constant)
 mostOf k (MajorTraffic kind traffic) = whole (majorMost kind)

@@ -3,23 +3,21 @@ use Prim.Native.Nat.{ℕ, zero, suc, _+_, _-_, _*_, _/_, _^_, _≤_, _<_}
 use mathlib.Core.Path.{_≡_, refl}
 use mathlib.Core.Bool.{Bool, true, false, cond}
 use mathlib.Core.List.{List, [], _∷_, _++_}
-use native.Mathlib.Nat.{le-refl}
 use native.Mathlib.Omega.{arith}
-use lib.Dec.{T, leb, leb→le, lit<, lit≤}
-use Rattle.laws.specs.Table.{both, both-left, both-right, allBelow, all-below}
-use Rattle.estimate.specs.Fraction.{Fraction, fraction, _≤ᶠ_, _//_, whole, tenThousandths}
-use Rattle.estimate.specs.FractionLaws.{//-num, //-den}
-use Rattle.estimate.specs.Exponential.{sumWithTail, sumNum, termNum, termDen}
-use Rattle.estimate.specs.ExponentialBounds.{within-tail-law, exp-under-≤-over, exp-neg-under-≤-over}
+use lib.Dec.{T, leb, lit<, lit≤}
+use Rattle.laws.specs.Table.{allBelow, all-below}
+use Rattle.estimate.specs.Fraction.{Fraction, fraction, _//_, whole}
+use Rattle.estimate.specs.SignedExponent.{SignedExponent, Plus, Minus, size}
 use Rattle.bracket.specs.declared.Bracket.{Bracket}
-use Rattle.bracket.specs.Bracket.{Stands, RelativeWidth, exponentialWidth, powerWidth, logarithmWidth}
+use Rattle.bracket.specs.Bracket.{RelativeWidth, exponentialWidth, powerWidth, logarithmWidth}
 use Rattle.bracket.specs.Ratio.{exactly, exactly-stands}
 use Rattle.bracket.specs.WidthLaws.{in-parts}
-use Rattle.bracket.specs.Rounded.{rounded-outward-stands}
 use Rattle.bracket.specs.Pieces.{Piece, Kept, AllKept, exactly-narrow, bounds, hasRoom, grown, absoluteMost}
 use Rattle.exponential.specs.Exponential.{expBracket}
 use Rattle.exponential.specs.ExponentialLaws.{exp-promised}
-use Rattle.exponential.specs.ExponentialMost.{exp-below}
+use Rattle.exponential.specs.ExponentialMost.{sumAtMost, exp-below}
+use Rattle.exponential.specs.StoredBrackets.{storedBracket, storedLimit, storedWidth, storedAtMost}
+use Rattle.exponential.specs.StoredBracketLaws.{stored-promised, stored-high-bounds, stored-bounded}
 use Rattle.power.specs.Power.{powerBracket}
 use Rattle.power.specs.PowerMost.{hundredths-standing, hundredths-below}
 use Rattle.driveways.specs.DrivewayLaws.{driveways-stand, driveways-width, driveways-most}
@@ -31,11 +29,10 @@ use Rattle.site.specs.Numbers.{TrafficSizes, CurveSizes, SegmentSizes, Crossing
 use Rattle.header.specs.Header.{mostCalibration}
 use Rattle.model.specs.Coefficients.{Coefficients}
 use Rattle.model.specs.Crossings.{majorExponent, minorExponent, skewExponent}
-use Rattle.model.specs.Parts.{Part, power, exponential, exponentialNegative, hazard}
-use Rattle.model.specs.Parts.{ExactFactor, Factor, Exact, Base, Hazard, Driveways, MajorTraffic, MinorTraffic, Skew, partOf}
+use Rattle.model.specs.Parts.{power, exponential, baseExponent, hazardExponent}
+use Rattle.model.specs.Parts.{ExactFactor, Factor, Exact, Base, Hazard, Driveways, MajorTraffic, MinorTraffic, Skew}
 use Rattle.model.specs.Parts.{straightFactors, curveFactors, segmentFactors, crossingFactors}
 use Rattle.model.specs.FactorBounds.{ExactSized, Bounded, capped}
-use Rattle.prediction.specs.Stored.{storedScale, storedDepth, storedBracket, storedMost, storedWidth}
 use Rattle.prediction.specs.Factors.{parts, widthShare, hazardMost, skewMost, majorMost, minorMost, pieceOf, piecesOf}
 use Rattle.prediction.specs.Pair.{unit}
 
@@ -59,62 +56,38 @@ stored-shares : parts / storedWidth * storedWidth ≡ parts
 unfolding storedWidth
 stored-shares = refl
 
--- STORED FACTORS stand, and a test shows their width and their bound
-abbrev pub InOrder : Part → Type 0
-InOrder part = (i j : ℕ) → part .under i ≤ᶠ part .over j
+-- STORED FACTORS: e^x for x of either sign up to 11
+abbrev storedPiece : SignedExponent → Fraction → Piece
+storedPiece x most = record {
+  under = exponential x .under;
+  over = exponential x .over;
+  bracket = storedBracket x;
+  share = widthShare 1 storedWidth;
+  most = most;
+}
 
-unfoldable pub narrowly : Bracket → Bool
-narrowly b = leb (storedWidth * (b .«high_num» * b .«low_den»)) (storedWidth * (b .«low_num» * b .«high_den») + 1 * (b .«high_num» * b .«low_den»))
+stored-kept : (x : SignedExponent) (most : Fraction) → size x ≤ storedLimit
+    → storedBracket x .«high_num» * most .den ≤ most .num * storedBracket x .«high_den»
+    → Kept parts (storedPiece x most)
+stored-kept x most within bounded =
+    let p = stored-promised x within in
+    record { stands = p .stands; narrow = in-shares storedWidth stored-shares (p .width); bounded = bounded }
 
-atMost : Fraction → Bracket → Bool
-atMost most b = leb (b .«high_num» * most .den) (most .num * b .«high_den»)
-
-stored-stands : (part : Part) → InOrder part → Stands (storedBracket part) (part .under) (part .over)
-unfolding storedBracket
-stored-stands part order = rounded-outward-stands storedScale (lit< tt) storedDepth _ _ order
-
--- its own high is a bound of it
-stored-most : (part : Part) → storedBracket part .«high_num» * storedMost part .den ≤ storedMost part .num * storedBracket part .«high_den»
-unfolding storedBracket
-stored-most part = rw (//-num _ storedScale, //-den _ storedScale (lit< tt)) (le-refl _)
-
-stored-narrow : (part : Part) → T (narrowly (storedBracket part)) → RelativeWidth parts (widthShare 1 storedWidth) (storedBracket part)
-unfolding narrowly
-stored-narrow part t = in-shares storedWidth stored-shares (record { width = leb→le _ _ t })
-
--- up to e^21 every under-estimate is at most every over-estimate
-pub exponential-in-order : (x : ℕ) → x ≤ 210000 → InOrder (exponential x)
-exponential-in-order x h i j = exp-under-≤-over (tenThousandths x) (within-tail-law x h) i j
-
-pub negative-in-order : (x : ℕ) → x ≤ 210000 → InOrder (exponentialNegative x)
-negative-in-order x h i j = exp-neg-under-≤-over (tenThousandths x) (within-tail-law x h) i j
+hazard-within : (rating : ℕ) → rating ≤ 7 → size (hazardExponent rating) ≤ storedLimit
+hazard-within rating to = by (leb 3 rating)
+  where
+    by : (b : Bool) → size (cond b (Plus (668 * (rating - 3))) (Minus (668 * (3 - rating)))) ≤ storedLimit
+    by true = omega arith
+    by false = omega arith
 
 -- one test over the ratings
-hazardKept : ℕ → Bool
-hazardKept rating = both (narrowly (storedBracket (hazard rating))) (atMost hazardMost (storedBracket (hazard rating)))
+hazards-small : T (allBelow (λ i. storedAtMost hazardMost (hazardExponent (suc i))) 7)
+unfolding allBelow storedAtMost _//_
+hazards-small = tt
 
-hazards-kept : T (allBelow (λ i. hazardKept (suc i)) 7)
-unfolding allBelow hazardKept narrowly atMost storedBracket storedWidth _//_
-hazards-kept = tt
-
-module _ (k : Coefficients) where
-  hazard-kept : (rating : ℕ) → 1 ≤ rating → rating ≤ 7 → Kept parts (pieceOf k (Hazard rating))
-  unfolding hazardKept atMost
-  hazard-kept zero from to = absurd (omega arith)
-  hazard-kept (suc i) from to =
-      let part = hazard (suc i) in
-      let narrow = narrowly (storedBracket part) in
-      let most = atMost hazardMost (storedBracket part) in
-      let t = all-below (λ i. hazardKept (suc i)) 7 hazards-kept i to in
-      record {
-        stands = stored-stands part (by (leb 3 (suc i)));
-        narrow = stored-narrow part (both-left narrow most t);
-        bounded = leb→le _ _ (both-right narrow most t);
-      }
-    where
-      by : (b : Bool) → InOrder (cond b (exponential (668 * (suc i - 3))) (exponentialNegative (668 * (3 - suc i))))
-      by true = exponential-in-order (668 * (suc i - 3)) (omega arith)
-      by false = negative-in-order (668 * (3 - suc i)) (omega arith)
+hazard-small : (rating : ℕ) → 1 ≤ rating → rating ≤ 7 → T (storedAtMost hazardMost (hazardExponent rating))
+hazard-small zero from to = absurd (omega arith)
+hazard-small (suc i) from to = all-below (λ i. storedAtMost hazardMost (hazardExponent (suc i))) 7 hazards-small i to
 
 -- POWERS OF TRAFFIC, by kind: the five exponents are stored ones
 abbrev powerPiece : (traffic hundredths most : ℕ) → Piece
@@ -165,8 +138,8 @@ module _ (k : Coefficients) (kind degrees : ℕ) (l : kind ≤ 3) (h : degrees �
   angle = skewExponent kind * degrees
 
   skew-below : expBracket angle .«high_num» * skewMost .den ≤ skewMost .num * expBracket angle .«high_den»
-  unfolding exponentialWidth _//_ fraction sumWithTail sumNum termNum termDen tenThousandths
-  skew-below = exp-below angle 3240 1383 1384 1000 (skew-most kind degrees l h) (lit≤ tt) (lit< tt) (lit< tt) (lit≤ tt) (record { cross = lit≤ tt })
+  unfolding exponentialWidth _//_ fraction sumAtMost
+  skew-below = exp-below angle 3240 1383 1384 1000 (skew-most kind degrees l h) (lit≤ tt) (lit< tt) (lit< tt) (lit≤ tt) tt
 
   skew-kept : Kept parts (pieceOf k (Skew kind degrees))
   skew-kept =
@@ -195,8 +168,7 @@ pub record Rated (k : Coefficients) : Type 0 where
   pub bounded : Bounded k
   pub constant-least : 200 ≤ k .driveway-constant
   pub constant-most : k .driveway-constant ≤ 1000
-  pub base-most : (kind : ℕ) → kind ≤ 3 → k .base-exponent kind ≤ 210000
-  pub base-narrow : (kind : ℕ) → kind ≤ 3 → T (narrowly (storedBracket (partOf k (Base kind))))
+  pub base-within : (kind : ℕ) → kind ≤ 3 → k .base-exponent kind ≤ storedLimit
   pub segment-room : (v : Segment) → Roomy segmentMost (piecesOf k (segmentFactors v))
   pub crossing-room : (v : Crossing) → 1 ≤ v .kind → v .kind ≤ 3 → Roomy crossingMost (piecesOf k (crossingFactors v))
 
@@ -218,15 +190,6 @@ module _ (k : Coefficients) (rated : Rated k) where
     bounded = unfold exactly in capped k (rated .bounded) factor s .at-most .cross;
   }
 
-  base-kept : (kind : ℕ) → kind ≤ 3 → Kept parts (pieceOf k (Base kind))
-  base-kept kind h =
-      let part = partOf k (Base kind) in
-      record {
-        stands = stored-stands part (negative-in-order _ (rated .base-most kind h));
-        narrow = stored-narrow part (rated .base-narrow kind h);
-        bounded = stored-most part;
-      }
-
   driveways-kept : (count traffic : ℕ) → count ≤ 50 → TrafficSizes traffic → Kept parts (pieceOf k (Driveways count traffic))
   driveways-kept count traffic few sizes =
       let from = sizes .least in
@@ -240,8 +203,10 @@ module _ (k : Coefficients) (rated : Rated k) where
 
   factor-kept : (factor : Factor) → FactorSized factor → Kept parts (pieceOf k factor)
   factor-kept (Exact factor) s = exact-kept factor s
-  factor-kept (Base kind) s = base-kept kind s
-  factor-kept (Hazard rating) s = hazard-kept k rating (s .0) (s .1)
+  factor-kept (Base kind) s = stored-kept (baseExponent k kind) _ (rated .base-within kind s) (stored-high-bounds (baseExponent k kind))
+  factor-kept (Hazard rating) s =
+      let small = hazard-small rating (s .0) (s .1) in
+      stored-kept (hazardExponent rating) hazardMost (hazard-within rating (s .1)) (stored-bounded hazardMost (hazardExponent rating) small)
   factor-kept (Driveways count traffic) s = driveways-kept count traffic (s .0) (s .1)
   factor-kept (MajorTraffic kind traffic) s = major-kept kind traffic (s .0) (s .1) (s .2)
   factor-kept (MinorTraffic kind traffic) s = minor-kept kind traffic (s .0) (s .1) (s .2)

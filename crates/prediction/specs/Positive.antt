@@ -3,7 +3,7 @@ use Prim.Native.Nat.{ℕ, _-_, _*_, _≤_, _<_}
 use mathlib.Core.Path.{_≡_, refl}
 use mathlib.Core.Bool.{Bool, true, false, cond}
 use mathlib.Core.List.{List, [], _∷_, map}
-use lib.Dec.{leb, ltb, eqb, lit<, lit≤}
+use lib.Dec.{ltb, eqb, lit<, lit≤}
 use native.Mathlib.Nat.{mul-pos, pos-of-ne-zero}
 use native.Mathlib.Omega.{arith}
 use borrow.Author.Tests.{eqb-true, eqb-false}
@@ -11,14 +11,14 @@ use Rattle.estimate.specs.Fraction.{Fraction, fraction, _//_, whole, _+ᶠ_, _*
 use Rattle.estimate.specs.FractionLaws.{//-num, positive-above, lesser-by}
 use Rattle.estimate.specs.Power.{powerUnder}
 use Rattle.estimate.specs.PowerLaws.{power-under-≥-one}
-use Rattle.estimate.specs.Exponential.{exp-under-positive}
-use Rattle.estimate.specs.ExponentialBounds.{exp-neg-under-positive}
+use Rattle.estimate.specs.SignedExponent.{Plus, signed-under-positive}
 use Rattle.site.specs.declared.values.Site.{Site}
 use Rattle.site.specs.Writing.{Valid}
 use Rattle.site.specs.Numbers.{segmentOf, crossingOf, segment-sizes, crossing-sizes}
 use Rattle.model.specs.Coefficients.{Coefficients}
 use Rattle.model.specs.Access.{drivewayAt, drivewayPart}
-use Rattle.model.specs.Parts.{Term, exponential, exponentialNegative, hazard}
+use Rattle.model.specs.Crossings.{skewExponent}
+use Rattle.model.specs.Parts.{Term, baseExponent, hazardExponent}
 use Rattle.model.specs.Parts.{Factor, Exact, Base, Hazard, Driveways, MajorTraffic, MinorTraffic, Skew, partOf}
 use Rattle.model.specs.Parts.{segmentFactors, crossingFactors, segmentStart, crossingStart, segmentParts, crossingParts, partsOf}
 use Rattle.model.specs.FactorBounds.{capped}
@@ -43,13 +43,6 @@ quotient n d h = rw (//-num n d) h
 power-positive : (d A p : ℕ) → 1 ≤ A → 0 < powerUnder d A p 100 .num
 power-positive d A p h = positive-above one (power-under-≥-one A p 100 (lit< tt) h d)
 
-hazard-positive : (rating d : ℕ) → 0 < hazard rating .under d .num
-hazard-positive rating d = by (leb 3 rating)
-  where
-    by : (b : Bool) → 0 < cond b (exponential (668 * (rating - 3))) (exponentialNegative (668 * (3 - rating))) .under d .num
-    by true = exp-under-positive d _
-    by false = exp-neg-under-positive d _
-
 module _ (k : Coefficients) (rated : Rated k) where
   driveway-positive : (count : ℕ) (ln : Fraction) → 0 < drivewayPart k count ln .num
   unfolding drivewayPart
@@ -64,13 +57,13 @@ module _ (k : Coefficients) (rated : Rated k) where
   -- EACH FACTOR
   factor-positive : (d : ℕ) (factor : Factor) → FactorSized factor → 0 < partOf k factor .under d .num
   factor-positive d (Exact factor) s = capped k (rated .bounded) factor s .positive
-  factor-positive d (Base kind) s = exp-neg-under-positive d _
-  factor-positive d (Hazard rating) s = hazard-positive rating d
+  factor-positive d (Base kind) s = signed-under-positive d (baseExponent k kind)
+  factor-positive d (Hazard rating) s = signed-under-positive d (hazardExponent rating)
   factor-positive d (Driveways count traffic) s =
       lesser-by _ _ (λ (x : Fraction). 0 < x .num) (λ _. driveway-positive count _) (λ _. driveway-positive count _)
   factor-positive d (MajorTraffic kind traffic) s = power-positive d _ _ (s .2 .least)
   factor-positive d (MinorTraffic kind traffic) s = power-positive d _ _ (s .2 .least)
-  factor-positive d (Skew kind degrees) s = exp-under-positive d _
+  factor-positive d (Skew kind degrees) s = signed-under-positive d (Plus (skewExponent kind * degrees))
 
   product-positive : (d : ℕ) (factors : List Factor) → AllSized factors → 0 < productUnder d (map (partOf k) factors) .num
   unfolding productUnder

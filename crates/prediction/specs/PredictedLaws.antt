@@ -17,6 +17,7 @@ use Rattle.bracket.specs.WidthLaws.{narrow-in}
 use Rattle.bracket.specs.declared.carry.CarryAnswer.the-variants.{Carried}
 use Rattle.bracket.specs.Carry.{carried, relativePart}
 use Rattle.bracket.specs.Pieces.{unders, overs, shares, product, carried-ends}
+use Rattle.exponential.specs.StoredBrackets.{storedWidth}
 use Rattle.site.specs.declared.values.Site.{Site}
 use Rattle.site.specs.declared.numbers.Segment.{Segment}
 use Rattle.site.specs.declared.numbers.Crossing.{Crossing}
@@ -32,7 +33,6 @@ use Rattle.header.specs.HeaderLaws.{HeaderWithin}
 use Rattle.model.specs.Predicted.{termsOf, productUnder, productOver, sumUnder, sumOver, predictedUnder, predictedOver}
 use Rattle.model.specs.StatedWidths.{widthParts, predictedEach, sitesCounted}
 use Rattle.model.specs.TermLaws.{sites-counted, by-count}
-use Rattle.prediction.specs.Stored.{storedWidth}
 use Rattle.prediction.specs.Factors.{parts, bracketsOf, piecesOf}
 use Rattle.prediction.specs.Pair.{unit, segmentUnits, crossingUnits, pairOf, segmentPair, crossingPair}
 use Rattle.prediction.specs.Pair.{termPair, plus, sumPair, predictedPair, mostTerm, mostPredicted}

@@ -1,15 +1,13 @@
-// The factors that are a power of e at a few exponents only: their brackets are stored, proved to be their estimates rounded
-// outward.
+// The factors that are a power of e at a few exponents only: their brackets are stored, proved by a test to be those of their exponents.
 ghost use mathlib.Core.Path.{_≡_};
 ghost use Prim.Native.Nat.{_≤_};
 ghost use Rattle.model.specs.Coefficients.{coefficientsOf};
-ghost use Rattle.model.specs.Parts.{Base, hazard};
-ghost use Rattle.prediction.specs.Stored.{storedBracket, StoredBases, StoredHazards, overScale};
+ghost use Rattle.model.specs.Parts.{Base, hazardExponent};
+ghost use Rattle.exponential.specs.StoredBrackets.{storedBracket};
+ghost use Rattle.prediction.specs.Stored.{StoredBases, StoredHazards};
 ghost use Rattle.prediction.specs.Factors.{bracketOf};
 use bracket::Bracket;
-
-// What a stored number is over.
-const SCALE: u64 = 10_000_000_000_000;
+use exponential::stored_bracket::stored_bracket;
 
 // By kind, the low and the high of edition 1's e^(-0.4865), e^(-10.9), e^(-9.34) and e^(-5.73).
 const BASES_ONE: [u64; 8] = [
@@ -68,18 +66,6 @@ fn stored_hazards() -> [u64; 14]
     HAZARDS
 }
 
-// The bracket of two stored numbers.
-fn over_scale(low: u64, high: u64) -> Bracket
-    ensures { λ r. ⌜ r ≡ overScale low high ⌝ }
-{
-    Bracket {
-        low_num: low,
-        low_den: SCALE,
-        high_num: high,
-        high_den: SCALE,
-    }
-}
-
 // The base factor of a kind, e^(-0.4865) for a segment of edition 1.
 pub fn base_factor(edition: u64, kind: u8) -> Bracket
     requires { ⌜ kind ≤ 3 ⌝ }
@@ -87,15 +73,15 @@ pub fn base_factor(edition: u64, kind: u8) -> Bracket
 {
     let ends = stored_bases(edition);
     let at = 2 * (kind as usize);
-    over_scale(ends[at], ends[at + 1])
+    stored_bracket(ends[at], ends[at + 1])
 }
 
 // e^(0.0668 (rating - 3)).
 pub fn hazard_factor(rating: u64) -> Bracket
     requires { ⌜ (1 ≤ rating) × (rating ≤ 7) ⌝ }
-    ensures { λ r. ⌜ r ≡ storedBracket (hazard rating) ⌝ }
+    ensures { λ r. ⌜ r ≡ storedBracket (hazardExponent rating) ⌝ }
 {
     let ends = stored_hazards();
     let at = 2 * ((rating - 1) as usize);
-    over_scale(ends[at], ends[at + 1])
+    stored_bracket(ends[at], ends[at + 1])
 }

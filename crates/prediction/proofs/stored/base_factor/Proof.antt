@@ -1,12 +1,12 @@
 use mathlib.Core.Path.{_∙_}
 use native.Mathlib.Omega.{arith}
-use Rattle.prediction.specs.Stored.{entry-is}
+use Rattle.exponential.specs.StoredBracketLaws.{entry-is}
 use borrow.Author.Needs.{needs}
 use Rattle.prediction.proofs.stored.base_factor.Statement.{statement}
 use Rattle.prediction.proofs.stored.base_factor.Tie as tie
 
 returns : tie.Need-returns
-returns c = let s = c .before in c .over-scale .ensures ∙ entry-is (s .stored-bases .ensures) (s .before .args .kind) (omega arith)
+returns c = let s = c .before in c .stored-bracket .ensures ∙ entry-is (s .stored-bases .ensures) (s .before .args .kind) (omega arith)
 
 pub base-factor-spec : {M : Type 1} → statement M
 base-factor-spec =

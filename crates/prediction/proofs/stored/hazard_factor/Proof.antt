@@ -1,8 +1,9 @@
 use Prim.Native.Nat.{ℕ, suc, _-_}
 use mathlib.Core.Path.{_≡_, ap, _∙_}
 use native.Mathlib.Omega.{arith}
-use Rattle.model.specs.Parts.{hazard}
-use Rattle.prediction.specs.Stored.{storedBracket, entry-is}
+use Rattle.exponential.specs.StoredBrackets.{storedBracket}
+use Rattle.exponential.specs.StoredBracketLaws.{entry-is}
+use Rattle.model.specs.Parts.{hazardExponent}
 use borrow.Author.Needs.{needs}
 use Rattle.prediction.proofs.stored.hazard_factor.Statement.{statement}
 use Rattle.prediction.proofs.stored.hazard_factor.Tie as tie
@@ -12,7 +13,7 @@ returns c =
     let s = c .before in
     let rating = s .before .args .rating in
     let is : suc (rating - 1) ≡ rating = omega arith in
-    c .over-scale .ensures ∙ entry-is (s .stored-hazards .ensures) (rating - 1) (omega arith) ∙ ap (λ (n : ℕ). storedBracket (hazard n)) is
+    c .stored-bracket .ensures ∙ entry-is (s .stored-hazards .ensures) (rating - 1) (omega arith) ∙ ap (λ (n : ℕ). storedBracket (hazardExponent n)) is
 
 pub hazard-factor-spec : {M : Type 1} → statement M
 hazard-factor-spec =
