@@ -125,19 +125,16 @@ pub with-tail-adds-terms : (m : ℕ) (x : Fraction) → sumWithTail m x =ᶠ add
 unfolding sumWithTail whole fraction _+ᶠ_ _*ᶠ_
 with-tail-adds-terms m x = record { cross = omega (arith, terms-more m x (partial-sum-adds-terms m x) 2) }
 
--- WORKED FIGURES
+-- IN DOCUMENT 01'S NUMBERS, at every depth: "m = 40 + d: under is the sum of x^i/i! for i from 0 to m; over adds 2x^(m+1)/(m+1)!"
+pub under-adds-terms : (d : ℕ) (x : Fraction) → expUnder d x =ᶠ addedTerms (40 + d) x
+unfolding expUnder
+under-adds-terms d x = partial-sum-adds-terms (40 + d) x
 
--- e^1 at depth d: under is the sum for i from 0 to m, and over adds 2/f
-pub record EToOne (d m f : ℕ) : Type 0 where
-  pub under : expUnder d (whole 1) =ᶠ addedTerms m (whole 1)
-  pub over : expOver d (whole 1) =ᶠ expUnder d (whole 1) +ᶠ 2 // f
+pub over-adds-terms : (d : ℕ) (x : Fraction) → expOver d x =ᶠ addedTerms (40 + d) x +ᶠ whole 2 *ᶠ term (suc (40 + d)) x
+unfolding expOver
+over-adds-terms d x = with-tail-adds-terms (40 + d) x
 
--- at depth 1 for i to 41, and 2/42! more
-pub e-at-depth-one : EToOne 1 41 1405006117752879898543142606244511569936384000000000
+-- A WORKED FIGURE, e^1 at depth 1: over is under and 2/42!
+pub e-at-depth-one : expOver 1 (whole 1) =ᶠ expUnder 1 (whole 1) +ᶠ 2 // 1405006117752879898543142606244511569936384000000000
 unfolding expUnder expOver partialSum sumWithTail sumNum termNum termDen whole fraction _+ᶠ_ _//_
-e-at-depth-one = record { under = partial-sum-adds-terms 41 (whole 1); over = record { cross = refl } }
-
--- at depth 2 for i to 42, and 2/43! more
-pub e-at-depth-two : EToOne 2 42 60415263063373835637355132068513997507264512000000000
-unfolding expUnder expOver partialSum sumWithTail sumNum termNum termDen whole fraction _+ᶠ_ _//_
-e-at-depth-two = record { under = partial-sum-adds-terms 42 (whole 1); over = record { cross = refl } }
+e-at-depth-one = record { cross = refl }

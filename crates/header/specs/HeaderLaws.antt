@@ -15,8 +15,8 @@ use Rattle.site.specs.Rules.{inside, lastEdition, editionKnown, yearsKnown}
 use Rattle.site.specs.Record.{word}
 use Rattle.site.specs.Tested.{unknown-neither, neither-unknown, known-either, years-exactly}
 use Rattle.header.specs.declared.Header.{Header}
-use Rattle.header.specs.Layout.{byte, HeaderByBytes}
-use Rattle.header.specs.Header.{headerLength, editionIn, headerIn, countIn, mostCalibration, mostSites}
+use Rattle.header.specs.Layout.{byte, HeaderByBytes, HeaderOfValues}
+use Rattle.header.specs.Header.{headerLength, editionIn, headerOf, headerIn, countIn, mostCalibration, mostSites}
 use Rattle.header.specs.Header.{inLimits, admits, headerNumber}
 pub use Rattle.header.specs.Causes.{HeaderWithin}
 use Rattle.header.specs.Causes.{WithinLimits, HeaderCause, header-cut, header-edition, header-limits, HeaderAccepted}
@@ -75,6 +75,11 @@ module _ (header : Header) where
 
     pub admits-both : HeaderWithin header × (sites ≤ 1200) → admits header sites ≡ true
     admits-both h = rw (limits-pass (h .0), le-leb sites mostSites (omega (arith, h .1)))
+
+-- WHAT IS HANDED OVER is the header of these values
+pub header-of-values : (edition years segments crossings : ℕ)
+    → HeaderOfValues edition years segments crossings (headerOf edition years segments crossings)
+header-of-values edition years segments crossings = record { edition-is = refl; years-are = refl; segments-are = refl; crossings-are = refl }
 
 module _ (s : List ℕ) where
   -- WHAT IS READ is what the bytes say by number

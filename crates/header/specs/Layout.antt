@@ -1,5 +1,6 @@
 -- Document 01's header by the numbers of its bytes, apart from how it is read and written: which value stands in which byte.
--- `header-by-bytes` of HeaderLaws and `bytes-by-header` of HeaderBytes tie reading and writing to it.
+-- `header-by-bytes` of HeaderLaws and `bytes-by-header` of HeaderBytes tie reading and writing to it, and `header-of-values` of
+-- HeaderLaws the calls that take a header's values.
 use mathlib.Core.Path.{_≡_}
 use mathlib.Core.List.{List}
 use Prim.Native.Nat.{ℕ, _+_, _*_, _/_, _%_}
@@ -34,3 +35,10 @@ pub record BytesByHeader (header : Header) (sites : ℕ) (s : List ℕ) : Type 0
   pub byte-5 : byte s 5 ≡ header .crossings % 256
   pub byte-6 : byte s 6 ≡ sites / 256
   pub byte-7 : byte s 7 ≡ sites % 256
+
+-- and a header of four values that are handed over, in this order
+pub record HeaderOfValues (edition years segments crossings : ℕ) (header : Header) : Type 0 where
+  pub edition-is : header .edition ≡ edition
+  pub years-are : header .years ≡ years
+  pub segments-are : header .segments ≡ segments
+  pub crossings-are : header .crossings ≡ crossings

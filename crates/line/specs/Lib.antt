@@ -2,8 +2,8 @@
 -- no public call does. Laws of these: the others.
 pub mod Line
 pub mod Stands
-pub mod NeededParts
 pub mod Dispersion
 pub mod LineLaws
 pub mod Weighing
 pub mod AnswerLaws
+pub mod NeededParts

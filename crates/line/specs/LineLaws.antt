@@ -64,8 +64,8 @@ number-of : (m O : ℕ) → _≡_ {A = Slot} (Number m) (Number O) → m ≡ O
 number-of m O e = ap number e
 
 -- without a history, the width of n sites is that of a predicted pair and more
-wide-enough : (n wn wd low high : ℕ) → 1000000 * high ≤ 1000000 * low + 1000000 * (4 * n) + 1 * high
-    → 1000000 * high * wd ≤ 1000000 * low * wd + 1000000 * 8 * (n * wd + wn) + high * wd
+wide-enough : (n wn wd low high : ℕ) → widthParts * high ≤ widthParts * low + widthParts * (predictedEach * n) + 1 * high
+    → widthParts * high * wd ≤ widthParts * low * wd + widthParts * expectedEach * (n * wd + wn) + high * wd
 wide-enough n wn wd low high h = omega (arith, mul-le-mul-right wd h)
 
 -- with one, a width w / d within W / D

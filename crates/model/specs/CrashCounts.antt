@@ -1,5 +1,5 @@
--- WHAT OBSERVED CRASHES COUNT FOR in the expected width: each once, as often as its site, or on a segment of edition 2 1 + k times. In
--- a line they are rounded up once for the site, in the totals once for all sites. The looser readings follow.
+-- WHAT OBSERVED CRASHES COUNT FOR in the expected width: each as often as its site counts; on a segment of edition 2, 1 + k times that.
+-- In a line they are rounded up once for the site, in the totals once for all sites. The looser readings follow.
 use Prim.Native.Nat.{ℕ, zero, suc, _+_, _*_, _≤_, _<_}
 use mathlib.Core.Path.{_≡_, refl, ap}
 use mathlib.Core.Bool.{Bool, true, false, cond}
@@ -119,7 +119,7 @@ module _ (c : Coefficients) (years : ℕ) where
   abbrev byCrash : Site → ℕ
   byCrash site =
       let count = c .crash-count (site .kind) (number (site .length)) in
-      sitesCounted years site * number (site .observed) * ceiling 1 (count .num) (count .den)
+      crashes years site * ceiling 1 (count .num) (count .den)
 
   by-site-at-most-by-crash : (sites : List Site) → countOver (observedWeight c years) sites ≤ countOver byCrash sites
   unfolding countOver
@@ -129,12 +129,13 @@ module _ (c : Coefficients) (years : ℕ) where
   pub totals-at-most-by-crash : (sites : List Site) → observedIn c years sites ≤ countOver byCrash sites
   totals-at-most-by-crash sites = le-trans (totals-at-most-by-site sites) (by-site-at-most-by-crash sites)
 
--- IN DOCUMENT 02'S NUMBERS: the sites of a list, one with a traffic for each of Y years as Y
+-- IN DOCUMENT 02'S NUMBERS, written out apart from StatedWidths so that a wider count there is refused: the sites of a list, one with a
+-- traffic for each of Y years as Y
 unfoldable pub sitesOver : (years : ℕ) → List Site → ℕ
 sitesOver years [] = 0
 sitesOver years (site ∷ sites) = cond (yearly site) years 1 + sitesOver years sites
 
--- and what their observed crashes count for: each as often as its site, and on a segment of length L in edition 2 1 + 236 / L times
+-- and what their observed crashes count for: each as often as its site; on a segment of length L in edition 2, 1 + 236 / L times that
 abbrev pub crashesOf : (edition years : ℕ) → Site → Fraction
 crashesOf edition years site =
     let crashes = whole (cond (yearly site) years 1 * number (site .observed)) in
@@ -181,7 +182,7 @@ pub counted-at-most : (edition years : ℕ) (sites : List Site) (t : ℕ) → cr
 counted-at-most edition years sites t h =
     least-not-below (addedUp (crashesCounted (coefficientsOf edition) years) sites) t (≤ᶠ-trans (crashes-over edition years sites) h)
 
--- A FIGURE: 1,200 segments of 20 miles with one crash each count for 1,214.16 crashes in edition 2, so for 1,215
+-- A FIGURE: 1,200 segments of 20 miles with one crash each count for 1,214.16 crashes in edition 2, so for at most 1,215
 pub same-site : (each : Site → Fraction) (site : Site) (n : ℕ) → addedUp each (replicate n site) ≤ᶠ whole n *ᶠ each site
 unfolding addedUp whole fraction _+ᶠ_ _*ᶠ_
 same-site each site zero = record { cross = omega arith }

@@ -1,6 +1,7 @@
 -- The driveway part's slope and the values that fall with traffic are not cut off at 0. Of the other subtractions of the factors those
--- of a lane's column, a curve and a hazard rating stand behind a test that keeps them from it, 1,000 less the share is not cut off where
--- an edition is `Bounded` (FactorBounds), and the percent above six of a grade are meant to be 0 up to six (`grade-is`).
+-- of the traffic above 400, a lane's column, a curve and a hazard rating are made behind a test that keeps them from it, 1,000 less the
+-- share is not cut off where an edition is `Bounded` (FactorBounds), and the percent above six of a grade are meant to be 0 up to six
+-- (`grade-is`).
 use Prim.Native.Nat.{ℕ, zero, suc, _-_, _*_, _≤_}
 use mathlib.Core.Bool.{Bool, true}
 use mathlib.Core.List.{List, [], _∷_}

@@ -9,7 +9,7 @@ use libc::STDOUT_FILENO;
 use power::power;
 use power_by_ends::power_by_ends;
 
-// What the upper four bytes of a number count.
+// The upper four bytes of a number count so many times their value.
 const HALF: u64 = 4294967296;
 
 // The bytes of three numbers.

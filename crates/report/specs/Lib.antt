@@ -2,10 +2,10 @@
 -- Fill too, and no public call does. Laws of these: the others.
 pub mod Report
 pub mod Demand
-pub mod NeededParts
 pub mod DemandLaws
 pub mod Fill
 pub mod Accepted
+pub mod NeededParts
 pub mod Zeros
 pub mod OneReport
 pub mod ReaderCauses
