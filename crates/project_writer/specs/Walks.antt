@@ -1,17 +1,21 @@
 -- Laws of the walk over the sites: where it ends, and one turn of a loop that walks.
 use mathlib.Core.Path.{_≡_, refl, ap, sym, _∙_}
 use mathlib.Core.Bool.{Bool, true, false, cond}
-use mathlib.Core.List.{List, [], _∷_, append-nil}
+use mathlib.Core.List.{List, [], _∷_, _++_, append-nil, append-assoc}
 use Prim.Native.Nat.{ℕ, suc, _+_, _<_, _≤_}
-use native.Mathlib.Nat.{add-zero}
+use native.Mathlib.Nat.{add-zero, zero-add}
 use native.Mathlib.Omega.{arith}
-use lib.ListN.{length, getD, drop, length-append}
-use lib.Seq.{sets, length-sets}
+use lib.ListN.{length, getD, take, drop, length-append, length-drop}
+use lib.Seq.{sets, length-sets, sets-eq, drop-drop}
 use Rattle.laws.specs.Walk.{next, at-end}
 use Rattle.laws.specs.Stores.{sets-more}
 use Rattle.site.specs.declared.values.Site.{Site}
+use Rattle.site.specs.declared.values.WriteAnswer.{WriteAnswer}
+use Rattle.site.specs.declared.values.WriteAnswer.the-variants.{Written}
 use Rattle.site.specs.Writing.{recordOf, sound, Valid}
 use Rattle.site.specs.Theorems.{record-length}
+use Rattle.site.specs.Written.{length-answered, record-written}
+use Rattle.site.specs.Promises.{WritesSite}
 use Rattle.project_writer.specs.declared.course.FileAnswer.{FileAnswer}
 use Rattle.project_writer.specs.declared.course.FileAnswer.the-variants.{OutsideRange}
 use Rattle.project_writer.specs.declared.course.Course.{Course}
@@ -131,6 +135,26 @@ module _ (edition years : ℕ) (site : Site) (sites : List Site) where
       by false q = tt
   walks-rest (Placed at) room w = (all-sound edition years site sites (w .0) .1, omega (arith, records-length edition site sites))
   walks-rest (Stopped answer) room w = w
+
+-- AS THE SITE WRITER: where a site is written, the step leaves what `write_site` would, called for the part of the buffer from the
+-- place reached, and goes on by the length that it would answer
+pub as-site-writer : (edition years : ℕ) (site : Site) (at : ℕ) (buffer afterwards : List ℕ) (answer : WriteAnswer)
+    → Walks edition years (site ∷ []) (Placed at) (length buffer) → WritesSite edition years site (drop at buffer) afterwards answer
+    → (answer ≡ Written (length (recordOf edition site))) × (stepBuffer edition site (Placed at) buffer ≡ take at buffer ++ afterwards)
+as-site-writer edition years site at buffer afterwards answer w s =
+    let p = walks-valid edition years site [] at (length buffer) w in
+    let fits : length (recordOf edition site) ≤ length (drop at buffer) = omega (arith, p .1, length-drop at buffer) in (
+      s .answer-is ∙ length-answered (drop at buffer) (p .0) fits,
+      rw (
+        s .buffer-is,
+        record-written (drop at buffer) (p .0) fits,
+        sets-eq (recordOf edition site) buffer at (p .1),
+        sets-eq (recordOf edition site) (drop at buffer) 0 (omega arith),
+        drop-drop,
+        zero-add,
+        append-assoc,
+      ) refl,
+    )
 
 -- A LOOP that has come to the site at an index: the sites from there on take it where the whole walk ends
 pub record Walked (edition years : ℕ) (sites : List Site) (start : Course) (before : List ℕ) (i : ℕ) (course : Course) (buffer : List ℕ) : Type 0 where

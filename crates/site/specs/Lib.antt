@@ -25,5 +25,6 @@ pub mod PlaceLaws
 pub mod FieldsRead
 pub mod RecordCauses
 pub mod Theorems
+pub mod Written
 pub mod Known
 pub mod Promises

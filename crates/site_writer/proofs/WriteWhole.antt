@@ -8,7 +8,7 @@ use lib.ListN.{length, getD, length-append}
 use lib.Dec.{leb}
 use borrow.Author.Tests.{lt-leb, le-leb}
 use lib.Seq.{sets}
-use Rattle.laws.specs.Stores.{Puts, sets-more, sets-laid}
+use Rattle.laws.specs.Stores.{Puts, sets-more}
 use Rattle.site.specs.declared.rules.Rule.{Rule}
 use Rattle.site.specs.declared.values.Slot.{Slot}
 use Rattle.site.specs.declared.values.Site.{Site}
@@ -25,7 +25,8 @@ use Rattle.site.specs.Writing.{writeRefusal, writeAnswer, writeInto}
 use Rattle.site.specs.Tested.{bitCount, tested-rules}
 use Rattle.site.specs.WriteRead.{firstField, secondField, otherFields, bytes-parts}
 use Rattle.site.specs.LaterLaws.{later-read-back}
-use Rattle.site.specs.Theorems.{ten-exactly, zero-exactly}
+use Rattle.site.specs.Theorems.{ten-exactly}
+use Rattle.site.specs.Written.{length-answered, record-written}
 use Rattle.site.specs.Promises.{MeasuresSite, measures-site, WritesSite, writes-site}
 
 -- an edition or years outside their limits, a kind above the last, or later years that are not right are outside their range
@@ -184,8 +185,4 @@ module _ (edition years : ℕ) (site : Site) (before : List ℕ) where
 
   pub all-written : Valid edition years site → length (recordOf edition site) ≤ length before
       → WritesSite edition years site before (sets before 0 (recordOf edition site)) (Written (length (recordOf edition site)))
-  unfolding writeAnswer writeInto
-  all-written v h =
-      let l = le-leb (length (recordOf edition site)) (length before) h in
-      writes-site edition years site before _ (Written (length (recordOf edition site))) (rw (zero-exactly edition years site (length before) .1 (v, h)))
-      (rw (v .is-sound, l) (sets-laid (recordOf edition site) before h))
+  all-written v h = writes-site edition years site before _ _ (sym (length-answered before v h)) (sym (record-written before v h))
