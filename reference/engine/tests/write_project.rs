@@ -7,10 +7,10 @@ use reference::generate::{self, Random};
 use reference::project::{self, Header, Project};
 use reference::record::Site;
 use reference::rules::{EDITIONS, LAST_EDITION, MOST_YEARS};
-use std::fs;
 use std::os::unix::fs::symlink;
 use std::path::{Path, PathBuf};
-use std::process::Command;
+use std::process::{self, Command};
+use std::{env, fs};
 
 const PROGRAM: &str = "written_project";
 
@@ -115,11 +115,11 @@ fn root() -> PathBuf {
 }
 
 /// A repository of the engine's crates and the program, with what it reads and
-/// what it must print.
+/// what it must print. It stands outside the engine's own, which may hold no
+/// program that is not proved.
 fn repository(input: &[u8], output: &[u8]) -> PathBuf {
-    let folder = Path::new(env!("CARGO_TARGET_TMPDIR")).join(PROGRAM);
+    let folder = env::temp_dir().join(format!("{PROGRAM}.{}", process::id()));
     let program = folder.join("crates").join(PROGRAM);
-    let _ = fs::remove_dir_all(&folder);
     fs::create_dir_all(program.join("src")).expect("a folder");
     for name in fs::read_dir(root().join("crates")).expect("the crates") {
         let path = name.expect("a crate").path();
@@ -153,10 +153,10 @@ fn lent_sites_are_written_as_by_the_reference() {
     assert_eq!(numbers, [0, 3, 4, 8, 10]);
     let input: Vec<u8> = cases.iter().flat_map(Case::input).collect();
     let output: Vec<u8> = cases.iter().flat_map(Case::output).collect();
-    let tried = Command::new("rt")
-        .args(["try", PROGRAM])
-        .current_dir(repository(&input, &output))
-        .output()
-        .expect("rt runs");
+    let folder = repository(&input, &output);
+    let mut run = Command::new("rt");
+    let tried = run.args(["try", PROGRAM]).current_dir(&folder).output();
+    fs::remove_dir_all(&folder).expect("removed");
+    let tried = tried.expect("rt runs");
     assert!(tried.status.success(), "{tried:?}");
 }
