@@ -105,30 +105,6 @@ module _ (years : ℕ) (site : Site) where
         let up = mul-le-mul-left crashes (ceiling-ge 1 (count .num) (count .den) (count .pos)) in
         least-not-below (crashesCounted c years site) _ (record { cross = omega (arith, up) })
 
--- IN THE TOTALS, rounded up once, they count for at most what they do rounded up site by site, and so crash by crash
-module _ (c : Coefficients) (years : ℕ) where
-  added-at-most : (sites : List Site) → addedUp (crashesCounted c years) sites ≤ᶠ whole (countOver (observedWeight c years) sites)
-  unfolding addedUp countOver
-  added-at-most [] = ≤ᶠ-refl (whole 0)
-  added-at-most (site ∷ sites) =
-      ≤ᶠ-trans (+ᶠ-mono (not-below (crashesCounted c years site)) (added-at-most sites)) (whole-adds _ _ .0)
-
-  pub totals-at-most-by-site : (sites : List Site) → observedIn c years sites ≤ countOver (observedWeight c years) sites
-  totals-at-most-by-site sites = least-not-below (addedUp (crashesCounted c years) sites) _ (added-at-most sites)
-
-  abbrev byCrash : Site → ℕ
-  byCrash site =
-      let count = c .crash-count (site .kind) (number (site .length)) in
-      crashes years site * ceiling 1 (count .num) (count .den)
-
-  by-site-at-most-by-crash : (sites : List Site) → countOver (observedWeight c years) sites ≤ countOver byCrash sites
-  unfolding countOver
-  by-site-at-most-by-crash [] = lit≤ tt
-  by-site-at-most-by-crash (site ∷ sites) = add-le-add (at-most-by-crash years site c) (by-site-at-most-by-crash sites)
-
-  pub totals-at-most-by-crash : (sites : List Site) → observedIn c years sites ≤ countOver byCrash sites
-  totals-at-most-by-crash sites = le-trans (totals-at-most-by-site sites) (by-site-at-most-by-crash sites)
-
 -- IN DOCUMENT 02'S NUMBERS, written out apart from StatedWidths so that a wider count there is refused: the sites of a list, one with a
 -- traffic for each of Y years as Y
 unfoldable pub sitesOver : (years : ℕ) → List Site → ℕ
@@ -181,6 +157,30 @@ pub counted-at-most : (edition years : ℕ) (sites : List Site) (t : ℕ) → cr
     → observedIn (coefficientsOf edition) years sites ≤ t
 counted-at-most edition years sites t h =
     least-not-below (addedUp (crashesCounted (coefficientsOf edition) years) sites) t (≤ᶠ-trans (crashes-over edition years sites) h)
+
+-- IN THE TOTALS, rounded up once, they count for at most what they do rounded up site by site, and so crash by crash
+module _ (c : Coefficients) (years : ℕ) where
+  added-at-most : (sites : List Site) → addedUp (crashesCounted c years) sites ≤ᶠ whole (countOver (observedWeight c years) sites)
+  unfolding addedUp countOver
+  added-at-most [] = ≤ᶠ-refl (whole 0)
+  added-at-most (site ∷ sites) =
+      ≤ᶠ-trans (+ᶠ-mono (not-below (crashesCounted c years site)) (added-at-most sites)) (whole-adds _ _ .0)
+
+  pub totals-at-most-by-site : (sites : List Site) → observedIn c years sites ≤ countOver (observedWeight c years) sites
+  totals-at-most-by-site sites = least-not-below (addedUp (crashesCounted c years) sites) _ (added-at-most sites)
+
+  abbrev byCrash : Site → ℕ
+  byCrash site =
+      let count = c .crash-count (site .kind) (number (site .length)) in
+      crashes years site * ceiling 1 (count .num) (count .den)
+
+  by-site-at-most-by-crash : (sites : List Site) → countOver (observedWeight c years) sites ≤ countOver byCrash sites
+  unfolding countOver
+  by-site-at-most-by-crash [] = lit≤ tt
+  by-site-at-most-by-crash (site ∷ sites) = add-le-add (at-most-by-crash years site c) (by-site-at-most-by-crash sites)
+
+  pub totals-at-most-by-crash : (sites : List Site) → observedIn c years sites ≤ countOver byCrash sites
+  totals-at-most-by-crash sites = le-trans (totals-at-most-by-site sites) (by-site-at-most-by-crash sites)
 
 -- A FIGURE: 1,200 segments of 20 miles with one crash each count for 1,214.16 crashes in edition 2, so for at most 1,215
 pub same-site : (each : Site → Fraction) (site : Site) (n : ℕ) → addedUp each (replicate n site) ≤ᶠ whole n *ᶠ each site
