@@ -6,8 +6,8 @@ use Rattle.bracket.specs.declared.BracketAnswer.{BracketAnswer}
 use Rattle.bracket.specs.declared.BracketAnswer.TheVariants.{Between, OutOfRange}
 
 -- "an argument outside the range stated for such a bracket is answered as that, with no bracket"
-abbrev pub answerWhere : (inside : Bool) → Bracket → BracketAnswer
-answerWhere inside b = cond inside (Between b) OutOfRange
+abbrev pub answer_where : (inside : Bool) → Bracket → BracketAnswer
+answer_where inside b = cond inside (Between b) OutOfRange
 
 -- a bracket that is answered has what is promised of it; none is answered outside the range only
 abbrev pub AnswerPromised : (Promised : Bracket → Type 0) (Outside : Type 0) → BracketAnswer → Type 0
@@ -22,26 +22,26 @@ pub record Answers (Range : Type 0) (Promised : Bracket → Type 0) (Outside : T
   pub outside : (Range → ⊥) → Outside
 
 module _ {Range : Type 0} {Promised : Bracket → Type 0} {Outside : Type 0} {inside : Bool} {b : Bracket} (a : Answers Range Promised Outside inside b) where
-  pub answer-in-range : Range → answerWhere inside b ≡ Between b
-  answer-in-range r = rw (a.passed r)
+  pub answer_in_range : Range → answer_where inside b ≡ Between b
+  answer_in_range r = rw (a.passed r)
 
-  pub answer-out-of-range : (Range → ⊥) → answerWhere inside b ≡ OutOfRange
-  answer-out-of-range f = by inside refl
+  pub answer_out_of_range : (Range → ⊥) → answer_where inside b ≡ OutOfRange
+  answer_out_of_range f = by inside refl
     where
-      by : (v : Bool) → inside ≡ v → answerWhere v b ≡ OutOfRange
+      by : (v : Bool) → inside ≡ v → answer_where v b ≡ OutOfRange
       by true e = absurd (f (a.within (rw e tt)))
       by false e = refl
 
-  pub answer-stands : AnswerPromised Promised Outside (answerWhere inside b)
-  answer-stands = by inside refl
+  pub answer_stands : AnswerPromised Promised Outside (answer_where inside b)
+  answer_stands = by inside refl
     where
-      by : (v : Bool) → inside ≡ v → AnswerPromised Promised Outside (answerWhere v b)
+      by : (v : Bool) → inside ≡ v → AnswerPromised Promised Outside (answer_where v b)
       by true e = a.kept (a.within (rw e tt))
       by false e = a.outside (λ r. let t = a.passed r in let z : ◌≡◌ {A = ℕ} 0 1 = cc in omega arith)
 
   -- THE TWO ANSWERS OF A CALL, with all that it ensures
-  pub refused : (Range → ⊥) → (OutOfRange ≡ answerWhere inside b) × Outside
-  refused f = (sym (answer-out-of-range f), a.outside f)
+  pub refused : (Range → ⊥) → (OutOfRange ≡ answer_where inside b) × Outside
+  refused f = (sym (answer_out_of_range f), a.outside f)
 
-  pub given : {made : Bracket} → Range → made ≡ b → (Between made ≡ answerWhere inside b) × Promised made
-  given r e = rw e (sym (answer-in-range r), a.kept r)
+  pub given : {made : Bracket} → Range → made ≡ b → (Between made ≡ answer_where inside b) × Promised made
+  given r e = rw e (sym (answer_in_range r), a.kept r)

@@ -1,7 +1,7 @@
 -- A bracket of whole numbers carried through a list of factors: the low rounded down at each, the high rounded up.
 use Rattle.std.specs.Prelude.{ℕ, ◌+◌, ◌*◌, ◌≤◌, List, [], ◌∷◌}
 use Rattle.estimate.specs.Fraction.{Fraction}
-use Rattle.wide.specs.Scaling.{scaledDown, scaledUp, ceiling}
+use Rattle.wide.specs.Scaling.{scaled_down, scaled_up, ceiling}
 use Rattle.wide.specs.declared.scale.Scaled.{Scaled}
 use Rattle.wide.specs.declared.scale.Scaled.TheVariants as scaled
 use Rattle.bracket.specs.Bracket.{RelativeWidth}
@@ -18,17 +18,17 @@ onward scaled.TooLarge s k = TooLarge
 abbrev pub carried : ℕ → ℕ → List Bracket → CarryAnswer
 carried low high [] = Carried low high
 carried low high (f ∷ fs) =
-    onward (scaledDown low f.low_num f.low_den) (scaledUp high f.high_num f.high_den) (λ x y. carried x y fs)
+    onward (scaled_down low f.low_num f.low_den) (scaled_up high f.high_num f.high_den) (λ x y. carried x y fs)
 
 -- from what earlier factors answered: what did not fit stays so
-abbrev pub carriedOn : CarryAnswer → List Bracket → CarryAnswer
-carriedOn (Carried low high) fs = carried low high fs
-carriedOn TooLarge fs = TooLarge
+abbrev pub carried_on : CarryAnswer → List Bracket → CarryAnswer
+carried_on (Carried low high) fs = carried low high fs
+carried_on TooLarge fs = TooLarge
 
 -- a list's factors taken one at a time, as code goes through them
-abbrev pub oneByOne : CarryAnswer → List Bracket → CarryAnswer
-oneByOne a [] = a
-oneByOne a (f ∷ fs) = oneByOne (carriedOn a (f ∷ [])) fs
+abbrev pub one_by_one : CarryAnswer → List Bracket → CarryAnswer
+one_by_one a [] = a
+one_by_one a (f ∷ fs) = one_by_one (carried_on a (f ∷ [])) fs
 
 -- each factor's low is at most the fraction beside it
 abbrev pub LowsBelow : List Bracket → List Fraction → Type 0
@@ -45,13 +45,13 @@ HighsAbove (f ∷ fs) [] = ⊥
 HighsAbove (f ∷ fs) (x ∷ xs) = (x.num * f.high_den ≤ f.high_num * x.den) × HighsAbove fs xs
 
 -- the numerator and the denominator of n / d times a list of fractions
-abbrev pub productNum : ℕ → List Fraction → ℕ
-productNum n [] = n
-productNum n (x ∷ xs) = productNum (n * x.num) xs
+abbrev pub product_num : ℕ → List Fraction → ℕ
+product_num n [] = n
+product_num n (x ∷ xs) = product_num (n * x.num) xs
 
-abbrev pub productDen : ℕ → List Fraction → ℕ
-productDen d [] = d
-productDen d (x ∷ xs) = productDen (d * x.den) xs
+abbrev pub product_den : ℕ → List Fraction → ℕ
+product_den d [] = d
+product_den d (x ∷ xs) = product_den (d * x.den) xs
 
 -- each factor's ends are in order, and it is at most r / R wide, with an r of its own
 abbrev pub Widths : (R : ℕ) → List Bracket → List ℕ → Type 0
@@ -61,11 +61,11 @@ Widths R (f ∷ fs) [] = ⊥
 Widths R (f ∷ fs) (r ∷ rs) = (f.low_num * f.high_den ≤ f.high_num * f.low_den) × RelativeWidth R r f × Widths R fs rs
 
 -- the absolute part of a width after a list of factors: scaled up by each, and 2 more for the two roundings
-abbrev pub absolutePart : ℕ → List Bracket → ℕ
-absolutePart a [] = a
-absolutePart a (f ∷ fs) = absolutePart (ceiling a f.high_num f.high_den + 2) fs
+abbrev pub absolute_part : ℕ → List Bracket → ℕ
+absolute_part a [] = a
+absolute_part a (f ∷ fs) = absolute_part (ceiling a f.high_num f.high_den + 2) fs
 
 -- and the relative part: they add up
-abbrev pub relativePart : ℕ → List ℕ → ℕ
-relativePart r [] = r
-relativePart r (p ∷ ps) = relativePart (r + p) ps
+abbrev pub relative_part : ℕ → List ℕ → ℕ
+relative_part r [] = r
+relative_part r (p ∷ ps) = relative_part (r + p) ps

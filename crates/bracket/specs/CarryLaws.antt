@@ -2,113 +2,113 @@
 use Rattle.std.specs.Prelude.{◌≡◌, refl, List, [], ◌∷◌, ◌++◌, ℕ, ◌+◌, ◌*◌, ◌≤◌, ◌<◌}
 use Rattle.std.proofs.Common.{sym, ap, ◌∙◌, arith}
 use Rattle.estimate.specs.Fraction.{Fraction}
-use Rattle.wide.specs.Scaling.{floor, ceiling, scaledDown, scaledUp, value-is}
-use Rattle.wide.specs.Rounding.{Narrow, scaled-lower, scaled-upper, scaled-order, scaled-width, ceiling-ge}
+use Rattle.wide.specs.Scaling.{floor, ceiling, scaled_down, scaled_up, value_is}
+use Rattle.wide.specs.Rounding.{Narrow, scaled_lower, scaled_upper, scaled_order, scaled_width, ceiling_ge}
 use Rattle.wide.specs.declared.scale.Scaled.{Scaled}
 use Rattle.wide.specs.declared.scale.Scaled.TheVariants as scaled
-use Rattle.bracket.specs.Carry.{onward, carried, carriedOn, oneByOne, LowsBelow, HighsAbove, productNum, productDen, Widths, absolutePart, relativePart}
-use Rattle.bracket.specs.Ratio.{coded, spanned, exactly, exact-is}
+use Rattle.bracket.specs.Carry.{onward, carried, carried_on, one_by_one, LowsBelow, HighsAbove, product_num, product_den, Widths, absolute_part, relative_part}
+use Rattle.bracket.specs.Ratio.{coded, spanned, exactly, exact_is}
 use Rattle.bracket.specs.declared.Bracket.{Bracket}
 use Rattle.bracket.specs.declared.Ratio.{Ratio}
 use Rattle.bracket.specs.declared.carry.CarryAnswer.{CarryAnswer}
 use Rattle.bracket.specs.declared.carry.CarryAnswer.TheVariants.{Carried, TooLarge}
 
 -- ONE FACTOR AFTER ANOTHER, and then the others, is all of them
-onward-on : (s t : Scaled) (fs : List Bracket) → carriedOn (onward s t (λ x y. Carried x y)) fs ≡ onward s t (λ x y. carried x y fs)
-onward-on (scaled.Value x) (scaled.Value y) fs = refl
-onward-on (scaled.Value x) scaled.TooLarge fs = refl
-onward-on scaled.TooLarge t fs = refl
+onward_on : (s t : Scaled) (fs : List Bracket) → carried_on (onward s t (λ x y. Carried x y)) fs ≡ onward s t (λ x y. carried x y fs)
+onward_on (scaled.Value x) (scaled.Value y) fs = refl
+onward_on (scaled.Value x) scaled.TooLarge fs = refl
+onward_on scaled.TooLarge t fs = refl
 
-carried_first : (a : CarryAnswer) (f : Bracket) (fs : List Bracket) → carriedOn (carriedOn a (f ∷ [])) fs ≡ carriedOn a (f ∷ fs)
-carried_first (Carried low high) f fs = onward-on (scaledDown low f.low_num f.low_den) (scaledUp high f.high_num f.high_den) fs
+carried_first : (a : CarryAnswer) (f : Bracket) (fs : List Bracket) → carried_on (carried_on a (f ∷ [])) fs ≡ carried_on a (f ∷ fs)
+carried_first (Carried low high) f fs = onward_on (scaled_down low f.low_num f.low_den) (scaled_up high f.high_num f.high_den) fs
 carried_first TooLarge f fs = refl
 
-carried_none : (a : CarryAnswer) → carriedOn a [] ≡ a
+carried_none : (a : CarryAnswer) → carried_on a [] ≡ a
 carried_none (Carried low high) = refl
 carried_none TooLarge = refl
 
-pub one_by_one : (fs : List Bracket) (a : CarryAnswer) → oneByOne a fs ≡ carriedOn a fs
-one_by_one [] a = sym (carried_none a)
-one_by_one (f ∷ fs) a = one_by_one fs (carriedOn a (f ∷ [])) ∙ carried_first a f fs
+pub one_by_one_lem : (fs : List Bracket) (a : CarryAnswer) → one_by_one a fs ≡ carried_on a fs
+one_by_one_lem [] a = sym (carried_none a)
+one_by_one_lem (f ∷ fs) a = one_by_one_lem fs (carried_on a (f ∷ [])) ∙ carried_first a f fs
 
 -- a step of it: what the ends so far are, what the factor is, and what came through
-pub further : {a b c : CarryAnswer} {f g : Bracket} → a ≡ b → f ≡ g → c ≡ carriedOn a (f ∷ []) → c ≡ carriedOn b (g ∷ [])
-further {b = b} {f = f} i h e = e ∙ ap (λ (a : CarryAnswer). carriedOn a (f ∷ [])) i ∙ ap (λ (f : Bracket). carriedOn b (f ∷ [])) h
+pub further : {a b c : CarryAnswer} {f g : Bracket} → a ≡ b → f ≡ g → c ≡ carried_on a (f ∷ []) → c ≡ carried_on b (g ∷ [])
+further {b = b} {f = f} i h e = e ∙ ap (λ (a : CarryAnswer). carried_on a (f ∷ [])) i ∙ ap (λ (f : Bracket). carried_on b (f ∷ [])) h
 
 -- and one whose factor is exact
-pub further-exact : {a b c : CarryAnswer} {ratio : Ratio} (x : Fraction) → a ≡ b → ratio ≡ coded x → c ≡ carriedOn a (spanned ratio ratio ∷ [])
-    → c ≡ carriedOn b (exactly x ∷ [])
-further-exact x i h e = further i (exact-is x h) e
+pub further_exact : {a b c : CarryAnswer} {ratio : Ratio} (x : Fraction) → a ≡ b → ratio ≡ coded x → c ≡ carried_on a (spanned ratio ratio ∷ [])
+    → c ≡ carried_on b (exactly x ∷ [])
+further_exact x i h e = further i (exact_is x h) e
 
 -- a list of factors and then another is both
-pub carried-append : (fs gs : List Bracket) (a : CarryAnswer) → carriedOn (carriedOn a fs) gs ≡ carriedOn a (fs ++ gs)
-carried-append [] gs a = ap (λ (b : CarryAnswer). carriedOn b gs) (carried_none a)
-carried-append (f ∷ fs) gs a =
-    ap (λ (b : CarryAnswer). carriedOn b gs) (sym (carried_first a f fs)) ∙ carried-append fs gs (carriedOn a (f ∷ [])) ∙ carried_first a f (fs ++ gs)
+pub carried_append : (fs gs : List Bracket) (a : CarryAnswer) → carried_on (carried_on a fs) gs ≡ carried_on a (fs ++ gs)
+carried_append [] gs a = ap (λ (b : CarryAnswer). carried_on b gs) (carried_none a)
+carried_append (f ∷ fs) gs a =
+    ap (λ (b : CarryAnswer). carried_on b gs) (sym (carried_first a f fs)) ∙ carried_append fs gs (carried_on a (f ∷ [])) ∙ carried_first a f (fs ++ gs)
 
 -- a step that has an answer
 record Step (s t : Scaled) (k : ℕ → ℕ → CarryAnswer) (l h : ℕ) : Type 0 where
   low : ℕ
   high : ℕ
-  low-is : s ≡ scaled.Value low
+  low_is : s ≡ scaled.Value low
   high_is : t ≡ scaled.Value high
   rest : k low high ≡ Carried l h
 
 step_of : (s t : Scaled) (k : ℕ → ℕ → CarryAnswer) (l h : ℕ) → onward s t k ≡ Carried l h → Step s t k l h
-step_of (scaled.Value x) (scaled.Value y) k l h e = record { low = x; high = y; low-is = refl; high_is = refl; rest = e }
+step_of (scaled.Value x) (scaled.Value y) k l h e = record { low = x; high = y; low_is = refl; high_is = refl; rest = e }
 step_of (scaled.Value x) scaled.TooLarge k l h e = let z : ◌≡◌ {A = ℕ} 0 1 = cc in absurd (omega arith)
 step_of scaled.TooLarge t k l h e = let z : ◌≡◌ {A = ℕ} 0 1 = cc in absurd (omega arith)
 
 -- one factor that was carried: its denominators are not 0, and the rest starts at the two roundings
 pub record Past (f : Bracket) (fs : List Bracket) (low high l h : ℕ) : Type 0 where
-  pub low-den : 0 < f.low_den
-  pub high-den : 0 < f.high_den
+  pub low_den : 0 < f.low_den
+  pub high_den : 0 < f.high_den
   pub rest : carried (floor low f.low_num f.low_den) (ceiling high f.high_num f.high_den) fs ≡ Carried l h
 
 pub past : (f : Bracket) (fs : List Bracket) (low high l h : ℕ) → carried low high (f ∷ fs) ≡ Carried l h → Past f fs low high l h
 past f fs low high l h e =
-    let s = step_of (scaledDown low f.low_num f.low_den) (scaledUp high f.high_num f.high_den) (λ x y. carried x y fs) l h e in
-    let x = value-is f.low_den (floor low f.low_num f.low_den) s.low s.low-is in
-    let y = value-is f.high_den (ceiling high f.high_num f.high_den) s.high s.high_is in
+    let s = step_of (scaled_down low f.low_num f.low_den) (scaled_up high f.high_num f.high_den) (λ x y. carried x y fs) l h e in
+    let x = value_is f.low_den (floor low f.low_num f.low_den) s.low s.low_is in
+    let y = value_is f.high_den (ceiling high f.high_num f.high_den) s.high s.high_is in
     record {
-      low-den = x.divisor;
-      high-den = y.divisor;
+      low_den = x.divisor;
+      high_den = y.divisor;
       rest = sym (ap (λ (z : ℕ). carried z s.high fs) x.is ∙ ap (λ (z : ℕ). carried (floor low f.low_num f.low_den) z fs) y.is) ∙ s.rest;
     }
 
 -- THE LOW. low / U at most n / d, and each factor's low at most its fraction: the end is at most the product
-pub carried-low : (fs : List Bracket) (xs : List Fraction) (low high l h n d U : ℕ) → LowsBelow fs xs → low * d ≤ n * U → carried low high fs ≡ Carried l h
-    → l * productDen d xs ≤ productNum n xs * U
-carried-low [] [] low high l h n d U w b e = let q : low ≡ l = cc in rw (← q) b
-carried-low [] (x ∷ xs) low high l h n d U w b e = absurd w
-carried-low (f ∷ fs) [] low high l h n d U w b e = absurd w
-carried-low (f ∷ fs) (x ∷ xs) low high l h n d U w b e =
+pub carried_low : (fs : List Bracket) (xs : List Fraction) (low high l h n d U : ℕ) → LowsBelow fs xs → low * d ≤ n * U → carried low high fs ≡ Carried l h
+    → l * product_den d xs ≤ product_num n xs * U
+carried_low [] [] low high l h n d U w b e = let q : low ≡ l = cc in rw (← q) b
+carried_low [] (x ∷ xs) low high l h n d U w b e = absurd w
+carried_low (f ∷ fs) [] low high l h n d U w b e = absurd w
+carried_low (f ∷ fs) (x ∷ xs) low high l h n d U w b e =
     let g = past f fs low high l h e in
-    carried-low fs xs _ _ l h (n * x.num) (d * x.den) U w.1 (scaled-lower low n d U _ _ x.num x.den b w.0) g.rest
+    carried_low fs xs _ _ l h (n * x.num) (d * x.den) U w.1 (scaled_lower low n d U _ _ x.num x.den b w.0) g.rest
 
 -- THE HIGH. n / d at most high / U, and each fraction at most its factor's high: the product is at most the end
-pub carried-high : (fs : List Bracket) (xs : List Fraction) (low high l h n d U : ℕ) → HighsAbove fs xs → n * U ≤ high * d → carried low high fs ≡ Carried l h
-    → productNum n xs * U ≤ h * productDen d xs
-carried-high [] [] low high l h n d U w b e = let q : high ≡ h = cc in rw (← q) b
-carried-high [] (x ∷ xs) low high l h n d U w b e = absurd w
-carried-high (f ∷ fs) [] low high l h n d U w b e = absurd w
-carried-high (f ∷ fs) (x ∷ xs) low high l h n d U w b e =
+pub carried_high : (fs : List Bracket) (xs : List Fraction) (low high l h n d U : ℕ) → HighsAbove fs xs → n * U ≤ high * d → carried low high fs ≡ Carried l h
+    → product_num n xs * U ≤ h * product_den d xs
+carried_high [] [] low high l h n d U w b e = let q : high ≡ h = cc in rw (← q) b
+carried_high [] (x ∷ xs) low high l h n d U w b e = absurd w
+carried_high (f ∷ fs) [] low high l h n d U w b e = absurd w
+carried_high (f ∷ fs) (x ∷ xs) low high l h n d U w b e =
     let g = past f fs low high l h e in
-    carried-high fs xs _ _ l h (n * x.num) (d * x.den) U w.1 (scaled-upper high n d U _ _ x.num x.den g.high-den b w.0) g.rest
+    carried_high fs xs _ _ l h (n * x.num) (d * x.den) U w.1 (scaled_upper high n d U _ _ x.num x.den g.high_den b w.0) g.rest
 
 -- THE ORDER AND THE WIDTH
 pub record CarriedWidth (R a r l h : ℕ) : Type 0 where
   pub in_order : l ≤ h
   pub narrow : Narrow R a r l h
 
-pub carried-width : (fs : List Bracket) (rs : List ℕ) (R a r low high l h : ℕ) → Widths R fs rs → low ≤ high → Narrow R a r low high
-    → carried low high fs ≡ Carried l h → CarriedWidth R (absolutePart a fs) (relativePart r rs) l h
-carried-width [] [] R a r low high l h w o n e = let p : low ≡ l = cc in let q : high ≡ h = cc in rw (← p, ← q) (record { in_order = o; narrow = n })
-carried-width [] (p ∷ ps) R a r low high l h w o n e = absurd w
-carried-width (f ∷ fs) [] R a r low high l h w o n e = absurd w
-carried-width (f ∷ fs) (p ∷ ps) R a r low high l h w o n e =
+pub carried_width : (fs : List Bracket) (rs : List ℕ) (R a r low high l h : ℕ) → Widths R fs rs → low ≤ high → Narrow R a r low high
+    → carried low high fs ≡ Carried l h → CarriedWidth R (absolute_part a fs) (relative_part r rs) l h
+carried_width [] [] R a r low high l h w o n e = let p : low ≡ l = cc in let q : high ≡ h = cc in rw (← p, ← q) (record { in_order = o; narrow = n })
+carried_width [] (p ∷ ps) R a r low high l h w o n e = absurd w
+carried_width (f ∷ fs) [] R a r low high l h w o n e = absurd w
+carried_width (f ∷ fs) (p ∷ ps) R a r low high l h w o n e =
     let g = past f fs low high l h e in
     let b = ceiling a f.high_num f.high_den in
-    let most = ceiling-ge a f.high_num f.high_den g.high-den in
-    carried-width fs ps R (b + 2) (r + p) _ _ l h w.2 (scaled-order low high _ _ _ _ g.low-den g.high-den o w.0)
-    (scaled-width R a b r p low high _ _ _ _ g.low-den g.high-den o n w.1.width most) g.rest
+    let most = ceiling_ge a f.high_num f.high_den g.high_den in
+    carried_width fs ps R (b + 2) (r + p) _ _ l h w.2 (scaled_order low high _ _ _ _ g.low_den g.high_den o w.0)
+    (scaled_width R a b r p low high _ _ _ _ g.low_den g.high_den o n w.1.width most) g.rest

@@ -5,14 +5,14 @@ use Rattle.std.proofs.Common.{ap, ◌∙◌, le_refl, mul-le-mul, mul-le-mul_rig
 use native.Mathlib.Omega.{arith}
 use Rattle.estimate.specs.Fraction.{Fraction, fraction, ◌*ᶠ◌, whole}
 use Rattle.laws.specs.Table.{both, both_left, both_right}
-use Rattle.wide.specs.Scaling.{floor, ceiling, scaledUp, answered-value}
-use Rattle.wide.specs.Rounding.{Narrow, floor-le, ceiling-ge, ceiling-≤, scaled-order, scaled-width}
+use Rattle.wide.specs.Scaling.{floor, ceiling, scaled_up, answered_value}
+use Rattle.wide.specs.Rounding.{Narrow, floor_le, ceiling_ge, ceiling-≤, scaled_order, scaled_width}
 use Rattle.wide.specs.declared.scale.Scaled.{Scaled}
 use Rattle.wide.specs.declared.scale.Scaled.TheVariants as scaled
 use Rattle.bracket.specs.Bracket.{Stands, RelativeWidth}
 use Rattle.bracket.specs.Ratio.{exactly}
-use Rattle.bracket.specs.Carry.{onward, carried, LowsBelow, HighsAbove, productNum, productDen, Widths, absolutePart, relativePart}
-use Rattle.bracket.specs.CarryLaws.{carried-low, carried-high, carried-width}
+use Rattle.bracket.specs.Carry.{onward, carried, LowsBelow, HighsAbove, product_num, product_den, Widths, absolute_part, relative_part}
+use Rattle.bracket.specs.CarryLaws.{carried_low, carried_high, carried_width}
 use Rattle.bracket.specs.declared.Bracket.{Bracket}
 use Rattle.bracket.specs.declared.carry.CarryAnswer.TheVariants.{Carried}
 
@@ -55,24 +55,24 @@ product [] = whole 1
 product (x ∷ xs) = x *ᶠ product xs
 
 -- an exact factor is no wider than itself
-pub exactly-narrow : (R : ℕ) (x : Fraction) → RelativeWidth R 0 (exactly x)
+pub exactly_narrow : (R : ℕ) (x : Fraction) → RelativeWidth R 0 (exactly x)
 unfolding exactly
-exactly-narrow R x = record { width = omega arith }
+exactly_narrow R x = record { width = omega arith }
 
 -- THE ROOM: how far the high can grow, and the test that it fits at each step
 abbrev pub grown : ℕ → List Fraction → ℕ
 grown high [] = high
 grown high (m ∷ ms) = grown (ceiling high m.num m.den) ms
 
-abbrev pub hasRoom : ℕ → List Fraction → Bool
-hasRoom high [] = true
-hasRoom high (m ∷ ms) = both (ltb (ceiling high m.num m.den) (2 ^ 64)) (hasRoom (ceiling high m.num m.den) ms)
+abbrev pub has_room : ℕ → List Fraction → Bool
+has_room high [] = true
+has_room high (m ∷ ms) = both (ltb (ceiling high m.num m.den) (2 ^ 64)) (has_room (ceiling high m.num m.den) ms)
 
 -- a larger start and a larger factor give a larger ceiling
-ceiling-mono : (a b n d m e : ℕ) → 0 < d → 0 < e → a ≤ b → n * e ≤ m * d → ceiling a n d ≤ ceiling b m e
-ceiling-mono a b n d m e hd he h k =
+ceiling_mono : (a b n d m e : ℕ) → 0 < d → 0 < e → a ≤ b → n * e ≤ m * d → ceiling a n d ≤ ceiling b m e
+ceiling_mono a b n d m e hd he h k =
     ceiling-≤ a n d (ceiling b m e) hd
-    (le_of_mul-le-mul_right {k = e} (omega (arith, mul-le-mul h k, mul-le-mul_right d (ceiling-ge b m e he))) he)
+    (le_of_mul-le-mul_right {k = e} (omega (arith, mul-le-mul h k, mul-le-mul_right d (ceiling_ge b m e he))) he)
 
 pub record Room (low high H : ℕ) (ps : List Piece) : Type 0 where
   pub low_end : ℕ
@@ -81,54 +81,54 @@ pub record Room (low high H : ℕ) (ps : List Piece) : Type 0 where
   pub small : high_end ≤ grown H (bounds ps)
 
 -- a step whose two ends fit
-onward-fits : (low high : ℕ) (f : Bracket) (fs : List Bracket) → 0 < f.low_den → 0 < f.high_den
+onward_fits : (low high : ℕ) (f : Bracket) (fs : List Bracket) → 0 < f.low_den → 0 < f.high_den
     → floor low f.low_num f.low_den < 2 ^ 64 → ceiling high f.high_num f.high_den < 2 ^ 64
     → carried low high (f ∷ fs) ≡ carried (floor low f.low_num f.low_den) (ceiling high f.high_num f.high_den) fs
-onward-fits low high f fs pl ph l h =
-    ap (λ (s : Scaled). onward s (scaledUp high f.high_num f.high_den) (λ x y. carried x y fs)) (answered-value f.low_den _ pl l)
-    ∙ ap (λ (s : Scaled). onward (scaled.Value (floor low f.low_num f.low_den)) s (λ x y. carried x y fs)) (answered-value f.high_den _ ph h)
+onward_fits low high f fs pl ph l h =
+    ap (λ (s : Scaled). onward s (scaled_up high f.high_num f.high_den) (λ x y. carried x y fs)) (answered_value f.low_den _ pl l)
+    ∙ ap (λ (s : Scaled). onward (scaled.Value (floor low f.low_num f.low_den)) s (λ x y. carried x y fs)) (answered_value f.high_den _ ph h)
 
-pub carried-room : (R : ℕ) (ps : List Piece) (low high H : ℕ) → AllKept R ps → low ≤ high → high ≤ H → T (hasRoom H (bounds ps)) → Room low high H ps
+pub carried_room : (R : ℕ) (ps : List Piece) (low high H : ℕ) → AllKept R ps → low ≤ high → high ≤ H → T (has_room H (bounds ps)) → Room low high H ps
 unfolding fraction
-carried-room R [] low high H k o h t = record { low_end = low; high_end = high; is = refl; small = h }
-carried-room R (p ∷ ps) low high H k o h t =
+carried_room R [] low high H k o h t = record { low_end = low; high_end = high; is = refl; small = h }
+carried_room R (p ∷ ps) low high H k o h t =
     let f = p.bracket in
     let s = k.0.stands in
     let l' = floor low f.low_num f.low_den in
     let h' = ceiling high f.high_num f.high_den in
     let H' = ceiling H p.most.num p.most.den in
-    let o' : l' ≤ h' = scaled-order low high _ _ _ _ s.low-den s.high-den o s.in_order.cross in
-    let g : h' ≤ H' = ceiling-mono high H _ _ _ _ s.high-den p.most.pos h k.0.bounded in
-    let fit : H' < 2 ^ 64 = ltb→lt _ _ (both_left (ltb H' (2 ^ 64)) (hasRoom H' (bounds ps)) t) in
-    let r = carried-room R ps l' h' H' k.1 o' g (both_right (ltb H' (2 ^ 64)) (hasRoom H' (bounds ps)) t) in
+    let o' : l' ≤ h' = scaled_order low high _ _ _ _ s.low_den s.high_den o s.in_order.cross in
+    let g : h' ≤ H' = ceiling_mono high H _ _ _ _ s.high_den p.most.pos h k.0.bounded in
+    let fit : H' < 2 ^ 64 = ltb→lt _ _ (both_left (ltb H' (2 ^ 64)) (has_room H' (bounds ps)) t) in
+    let r = carried_room R ps l' h' H' k.1 o' g (both_right (ltb H' (2 ^ 64)) (has_room H' (bounds ps)) t) in
     record {
       low_end = r.low_end;
       high_end = r.high_end;
-      is = onward-fits low high f (brackets ps) s.low-den s.high-den (omega (arith, o', g, fit)) (omega (arith, g, fit)) ∙ r.is;
+      is = onward_fits low high f (brackets ps) s.low_den s.high_den (omega (arith, o', g, fit)) (omega (arith, g, fit)) ∙ r.is;
       small = r.small;
     }
 
 -- THE PRODUCT of a list, by numerators and denominators
-product-num : (n : ℕ) (xs : List Fraction) → productNum n xs ≡ n * (product xs).num
+product_num_lem : (n : ℕ) (xs : List Fraction) → product_num n xs ≡ n * (product xs).num
 unfolding product whole fraction ◌*ᶠ◌
-product-num n [] = omega arith
-product-num n (x ∷ xs) = omega (arith, product-num (n * x.num) xs)
+product_num_lem n [] = omega arith
+product_num_lem n (x ∷ xs) = omega (arith, product_num_lem (n * x.num) xs)
 
-product-den : (n : ℕ) (xs : List Fraction) → productDen n xs ≡ n * (product xs).den
+product_den_lem : (n : ℕ) (xs : List Fraction) → product_den n xs ≡ n * (product xs).den
 unfolding product whole fraction ◌*ᶠ◌
-product-den n [] = omega arith
-product-den n (x ∷ xs) = omega (arith, product-den (n * x.den) xs)
+product_den_lem n [] = omega arith
+product_den_lem n (x ∷ xs) = omega (arith, product_den_lem (n * x.den) xs)
 
 -- what is kept of each factor, in the forms of the laws of carrying
-lows-below : (R d : ℕ) → 1 ≤ d → (ps : List Piece) → AllKept R ps → LowsBelow (brackets ps) (overs d ps)
+lows_below : (R d : ℕ) → 1 ≤ d → (ps : List Piece) → AllKept R ps → LowsBelow (brackets ps) (overs d ps)
 unfolding fraction
-lows-below R d l [] k = tt
-lows-below R d l (p ∷ ps) k = ((k.0.stands.low-right.at d l).cross, lows-below R d l ps k.1)
+lows_below R d l [] k = tt
+lows_below R d l (p ∷ ps) k = ((k.0.stands.low_right.at d l).cross, lows_below R d l ps k.1)
 
-highs-above : (R d : ℕ) → 1 ≤ d → (ps : List Piece) → AllKept R ps → HighsAbove (brackets ps) (unders d ps)
+highs_above : (R d : ℕ) → 1 ≤ d → (ps : List Piece) → AllKept R ps → HighsAbove (brackets ps) (unders d ps)
 unfolding fraction
-highs-above R d l [] k = tt
-highs-above R d l (p ∷ ps) k = ((k.0.stands.high-right.at d l).cross, highs-above R d l ps k.1)
+highs_above R d l [] k = tt
+highs_above R d l (p ∷ ps) k = ((k.0.stands.high_right.at d l).cross, highs_above R d l ps k.1)
 
 widths : (R : ℕ) (ps : List Piece) → AllKept R ps → Widths R (brackets ps) (shares ps)
 unfolding fraction
@@ -136,54 +136,54 @@ widths R [] k = tt
 widths R (p ∷ ps) k = (k.0.stands.in_order.cross, k.0.narrow, widths R ps k.1)
 
 -- the absolute part of the width, by the bounds
-abbrev pub absoluteMost : ℕ → List Fraction → ℕ
-absoluteMost a [] = a
-absoluteMost a (m ∷ ms) = absoluteMost (ceiling a m.num m.den + 2) ms
+abbrev pub absolute_most : ℕ → List Fraction → ℕ
+absolute_most a [] = a
+absolute_most a (m ∷ ms) = absolute_most (ceiling a m.num m.den + 2) ms
 
-absolute-bounded : (R : ℕ) (ps : List Piece) (a b : ℕ) → AllKept R ps → a ≤ b → absolutePart a (brackets ps) ≤ absoluteMost b (bounds ps)
-absolute-bounded R [] a b k h = h
-absolute-bounded R (p ∷ ps) a b k h =
-    absolute-bounded R ps _ _ k.1 (omega (arith, ceiling-mono a b _ _ _ _ k.0.stands.high-den p.most.pos h k.0.bounded))
+absolute_bounded : (R : ℕ) (ps : List Piece) (a b : ℕ) → AllKept R ps → a ≤ b → absolute_part a (brackets ps) ≤ absolute_most b (bounds ps)
+absolute_bounded R [] a b k h = h
+absolute_bounded R (p ∷ ps) a b k h =
+    absolute_bounded R ps _ _ k.1 (omega (arith, ceiling_mono a b _ _ _ _ k.0.stands.high_den p.most.pos h k.0.bounded))
 
 -- THE END OF A CARRY from S units of 1 / (c * M), which are exactly `start`: rounded outward by c to units of 1 / M
 pub record Ends (R M c : ℕ) (start : Fraction) (ps : List Piece) (S H : ℕ) : Type 0 where
   pub low_end : ℕ
   pub high_end : ℕ
   pub is : carried S S (brackets ps) ≡ Carried low_end high_end
-  pub low-right : (d : ℕ) → 1 ≤ d → floor low_end 1 c * (start *ᶠ product (overs d ps)).den ≤ (start *ᶠ product (overs d ps)).num * M
-  pub high-right : (d : ℕ) → 1 ≤ d → (start *ᶠ product (unders d ps)).num * M ≤ ceiling high_end 1 c * (start *ᶠ product (unders d ps)).den
+  pub low_right : (d : ℕ) → 1 ≤ d → floor low_end 1 c * (start *ᶠ product (overs d ps)).den ≤ (start *ᶠ product (overs d ps)).num * M
+  pub high_right : (d : ℕ) → 1 ≤ d → (start *ᶠ product (unders d ps)).num * M ≤ ceiling high_end 1 c * (start *ᶠ product (unders d ps)).den
   pub in_order : floor low_end 1 c ≤ ceiling high_end 1 c
-  pub narrow : (a : ℕ) → absoluteMost 0 (bounds ps) ≤ a * c → Narrow R (a + 2) (relativePart 0 (shares ps)) (floor low_end 1 c) (ceiling high_end 1 c)
+  pub narrow : (a : ℕ) → absolute_most 0 (bounds ps) ≤ a * c → Narrow R (a + 2) (relative_part 0 (shares ps)) (floor low_end 1 c) (ceiling high_end 1 c)
   pub small : high_end ≤ grown H (bounds ps)
 
 -- a low of l units of 1 / (c * M), rounded down by c, and a high rounded up
-rounded-low : (l c M N D : ℕ) → 0 < c → l * D ≤ N * (c * M) → floor l 1 c * D ≤ N * M
-rounded-low l c M N D hc h = le_of_mul-le-mul_right {k = c} (omega (arith, mul-le-mul_right D (floor-le l 1 c), h)) hc
+rounded_low : (l c M N D : ℕ) → 0 < c → l * D ≤ N * (c * M) → floor l 1 c * D ≤ N * M
+rounded_low l c M N D hc h = le_of_mul-le-mul_right {k = c} (omega (arith, mul-le-mul_right D (floor_le l 1 c), h)) hc
 
-rounded-high : (l c M N D : ℕ) → 0 < c → N * (c * M) ≤ l * D → N * M ≤ ceiling l 1 c * D
-rounded-high l c M N D hc h = le_of_mul-le-mul_right {k = c} (omega (arith, mul-le-mul_right D (ceiling-ge l 1 c hc), h)) hc
+rounded_high : (l c M N D : ℕ) → 0 < c → N * (c * M) ≤ l * D → N * M ≤ ceiling l 1 c * D
+rounded_high l c M N D hc h = le_of_mul-le-mul_right {k = c} (omega (arith, mul-le-mul_right D (ceiling_ge l 1 c hc), h)) hc
 
-module _ (R M c : ℕ) (start : Fraction) (ps : List Piece) (S H : ℕ) (hc : 0 < c) (k : AllKept R ps) (few : S ≤ H) (t : T (hasRoom H (bounds ps)))
+module _ (R M c : ℕ) (start : Fraction) (ps : List Piece) (S H : ℕ) (hc : 0 < c) (k : AllKept R ps) (few : S ≤ H) (t : T (has_room H (bounds ps)))
     (exact : S * start.den ≡ start.num * (c * M)) where
-  pub carried-ends : Ends R M c start ps S H
+  pub carried_ends : Ends R M c start ps S H
   unfolding ◌*ᶠ◌
-  carried-ends =
-      let r = carried-room R ps S S H k (le_refl S) few t in
-      let w = carried-width (brackets ps) (shares ps) R 0 0 S S _ _ (widths R ps k) (le_refl S) (record { width = omega arith }) r.is in
+  carried_ends =
+      let r = carried_room R ps S S H k (le_refl S) few t in
+      let w = carried_width (brackets ps) (shares ps) R 0 0 S S _ _ (widths R ps k) (le_refl S) (record { width = omega arith }) r.is in
       record {
         low_end = r.low_end;
         high_end = r.high_end;
         is = r.is;
-        low-right = λ d l. rounded-low r.low_end c M _ _ hc
-            (rw (← product-den start.den (overs d ps), ← product-num start.num (overs d ps))
-            (carried-low (brackets ps) (overs d ps) S S _ _ start.num start.den (c * M) (lows-below R d l ps k) (omega (arith, exact)) r.is));
-        high-right = λ d l. rounded-high r.high_end c M _ _ hc
-            (rw (← product-den start.den (unders d ps), ← product-num start.num (unders d ps))
-            (carried-high (brackets ps) (unders d ps) S S _ _ start.num start.den (c * M) (highs-above R d l ps k) (omega (arith, exact)) r.is));
-        in_order = scaled-order r.low_end r.high_end 1 c 1 c hc hc w.in_order (omega arith);
+        low_right = λ d l. rounded_low r.low_end c M _ _ hc
+            (rw (← product_den_lem start.den (overs d ps), ← product_num_lem start.num (overs d ps))
+            (carried_low (brackets ps) (overs d ps) S S _ _ start.num start.den (c * M) (lows_below R d l ps k) (omega (arith, exact)) r.is));
+        high_right = λ d l. rounded_high r.high_end c M _ _ hc
+            (rw (← product_den_lem start.den (unders d ps), ← product_num_lem start.num (unders d ps))
+            (carried_high (brackets ps) (unders d ps) S S _ _ start.num start.den (c * M) (highs_above R d l ps k) (omega (arith, exact)) r.is));
+        in_order = scaled_order r.low_end r.high_end 1 c 1 c hc hc w.in_order (omega arith);
         narrow = λ a most.
-            let n = scaled-width R (absolutePart 0 (brackets ps)) a (relativePart 0 (shares ps)) 0 _ _ 1 c 1 c hc hc w.in_order w.narrow (omega arith)
-            (omega (arith, most, absolute-bounded R ps 0 0 k (le_refl 0))) in
+            let n = scaled_width R (absolute_part 0 (brackets ps)) a (relative_part 0 (shares ps)) 0 _ _ 1 c 1 c hc hc w.in_order w.narrow (omega arith)
+            (omega (arith, most, absolute_bounded R ps 0 0 k (le_refl 0))) in
             record { width = omega (arith, n.width) };
         small = r.small;
       }

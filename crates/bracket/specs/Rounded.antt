@@ -5,13 +5,13 @@ use Rattle.std.proofs.Common.{mul-le-mul_left, mul-pos, lt_of_mul-lt-mul_right, 
 use Rattle.estimate.specs.Fraction.{Fraction, fraction, ◌≤ᶠ◌}
 use Rattle.estimate.specs.FractionLaws.{≤ᶠ-trans}
 use Rattle.wide.specs.Scaling.{floor, ceiling}
-use Rattle.wide.specs.Rounding.{floor-le, floor-lt, ceiling-ge, ceiling-lt}
+use Rattle.wide.specs.Rounding.{floor_le, floor_lt, ceiling_ge, ceiling_lt}
 use Rattle.bracket.specs.Bracket.{Stands}
 use Rattle.bracket.specs.declared.Bracket.{Bracket}
 
 -- the under-estimate at depth d rounded down, and the over-estimate rounded up
-unfoldable pub roundedOutward : (scale d : ℕ) (under over : ℕ → Fraction) → Bracket
-roundedOutward scale d under over = record {
+unfoldable pub rounded_outward : (scale d : ℕ) (under over : ℕ → Fraction) → Bracket
+rounded_outward scale d under over = record {
   low_num = floor scale (under d).num (under d).den;
   low_den = scale;
   high_num = ceiling scale (over d).num (over d).den;
@@ -19,23 +19,23 @@ roundedOutward scale d under over = record {
 }
 
 module _ (scale : ℕ) (positive : 0 < scale) where
-  pub rounded-down-≤ : (x : Fraction) → fraction (floor scale x.num x.den) scale positive ≤ᶠ x
+  pub rounded_down-≤ : (x : Fraction) → fraction (floor scale x.num x.den) scale positive ≤ᶠ x
   unfolding fraction
-  rounded-down-≤ x = record { cross = omega (arith, floor-le scale x.num x.den) }
+  rounded_down-≤ x = record { cross = omega (arith, floor_le scale x.num x.den) }
 
-  pub rounded-up-≥ : (x : Fraction) → x ≤ᶠ fraction (ceiling scale x.num x.den) scale positive
+  pub rounded_up-≥ : (x : Fraction) → x ≤ᶠ fraction (ceiling scale x.num x.den) scale positive
   unfolding fraction
-  rounded-up-≥ x = record { cross = omega (arith, ceiling-ge scale x.num x.den x.pos) }
+  rounded_up-≥ x = record { cross = omega (arith, ceiling_ge scale x.num x.den x.pos) }
 
   -- every under-estimate is at most every over-estimate: one depth then serves for all
-  pub rounded-outward-stands : (d : ℕ) (under over : ℕ → Fraction) → ((i j : ℕ) → under i ≤ᶠ over j) → Stands (roundedOutward scale d under over) under over
-  unfolding roundedOutward
-  rounded-outward-stands d under over below = record {
-    low-den = positive;
-    high-den = positive;
-    low-right = record { at = λ i _. ≤ᶠ-trans (rounded-down-≤ (under d)) (below d i) };
-    high-right = record { at = λ i _. ≤ᶠ-trans (below i d) (rounded-up-≥ (over d)) };
-    in_order = ≤ᶠ-trans (rounded-down-≤ (under d)) (≤ᶠ-trans (below d d) (rounded-up-≥ (over d)));
+  pub rounded_outward_stands : (d : ℕ) (under over : ℕ → Fraction) → ((i j : ℕ) → under i ≤ᶠ over j) → Stands (rounded_outward scale d under over) under over
+  unfolding rounded_outward
+  rounded_outward_stands d under over below = record {
+    low_den = positive;
+    high_den = positive;
+    low_right = record { at = λ i _. ≤ᶠ-trans (rounded_down-≤ (under d)) (below d i) };
+    high_right = record { at = λ i _. ≤ᶠ-trans (below i d) (rounded_up-≥ (over d)) };
+    in_order = ≤ᶠ-trans (rounded_down-≤ (under d)) (≤ᶠ-trans (below d d) (rounded_up-≥ (over d)));
   }
 
 -- over is at most under and a K-th of it
@@ -50,10 +50,10 @@ apart S p q r s a b K hq hs near low high =
     (omega (arith, mul-le-mul_left (K * q) high, mul-le-mul_left S near, mul-le-mul_left ((K + 1) * s) low, mul-pos hq hs))
 
 -- their ends are a K-th of the low and two units apart
-pub rounded-outward-near : (scale d K : ℕ) (under over : ℕ → Fraction) → Near K (under d) (over d)
-    → let b = roundedOutward scale d under over in K * b.high_num < (K + 1) * b.low_num + 2 * K + 1
-unfolding roundedOutward
-rounded-outward-near scale d K under over near =
+pub rounded_outward_near : (scale d K : ℕ) (under over : ℕ → Fraction) → Near K (under d) (over d)
+    → let b = rounded_outward scale d under over in K * b.high_num < (K + 1) * b.low_num + 2 * K + 1
+unfolding rounded_outward
+rounded_outward_near scale d K under over near =
     let u = under d in
     let o = over d in
-    apart scale _ _ _ _ _ _ K u.pos o.pos near.cross (floor-lt scale u.num u.den u.pos) (ceiling-lt scale o.num o.den o.pos)
+    apart scale _ _ _ _ _ _ K u.pos o.pos near.cross (floor_lt scale u.num u.den u.pos) (ceiling_lt scale o.num o.den o.pos)

@@ -3,15 +3,15 @@ use Rattle.std.specs.Prelude.{ℕ, zero, suc, ◌+◌, ◌*◌, ◌≤◌, ◌<�
 use Rattle.std.proofs.Common.{mul-le-mul_right, mul-le-mul_left, le_of_mul-le-mul_right, arith, lit<}
 use Rattle.bracket.specs.declared.Bracket.{Bracket}
 use Rattle.wide.specs.Rounding.{Narrow}
-use Rattle.bracket.specs.Bracket.{RelativeWidth, powerWidth, exponentialWidth}
+use Rattle.bracket.specs.Bracket.{RelativeWidth, power_width, exponential_width}
 
 -- r / R is s r / (s R)
 pub in_parts : {R r : ℕ} {b : Bracket} (s : ℕ) → RelativeWidth R r b → RelativeWidth (s * R) (s * r) b
 in_parts s w = record { width = omega (arith, mul-le-mul_left s w.width) }
 
 -- a width of r / R is one of 1 / W, where W r is at most R
-pub narrow-in : (R W a r l h : ℕ) → 0 < R → W * r ≤ R → Narrow R a r l h → Narrow W a 1 l h
-narrow-in R W a r l h positive few n = record {
+pub narrow_in : (R W a r l h : ℕ) → 0 < R → W * r ≤ R → Narrow R a r l h → Narrow W a 1 l h
+narrow_in R W a r l h positive few n = record {
   width = le_of_mul-le-mul_right {k = R} (omega (arith, mul-le-mul_left W n.width, mul-le-mul_right h few)) positive;
 }
 
@@ -29,16 +29,16 @@ near R ln ld hn hd v w D large positive narrow below few low =
     positive
 
 -- a bracket 1 / R wide whose low is at most v / D has a high of at most w / D, where w is more than v and at most R
-pub high-below : (R : ℕ) (b : Bracket) (v w D : ℕ) → 1 < R → 0 < b.low_den → RelativeWidth R 1 b → v < w → w ≤ R
+pub high_below : (R : ℕ) (b : Bracket) (v w D : ℕ) → 1 < R → 0 < b.low_den → RelativeWidth R 1 b → v < w → w ≤ R
     → b.low_num * D ≤ v * b.low_den → b.high_num * D ≤ w * b.high_den
-high-below R b v w D large positive narrow below few low =
+high_below R b v w D large positive narrow below few low =
     near R b.low_num b.low_den b.high_num b.high_den v w D large positive narrow.width below few low
 
 -- THE STATED WIDTHS are below 1
-pub power-width-large : 1 < powerWidth
-unfolding powerWidth
-power-width-large = lit< tt
+pub power_width_large : 1 < power_width
+unfolding power_width
+power_width_large = lit< tt
 
-pub exponential-width-large : 1 < exponentialWidth
-unfolding exponentialWidth
-exponential-width-large = lit< tt
+pub exponential_width_large : 1 < exponential_width
+unfolding exponential_width
+exponential_width_large = lit< tt

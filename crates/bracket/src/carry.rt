@@ -1,6 +1,6 @@
 // A bracket of whole numbers carried through factors one after another, each known by a bracket of its own.
 ghost use Rattle.std.specs.Prelude.{◌≡◌, [], ◌∷◌};
-ghost use Rattle.bracket.specs.Carry.{carriedOn};
+ghost use Rattle.bracket.specs.Carry.{carried_on};
 ghost use Rattle.bracket.specs.Ratio.{spanned};
 
 use crate::{Bracket, Ratio, span};
@@ -16,7 +16,7 @@ pub enum CarryAnswer {
 // One factor further: the low is rounded down, the high is rounded up, and what did not fit stays so. A factor at a time lets
 // the compiler see a denominator that is a constant.
 pub fn through(answer: CarryAnswer, factor: Bracket) -> CarryAnswer
-    ensures { result ≡ carriedOn answer (factor ∷ []) }
+    ensures { result ≡ carried_on answer (factor ∷ []) }
 {
     let CarryAnswer::Carried(low, high) = answer else {
         return CarryAnswer::TooLarge;
@@ -32,7 +32,7 @@ pub fn through(answer: CarryAnswer, factor: Bracket) -> CarryAnswer
 
 // An exact factor further: both its ends are the same.
 pub fn through_exact(answer: CarryAnswer, factor: Ratio) -> CarryAnswer
-    ensures { result ≡ carriedOn answer (spanned factor factor ∷ []) }
+    ensures { result ≡ carried_on answer (spanned factor factor ∷ []) }
 {
     through(answer, span(factor, factor))
 }

@@ -8,5 +8,5 @@ abbrev pub InputWithin : Input → (room : ℕ) → Type 0
 InputWithin (Bytes n) room = n ≤ room
 InputWithin Failed room = Unit {0}
 
-pub bytes-within : {input : Input} {n room : ℕ} → input ≡ Bytes n → InputWithin input room → n ≤ room
-bytes-within e w = rw e at w
+pub bytes_within : {input : Input} {n room : ℕ} → input ≡ Bytes n → InputWithin input room → n ≤ room
+bytes_within e w = rw e at w

@@ -1,6 +1,6 @@
 // Reads a project file from standard input and prints its report, or why it is refused.
 ghost use Rattle.std.specs.Prelude.{◌≡◌, length};
-ghost use Rattle.crash_report.specs.Printed.{inputRoom, reportRoom, textRoom, projectText, StartsWith};
+ghost use Rattle.crash_report.specs.Printed.{input_room, report_room, text_room, project_text, StartsWith};
 ghost use Rattle.crash_report.specs.Input.{InputWithin};
 
 use header::{HEADER_LENGTH, MOST_SITES};
@@ -26,7 +26,7 @@ enum Input {
 
 // Fills a buffer from standard input until it is full or the input ends.
 fn read_input(buffer: &mut [u8]) -> Input
-    requires { length buffer.old ≡ inputRoom }
+    requires { length buffer.old ≡ input_room }
     ensures { InputWithin result (length buffer.new) }
 {
     let mut done = 0;
@@ -46,8 +46,8 @@ fn read_input(buffer: &mut [u8]) -> Input
 
 // The text of a file's report or refusal, from the start of a buffer: its length.
 fn project_text(file: &[u8], report: &mut [u64], text: &mut [u8]) -> usize
-    requires { (length report.old ≡ reportRoom) × (length text.old ≡ textRoom) }
-    ensures { StartsWith (projectText file.now) result text.new }
+    requires { (length report.old ≡ report_room) × (length text.old ≡ text_room) }
+    ensures { StartsWith (project_text file.now) result text.new }
 {
     let answer = read_project(file, report);
     match answer {

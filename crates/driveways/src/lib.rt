@@ -4,9 +4,9 @@
 ghost use Rattle.std.specs.Prelude.{◌≡◌, ◌*◌, ◌≤◌, ◌<◌};
 ghost use Rattle.estimate.specs.Fraction.{◌//◌};
 ghost use Rattle.logarithm.specs.Stored.{StoredLogarithms};
-ghost use Rattle.model.specs.Access.{drivewayAt};
+ghost use Rattle.model.specs.Access.{driveway_at};
 ghost use Rattle.bracket.specs.Ratio.{coded};
-ghost use Rattle.driveways.specs.Driveways.{drivewaysOf};
+ghost use Rattle.driveways.specs.Driveways.{driveways_of};
 
 use bracket::{Bracket, Ratio, span};
 use logarithm::logarithm_with;
@@ -14,7 +14,7 @@ use logarithm::logarithm_with;
 // The part where ln A is num / den, at most 10. The sizes are those of an edition and of a bracket of ln A.
 fn value_at(constant: u64, driveways: u64, num: u64, den: u64) -> Ratio
     requires { (0 < constant) × (constant ≤ 1000) × (driveways ≤ 50) × (0 < den) × (den ≤ 1000000000000) × (num ≤ 10 * den) }
-    ensures { result ≡ coded (drivewayAt constant driveways (num // den)) }
+    ensures { result ≡ coded (driveway_at constant driveways (num // den)) }
 {
     let slope = 50 * den - 5 * num;
     let fixed = constant * den;
@@ -33,7 +33,7 @@ pub fn driveways_with(
     traffic: u64,
 ) -> Bracket
     requires { StoredLogarithms stored.now × (constant ≤ 1000) × (0 < constant) × (driveways ≤ 50) × (1 ≤ traffic) × (traffic ≤ 20000) }
-    ensures { result ≡ drivewaysOf constant fewest driveways traffic }
+    ensures { result ≡ driveways_of constant fewest driveways traffic }
 {
     if driveways < fewest {
         return span(Ratio { num: 1, den: 1 }, Ratio { num: 1, den: 1 });

@@ -1,127 +1,127 @@
 -- Numbers at most and at least e^x, told by partial sums alone; what they make, and why they stand against the estimates of e^x at every depth.
 use Rattle.std.specs.Prelude.{ℕ, ◌+◌, ◌*◌, ◌≤◌, ◌<◌, ◌≡◌}
 use Rattle.std.proofs.Common.{arith}
-use Rattle.estimate.specs.Fraction.{Fraction, fraction, ◌≤ᶠ◌, ◌<ᶠ◌, ◌=ᶠ◌, whole, tenThousandths, inverse, ◌+ᶠ◌, ◌*ᶠ◌, ◌^ᶠ◌}
-use Rattle.estimate.specs.FractionLaws.{≤ᶠ-trans, ≤ᶠ-refl, *ᶠ-mono, ^ᶠ-mono, inverse-antitone}
+use Rattle.estimate.specs.Fraction.{Fraction, fraction, ◌≤ᶠ◌, ◌<ᶠ◌, ◌=ᶠ◌, whole, ten_thousandths, inverse, ◌+ᶠ◌, ◌*ᶠ◌, ◌^ᶠ◌}
+use Rattle.estimate.specs.FractionLaws.{≤ᶠ-trans, ≤ᶠ-refl, *ᶠ-mono, ^ᶠ-mono, inverse_antitone}
 use Rattle.estimate.specs.Standing.{LowRight, HighRight}
-use Rattle.estimate.specs.Exponential.{partialSum, sumWithTail, lastTerm, expUnder, expOver, expNegUnder, expNegOver, exp-under-positive, exp-over-positive}
-use Rattle.estimate.specs.ExponentialLaws.{tail-bounds-every-sum, partial-sum-mono, sum-with-tail-mono, partial-sum-strict, sum-with-tail-strict}
-use Rattle.estimate.specs.ExponentialLaws.{sum-≤-with-tail, one-≤-partial-sum, one-plus-≤-partial-sum, sum-with-tail-zero}
-use Rattle.estimate.specs.ExponentialProducts.{partial-sum-submultiplicative, partial-sum-supermultiplicative}
-use Rattle.estimate.specs.ExponentialProducts.{partial-sum-of-multiple, power-of-partial-sum}
+use Rattle.estimate.specs.Exponential.{partial_sum, sum_with_tail, last_term, exp_under, exp_over, exp_neg_under, exp_neg_over, exp_under_positive, exp_over_positive}
+use Rattle.estimate.specs.ExponentialLaws.{tail_bounds_every_sum, partial_sum_mono, sum_with_tail_mono, partial_sum_strict, sum_with_tail_strict}
+use Rattle.estimate.specs.ExponentialLaws.{sum-≤-with_tail, one-≤-partial_sum, one_plus-≤-partial_sum, sum_with_tail_zero}
+use Rattle.estimate.specs.ExponentialProducts.{partial_sum_submultiplicative, partial_sum_supermultiplicative}
+use Rattle.estimate.specs.ExponentialProducts.{partial_sum_of_multiple, power_of_partial_sum}
 
 -- w is at most e^x: it is at most some partial sum
 pub record AtMostExp (w x : Fraction) : Type 0 where
   pub terms : ℕ
-  pub reached : w ≤ᶠ partialSum terms x
+  pub reached : w ≤ᶠ partial_sum terms x
 
 -- w is at least e^x: it is at least every partial sum
 pub record AtLeastExp (w x : Fraction) : Type 0 where
-  pub bounds : (m : ℕ) → partialSum m x ≤ᶠ w
+  pub bounds : (m : ℕ) → partial_sum m x ≤ᶠ w
 
 -- by computation: one sum, and one sum with its tail
-pub at-most-by-sum : {w x : Fraction} (m : ℕ) → w ≤ᶠ partialSum m x → AtMostExp w x
-at-most-by-sum m h = record { terms = m; reached = h }
+pub at_most_by_sum : {w x : Fraction} (m : ℕ) → w ≤ᶠ partial_sum m x → AtMostExp w x
+at_most_by_sum m h = record { terms = m; reached = h }
 
-pub at-least-by-tail : {w x : Fraction} (m : ℕ) → whole 2 *ᶠ x ≤ᶠ whole (m + 2) → sumWithTail m x ≤ᶠ w → AtLeastExp w x
-at-least-by-tail {w} {x} m b h = record { bounds = λ n. ≤ᶠ-trans (tail-bounds-every-sum x m b n) h }
+pub at_least_by_tail : {w x : Fraction} (m : ℕ) → whole 2 *ᶠ x ≤ᶠ whole (m + 2) → sum_with_tail m x ≤ᶠ w → AtLeastExp w x
+at_least_by_tail {w} {x} m b h = record { bounds = λ n. ≤ᶠ-trans (tail_bounds_every_sum x m b n) h }
 
 -- ORDER
 
-pub exp-bounds-in-order : {v w x y : Fraction} → AtMostExp v x → AtLeastExp w y → x ≤ᶠ y → v ≤ᶠ w
-exp-bounds-in-order h k l = ≤ᶠ-trans h.reached (≤ᶠ-trans (partial-sum-mono l h.terms) (k.bounds h.terms))
+pub exp_bounds_in_order : {v w x y : Fraction} → AtMostExp v x → AtLeastExp w y → x ≤ᶠ y → v ≤ᶠ w
+exp_bounds_in_order h k l = ≤ᶠ-trans h.reached (≤ᶠ-trans (partial_sum_mono l h.terms) (k.bounds h.terms))
 
-pub at-most-weaker : {v w x y : Fraction} → v ≤ᶠ w → x ≤ᶠ y → AtMostExp w x → AtMostExp v y
-at-most-weaker l k h = record { terms = h.terms; reached = ≤ᶠ-trans l (≤ᶠ-trans h.reached (partial-sum-mono k h.terms)) }
+pub at_most_weaker : {v w x y : Fraction} → v ≤ᶠ w → x ≤ᶠ y → AtMostExp w x → AtMostExp v y
+at_most_weaker l k h = record { terms = h.terms; reached = ≤ᶠ-trans l (≤ᶠ-trans h.reached (partial_sum_mono k h.terms)) }
 
-pub at-least-weaker : {v w x y : Fraction} → v ≤ᶠ w → y ≤ᶠ x → AtLeastExp v x → AtLeastExp w y
-at-least-weaker l k h = record { bounds = λ m. ≤ᶠ-trans (partial-sum-mono k m) (≤ᶠ-trans (h.bounds m) l) }
+pub at_least_weaker : {v w x y : Fraction} → v ≤ᶠ w → y ≤ᶠ x → AtLeastExp v x → AtLeastExp w y
+at_least_weaker l k h = record { bounds = λ m. ≤ᶠ-trans (partial_sum_mono k m) (≤ᶠ-trans (h.bounds m) l) }
 
 -- PRODUCTS AND POWERS
 
-pub at-most-product : {v w x y : Fraction} → AtMostExp v x → AtMostExp w y → AtMostExp (v *ᶠ w) (x +ᶠ y)
-at-most-product {v} {w} {x} {y} h k = record {
+pub at_most_product : {v w x y : Fraction} → AtMostExp v x → AtMostExp w y → AtMostExp (v *ᶠ w) (x +ᶠ y)
+at_most_product {v} {w} {x} {y} h k = record {
   terms = h.terms + k.terms;
-  reached = ≤ᶠ-trans (*ᶠ-mono h.reached k.reached) (partial-sum-supermultiplicative x y h.terms k.terms);
+  reached = ≤ᶠ-trans (*ᶠ-mono h.reached k.reached) (partial_sum_supermultiplicative x y h.terms k.terms);
 }
 
-pub at-least-product : {v w x y : Fraction} → AtLeastExp v x → AtLeastExp w y → AtLeastExp (v *ᶠ w) (x +ᶠ y)
-at-least-product {v} {w} {x} {y} h k = record { bounds = λ m. ≤ᶠ-trans (partial-sum-submultiplicative x y m) (*ᶠ-mono (h.bounds m) (k.bounds m)) }
+pub at_least_product : {v w x y : Fraction} → AtLeastExp v x → AtLeastExp w y → AtLeastExp (v *ᶠ w) (x +ᶠ y)
+at_least_product {v} {w} {x} {y} h k = record { bounds = λ m. ≤ᶠ-trans (partial_sum_submultiplicative x y m) (*ᶠ-mono (h.bounds m) (k.bounds m)) }
 
-pub at-most-power : {w x : Fraction} (k : ℕ) → AtMostExp w x → AtMostExp (w ^ᶠ k) (whole k *ᶠ x)
-at-most-power {w} {x} k h = record { terms = k * h.terms; reached = ≤ᶠ-trans (^ᶠ-mono k h.reached) (power-of-partial-sum x h.terms k) }
+pub at_most_power : {w x : Fraction} (k : ℕ) → AtMostExp w x → AtMostExp (w ^ᶠ k) (whole k *ᶠ x)
+at_most_power {w} {x} k h = record { terms = k * h.terms; reached = ≤ᶠ-trans (^ᶠ-mono k h.reached) (power_of_partial_sum x h.terms k) }
 
-pub at-least-power : {w x : Fraction} (k : ℕ) → AtLeastExp w x → AtLeastExp (w ^ᶠ k) (whole k *ᶠ x)
-at-least-power {w} {x} k h = record { bounds = λ m. ≤ᶠ-trans (partial-sum-of-multiple x m k) (^ᶠ-mono k (h.bounds m)) }
+pub at_least_power : {w x : Fraction} (k : ℕ) → AtLeastExp w x → AtLeastExp (w ^ᶠ k) (whole k *ᶠ x)
+at_least_power {w} {x} k h = record { bounds = λ m. ≤ᶠ-trans (partial_sum_of_multiple x m k) (^ᶠ-mono k (h.bounds m)) }
 
 -- v ≤ e^x, e^y ≤ w and q x ≤ p y: then v^q ≤ w^p
-pub exp-powers-in-order : {v w x y : Fraction} (p q : ℕ) → AtMostExp v x → AtLeastExp w y → whole q *ᶠ x ≤ᶠ whole p *ᶠ y → v ^ᶠ q ≤ᶠ w ^ᶠ p
-exp-powers-in-order p q h k l = exp-bounds-in-order (at-most-power q h) (at-least-power p k) l
+pub exp_powers_in_order : {v w x y : Fraction} (p q : ℕ) → AtMostExp v x → AtLeastExp w y → whole q *ᶠ x ≤ᶠ whole p *ᶠ y → v ^ᶠ q ≤ᶠ w ^ᶠ p
+exp_powers_in_order p q h k l = exp_bounds_in_order (at_most_power q h) (at_least_power p k) l
 
 -- THE ESTIMATES
 
-pub exp-under-at-most : (d : ℕ) (x : Fraction) → AtMostExp (expUnder d x) x
-unfolding expUnder
-exp-under-at-most d x = at-most-by-sum (lastTerm d) (≤ᶠ-refl (partialSum (lastTerm d) x))
+pub exp_under_at_most : (d : ℕ) (x : Fraction) → AtMostExp (exp_under d x) x
+unfolding exp_under
+exp_under_at_most d x = at_most_by_sum (last_term d) (≤ᶠ-refl (partial_sum (last_term d) x))
 
 -- up to 21 the tail law holds at depth 0 already
-pub exp-over-at-least : (d : ℕ) (x : Fraction) → x ≤ᶠ whole 21 → AtLeastExp (expOver d x) x
-unfolding expOver whole ◌*ᶠ◌
-exp-over-at-least d x h = at-least-by-tail (lastTerm d) (omega (arith, h.cross)) (≤ᶠ-refl (sumWithTail (lastTerm d) x))
+pub exp_over_at_least : (d : ℕ) (x : Fraction) → x ≤ᶠ whole 21 → AtLeastExp (exp_over d x) x
+unfolding exp_over whole ◌*ᶠ◌
+exp_over_at_least d x h = at_least_by_tail (last_term d) (omega (arith, h.cross)) (≤ᶠ-refl (sum_with_tail (last_term d) x))
 
-pub exp-under-≤-over : (x : Fraction) → x ≤ᶠ whole 21 → (d e : ℕ) → expUnder d x ≤ᶠ expOver e x
-exp-under-≤-over x h d e = exp-bounds-in-order (exp-under-at-most d x) (exp-over-at-least e x h) (≤ᶠ-refl x)
+pub exp_under-≤-over : (x : Fraction) → x ≤ᶠ whole 21 → (d e : ℕ) → exp_under d x ≤ᶠ exp_over e x
+exp_under-≤-over x h d e = exp_bounds_in_order (exp_under_at_most d x) (exp_over_at_least e x h) (≤ᶠ-refl x)
 
-pub exp-neg-under-≤-over : (x : Fraction) → x ≤ᶠ whole 21 → (d e : ℕ) → expNegUnder d x ≤ᶠ expNegOver e x
-unfolding expNegUnder expNegOver
-exp-neg-under-≤-over x h d e = inverse-antitone (exp-under-positive e x) (exp-over-positive d x) (exp-under-≤-over x h e d)
+pub exp_neg_under-≤-over : (x : Fraction) → x ≤ᶠ whole 21 → (d e : ℕ) → exp_neg_under d x ≤ᶠ exp_neg_over e x
+unfolding exp_neg_under exp_neg_over
+exp_neg_under-≤-over x h d e = inverse_antitone (exp_under_positive e x) (exp_over_positive d x) (exp_under-≤-over x h e d)
 
-pub exp-under-≥-one : (d : ℕ) (x : Fraction) → whole 1 ≤ᶠ expUnder d x
-unfolding expUnder
-exp-under-≥-one d x = one-≤-partial-sum (lastTerm d) x
+pub exp_under-≥-one : (d : ℕ) (x : Fraction) → whole 1 ≤ᶠ exp_under d x
+unfolding exp_under
+exp_under-≥-one d x = one-≤-partial_sum (last_term d) x
 
-pub exp-over-zero : (d : ℕ) (x : Fraction) → x.num ≡ 0 → expOver d x =ᶠ whole 1
-unfolding expOver
-exp-over-zero d x e = sum-with-tail-zero (lastTerm d) x e
+pub exp_over_zero : (d : ℕ) (x : Fraction) → x.num ≡ 0 → exp_over d x =ᶠ whole 1
+unfolding exp_over
+exp_over_zero d x e = sum_with_tail_zero (last_term d) x e
 
-pub exp-neg-under-positive : (d : ℕ) (x : Fraction) → 0 < (expNegUnder d x).num
-unfolding expNegUnder inverse
-exp-neg-under-positive d x = (expOver d x).pos
+pub exp_neg_under_positive : (d : ℕ) (x : Fraction) → 0 < (exp_neg_under d x).num
+unfolding exp_neg_under inverse
+exp_neg_under_positive d x = (exp_over d x).pos
 
-pub exp-under-≥-one-plus : (d : ℕ) (x : Fraction) → whole 1 +ᶠ x ≤ᶠ expUnder d x
-unfolding expUnder
-exp-under-≥-one-plus d x = one-plus-≤-partial-sum (lastTerm d) x (omega arith)
+pub exp_under-≥-one_plus : (d : ℕ) (x : Fraction) → whole 1 +ᶠ x ≤ᶠ exp_under d x
+unfolding exp_under
+exp_under-≥-one_plus d x = one_plus-≤-partial_sum (last_term d) x (omega arith)
 
 -- at one depth no limit on x is needed
-pub exp-under-≤-own-over : (d : ℕ) (x : Fraction) → expUnder d x ≤ᶠ expOver d x
-unfolding expUnder expOver
-exp-under-≤-own-over d x = sum-≤-with-tail (lastTerm d) x
+pub exp_under-≤-own_over : (d : ℕ) (x : Fraction) → exp_under d x ≤ᶠ exp_over d x
+unfolding exp_under exp_over
+exp_under-≤-own_over d x = sum-≤-with_tail (last_term d) x
 
-pub exp-under-mono : (d : ℕ) {x y : Fraction} → x ≤ᶠ y → expUnder d x ≤ᶠ expUnder d y
-unfolding expUnder
-exp-under-mono d h = partial-sum-mono h (lastTerm d)
+pub exp_under_mono : (d : ℕ) {x y : Fraction} → x ≤ᶠ y → exp_under d x ≤ᶠ exp_under d y
+unfolding exp_under
+exp_under_mono d h = partial_sum_mono h (last_term d)
 
-pub exp-over-mono : (d : ℕ) {x y : Fraction} → x ≤ᶠ y → expOver d x ≤ᶠ expOver d y
-unfolding expOver
-exp-over-mono d h = sum-with-tail-mono h (lastTerm d)
+pub exp_over_mono : (d : ℕ) {x y : Fraction} → x ≤ᶠ y → exp_over d x ≤ᶠ exp_over d y
+unfolding exp_over
+exp_over_mono d h = sum_with_tail_mono h (last_term d)
 
-pub exp-under-strict : (d : ℕ) {x y : Fraction} → x <ᶠ y → expUnder d x <ᶠ expUnder d y
-unfolding expUnder
-exp-under-strict d h = partial-sum-strict h (lastTerm d) (omega arith)
+pub exp_under_strict : (d : ℕ) {x y : Fraction} → x <ᶠ y → exp_under d x <ᶠ exp_under d y
+unfolding exp_under
+exp_under_strict d h = partial_sum_strict h (last_term d) (omega arith)
 
-pub exp-over-strict : (d : ℕ) {x y : Fraction} → x <ᶠ y → expOver d x <ᶠ expOver d y
-unfolding expOver
-exp-over-strict d h = sum-with-tail-strict h (lastTerm d) (omega arith)
+pub exp_over_strict : (d : ℕ) {x y : Fraction} → x <ᶠ y → exp_over d x <ᶠ exp_over d y
+unfolding exp_over
+exp_over_strict d h = sum_with_tail_strict h (last_term d) (omega arith)
 
 -- STANDING
 
 -- an argument up to 21, for which the tail bounds every sum
-pub within-tail-law : (x : ℕ) → x ≤ 210000 → tenThousandths x ≤ᶠ whole 21
-unfolding tenThousandths fraction whole
-within-tail-law x h = record { cross = omega arith }
+pub within_tail_law : (x : ℕ) → x ≤ 210000 → ten_thousandths x ≤ᶠ whole 21
+unfolding ten_thousandths fraction whole
+within_tail_law x h = record { cross = omega arith }
 
-pub exp-low-stands : {w x : Fraction} → x ≤ᶠ whole 21 → AtMostExp w x → LowRight w (λ d. expOver d x)
-exp-low-stands {w} {x} b h = record { at = λ d _. exp-bounds-in-order h (exp-over-at-least d x b) (≤ᶠ-refl x) }
+pub exp_low_stands : {w x : Fraction} → x ≤ᶠ whole 21 → AtMostExp w x → LowRight w (λ d. exp_over d x)
+exp_low_stands {w} {x} b h = record { at = λ d _. exp_bounds_in_order h (exp_over_at_least d x b) (≤ᶠ-refl x) }
 
-pub exp-high-stands : {w x : Fraction} → AtLeastExp w x → HighRight w (λ d. expUnder d x)
-exp-high-stands {w} {x} h = record { at = λ d _. exp-bounds-in-order (exp-under-at-most d x) h (≤ᶠ-refl x) }
+pub exp_high_stands : {w x : Fraction} → AtLeastExp w x → HighRight w (λ d. exp_under d x)
+exp_high_stands {w} {x} h = record { at = λ d _. exp_bounds_in_order (exp_under_at_most d x) h (≤ᶠ-refl x) }

@@ -46,9 +46,9 @@ unfolding ◌//◌
 millionths n = n // 1000000
 
 -- an exponent of e is in ten-thousandths
-unfoldable pub tenThousandths : ℕ → Fraction
+unfoldable pub ten_thousandths : ℕ → Fraction
 unfolding fraction
-tenThousandths x = fraction x 10000 (lit< tt)
+ten_thousandths x = fraction x 10000 (lit< tt)
 
 -- "t/10^d, t whole"
 unfoldable pub decimal : (d t : ℕ) → Fraction

@@ -1,7 +1,7 @@
 -- When a low and a high are right, over estimates that are functions of the depth.
 use Rattle.std.specs.Prelude.{ℕ, ◌≤◌, ◌<◌}
 use Rattle.estimate.specs.Fraction.{Fraction, ◌≤ᶠ◌, ◌+ᶠ◌, inverse}
-use Rattle.estimate.specs.FractionLaws.{≤ᶠ-refl, ≤ᶠ-trans, +ᶠ-mono, inverse-antitone}
+use Rattle.estimate.specs.FractionLaws.{≤ᶠ-refl, ≤ᶠ-trans, +ᶠ-mono, inverse_antitone}
 
 -- "A low is right when it is at most the over-estimate at every depth", "depth d, d at least 1"
 pub record LowRight (low : Fraction) (over : ℕ → Fraction) : Type 0 where
@@ -13,33 +13,33 @@ pub record HighRight (high : Fraction) (under : ℕ → Fraction) : Type 0 where
 
 -- "an exact figure stands between two numbers when both are right"
 pub record Between (low high : Fraction) (under over : ℕ → Fraction) : Type 0 where
-  pub low-right : LowRight low over
-  pub high-right : HighRight high under
+  pub low_right : LowRight low over
+  pub high_right : HighRight high under
 
 -- an exact part has itself for both estimates
-pub exact-low-right : (a : Fraction) → LowRight a (λ d. a)
-exact-low-right a = record { at = λ d l. ≤ᶠ-refl a }
+pub exact_low_right : (a : Fraction) → LowRight a (λ d. a)
+exact_low_right a = record { at = λ d l. ≤ᶠ-refl a }
 
-pub exact-high-right : (a : Fraction) → HighRight a (λ d. a)
-exact-high-right a = record { at = λ d l. ≤ᶠ-refl a }
+pub exact_high_right : (a : Fraction) → HighRight a (λ d. a)
+exact_high_right a = record { at = λ d l. ≤ᶠ-refl a }
 
-pub smaller-low-right : {a b : Fraction} {over : ℕ → Fraction} → a ≤ᶠ b → LowRight b over → LowRight a over
-smaller-low-right l h = record { at = λ d k. ≤ᶠ-trans l (h.at d k) }
+pub smaller_low_right : {a b : Fraction} {over : ℕ → Fraction} → a ≤ᶠ b → LowRight b over → LowRight a over
+smaller_low_right l h = record { at = λ d k. ≤ᶠ-trans l (h.at d k) }
 
-pub larger-high-right : {a b : Fraction} {under : ℕ → Fraction} → a ≤ᶠ b → HighRight a under → HighRight b under
-larger-high-right l h = record { at = λ d k. ≤ᶠ-trans (h.at d k) l }
+pub larger_high_right : {a b : Fraction} {under : ℕ → Fraction} → a ≤ᶠ b → HighRight a under → HighRight b under
+larger_high_right l h = record { at = λ d k. ≤ᶠ-trans (h.at d k) l }
 
 module _ {a b : Fraction} {f g : ℕ → Fraction} where
-  pub low-sum-right : LowRight a f → LowRight b g → LowRight (a +ᶠ b) (λ d. f d +ᶠ g d)
-  low-sum-right h k = record { at = λ d l. +ᶠ-mono (h.at d l) (k.at d l) }
+  pub low_sum_right : LowRight a f → LowRight b g → LowRight (a +ᶠ b) (λ d. f d +ᶠ g d)
+  low_sum_right h k = record { at = λ d l. +ᶠ-mono (h.at d l) (k.at d l) }
 
-  pub high-sum-right : HighRight a f → HighRight b g → HighRight (a +ᶠ b) (λ d. f d +ᶠ g d)
-  high-sum-right h k = record { at = λ d l. +ᶠ-mono (h.at d l) (k.at d l) }
+  pub high_sum_right : HighRight a f → HighRight b g → HighRight (a +ᶠ b) (λ d. f d +ᶠ g d)
+  high_sum_right h k = record { at = λ d l. +ᶠ-mono (h.at d l) (k.at d l) }
 
 -- "reciprocals, exchanged"
 module _ {a : Fraction} {f : ℕ → Fraction} (pa : 0 < a.num) (pf : (d : ℕ) → 0 < (f d).num) where
-  pub reciprocal-low-right : HighRight a f → LowRight (inverse a pa) (λ d. inverse (f d) (pf d))
-  reciprocal-low-right h = record { at = λ d l. inverse-antitone (pf d) pa (h.at d l) }
+  pub reciprocal_low_right : HighRight a f → LowRight (inverse a pa) (λ d. inverse (f d) (pf d))
+  reciprocal_low_right h = record { at = λ d l. inverse_antitone (pf d) pa (h.at d l) }
 
-  pub reciprocal-high-right : LowRight a f → HighRight (inverse a pa) (λ d. inverse (f d) (pf d))
-  reciprocal-high-right h = record { at = λ d l. inverse-antitone pa (pf d) (h.at d l) }
+  pub reciprocal_high_right : LowRight a f → HighRight (inverse a pa) (λ d. inverse (f d) (pf d))
+  reciprocal_high_right h = record { at = λ d l. inverse_antitone pa (pf d) (h.at d l) }

@@ -4,17 +4,17 @@ use Rattle.std.proofs.Math.Nat.{pow-zero, mul-mul-mul_comm, pow-lt-pow_left}
 use Rattle.std.proofs.Common.{pow-suc, mul-zero, mul-suc, lt_of_not-le, lt_irrefl, lt_of_lt_of_le, ne_of_gt, pow-add}
 use Rattle.std.proofs.Math.Decide.{dec_le}
 
-pub mul-pow : (a b n : ℕ) → (a * b) ^ n ≡ a ^ n * b ^ n
-mul-pow a b zero = simp pow-zero
-mul-pow a b (suc n) = simp (pow-suc, mul-pow a b n, mul-mul-mul_comm)
+pub mul_pow : (a b n : ℕ) → (a * b) ^ n ≡ a ^ n * b ^ n
+mul_pow a b zero = simp pow-zero
+mul_pow a b (suc n) = simp (pow-suc, mul_pow a b n, mul-mul-mul_comm)
 
-pub pow-mul : (a m n : ℕ) → a ^ (m * n) ≡ (a ^ m) ^ n
-pow-mul a m zero = simp (mul-zero, pow-zero)
-pow-mul a m (suc n) = simp (mul-suc, pow-add, pow-suc, pow-mul a m n)
+pub pow_mul : (a m n : ℕ) → a ^ (m * n) ≡ (a ^ m) ^ n
+pow_mul a m zero = simp (mul-zero, pow-zero)
+pow_mul a m (suc n) = simp (mul-suc, pow-add, pow-suc, pow_mul a m n)
 
 -- a root keeps an order
-pub pow-le-cancel : (q : ℕ) {a b : ℕ} → 0 < q → a ^ q ≤ b ^ q → a ≤ b
-pow-le-cancel q {a} {b} hq h = by_cases (dec_le a b)
+pub pow_le_cancel : (q : ℕ) {a b : ℕ} → 0 < q → a ^ q ≤ b ^ q → a ≤ b
+pow_le_cancel q {a} {b} hq h = by_cases (dec_le a b)
   where
     by_cases : Dec (a ≤ b) → a ≤ b
     by_cases (yes l) = l

@@ -3,25 +3,25 @@ use Rattle.std.specs.Prelude.{ℕ, ◌*◌, ◌^◌, ◌≤◌, ◌<◌}
 use Rattle.std.proofs.Common.{arith, lit<}
 use Rattle.estimate.specs.Fraction.{Fraction, fraction, ◌≤ᶠ◌, ◌*ᶠ◌}
 use Rattle.wide.specs.Scaling.{floor, ceiling}
-use Rattle.wide.specs.Rounding.{floor-le, ceiling-ge}
+use Rattle.wide.specs.Rounding.{floor_le, ceiling_ge}
 
 -- THE SCALE
 abbrev pub scale : ℕ
 scale = 10 ^ 12
 
-pub scale-positive : 0 < scale
-scale-positive = lit< tt
+pub scale_positive : 0 < scale
+scale_positive = lit< tt
 
 -- w stands for w / 10^12
 unfoldable pub scaled : ℕ → Fraction
 unfolding fraction
-scaled w = fraction w scale scale-positive
+scaled w = fraction w scale scale_positive
 
 -- a product at the scale, rounded down and rounded up
-pub product-down-≤ : (a b : ℕ) → scaled (floor a b scale) ≤ᶠ scaled a *ᶠ scaled b
+pub product_down-≤ : (a b : ℕ) → scaled (floor a b scale) ≤ᶠ scaled a *ᶠ scaled b
 unfolding scaled fraction ◌*ᶠ◌
-product-down-≤ a b = record { cross = omega (arith, floor-le a b scale) }
+product_down-≤ a b = record { cross = omega (arith, floor_le a b scale) }
 
-pub product-up-≥ : (a b : ℕ) → scaled a *ᶠ scaled b ≤ᶠ scaled (ceiling a b scale)
+pub product_up-≥ : (a b : ℕ) → scaled a *ᶠ scaled b ≤ᶠ scaled (ceiling a b scale)
 unfolding scaled fraction ◌*ᶠ◌
-product-up-≥ a b = record { cross = omega (arith, ceiling-ge a b scale scale-positive) }
+product_up-≥ a b = record { cross = omega (arith, ceiling_ge a b scale scale_positive) }

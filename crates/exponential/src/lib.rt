@@ -5,8 +5,8 @@ pub mod taylor;
 
 ghost use Rattle.std.specs.Prelude.{◌≡◌, ◌≤◌};
 ghost use Rattle.exponential.specs.Stored.{StoredExponentials};
-ghost use Rattle.exponential.specs.Exponential.{exponentialLimit, expBracket, expNegBracket, exponentialAnswer};
-ghost use Rattle.exponential.specs.Exponential.{exponentialNegativeAnswer, ExponentialStands, ExponentialNegativeStands};
+ghost use Rattle.exponential.specs.Exponential.{exponential_limit, exp_bracket, exp_neg_bracket, exponential_answer};
+ghost use Rattle.exponential.specs.Exponential.{exponential_negative_answer, ExponentialStands, ExponentialNegativeStands};
 
 use crate::stored::stored_exponentials;
 use crate::taylor::taylor;
@@ -21,8 +21,8 @@ const LIMIT: u64 = 140000;
 
 // e^(x / 10000), with the stored numbers lent.
 pub fn exponential_with(stored: &[u64; 15], x: u64) -> Bracket
-    requires { StoredExponentials stored.now × (x ≤ exponentialLimit) }
-    ensures { result ≡ expBracket x }
+    requires { StoredExponentials stored.now × (x ≤ exponential_limit) }
+    ensures { result ≡ exp_bracket x }
 {
     let i = (x / 10000) as usize;
     let e = stored[i];
@@ -37,8 +37,8 @@ pub fn exponential_with(stored: &[u64; 15], x: u64) -> Bracket
 
 // e^(-x / 10000), with the stored numbers lent: the reciprocals, exchanged.
 fn exponential_negative_with(stored: &[u64; 15], x: u64) -> Bracket
-    requires { StoredExponentials stored.now × (x ≤ exponentialLimit) }
-    ensures { result ≡ expNegBracket x }
+    requires { StoredExponentials stored.now × (x ≤ exponential_limit) }
+    ensures { result ≡ exp_neg_bracket x }
 {
     let b = exponential_with(stored, x);
     Bracket {
@@ -51,7 +51,7 @@ fn exponential_negative_with(stored: &[u64; 15], x: u64) -> Bracket
 
 // e^(x / 10000), for x up to 140,000: it stands to the estimates at every depth and has the stated width.
 pub fn exponential(x: u64) -> BracketAnswer
-    ensures value { result ≡ exponentialAnswer x }
+    ensures value { result ≡ exponential_answer x }
     ensures stands { ExponentialStands x result }
 {
     if LIMIT < x {
@@ -63,7 +63,7 @@ pub fn exponential(x: u64) -> BracketAnswer
 
 // e^(-x / 10000), for x up to 140,000: it stands to the estimates at every depth and has the stated width.
 pub fn exponential_negative(x: u64) -> BracketAnswer
-    ensures value { result ≡ exponentialNegativeAnswer x }
+    ensures value { result ≡ exponential_negative_answer x }
     ensures stands { ExponentialNegativeStands x result }
 {
     if LIMIT < x {

@@ -1,6 +1,6 @@
 // e^f for a fraction f below 1, by the terms of its sum.
 ghost use Rattle.std.specs.Prelude.{◌≡◌, ◌≤◌};
-ghost use Rattle.exponential.specs.Taylor.{taylorLow, taylorHigh};
+ghost use Rattle.exponential.specs.Taylor.{taylor_low, taylor_high};
 
 use crate::SCALE;
 
@@ -14,7 +14,7 @@ pub struct Ends {
 // Ends of e^(f / 10000): the first term and 16 more, each rounded down in low and up in high, and the tail in high.
 pub(crate) fn taylor(f: u64) -> Ends
     requires { f ≤ 10000 }
-    ensures { (result.low ≡ taylorLow f) × (result.high ≡ taylorHigh f) }
+    ensures { (result.low ≡ taylor_low f) × (result.high ≡ taylor_high f) }
 {
     // e^0 is 1, and no term adds to it
     if f == 0 {

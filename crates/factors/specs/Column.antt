@@ -5,12 +5,12 @@ use Rattle.std.proofs.Math.ListN.{get_or-map}
 use Rattle.model.specs.Widths as model
 use Rattle.factors.specs.declared.widths.Column.{Column}
 
-abbrev pub columnOf : Column → model.Column
-columnOf c = model.column c.light c.adds c.takes c.heavy
+abbrev pub column_of : Column → model.Column
+column_of c = model.column c.light c.adds c.takes c.heavy
 
 abbrev pub held : model.Column → Column
 held c = record { light = c.light; adds = c.adds; takes = c.takes; heavy = c.heavy }
 
 -- the code's table of the definition's columns has each at its place
-pub column-at : (columns : List model.Column) (i : ℕ) → columnOf (get_or (map held columns) i (held model.none)) ≡ get_or columns i model.none
-column-at columns i = ap columnOf (get_or-map held columns i model.none)
+pub column_at : (columns : List model.Column) (i : ℕ) → column_of (get_or (map held columns) i (held model.none)) ≡ get_or columns i model.none
+column_at columns i = ap column_of (get_or-map held columns i model.none)

@@ -2,7 +2,7 @@
 ghost use Rattle.std.specs.Prelude.{◌≡◌, ◌≤◌};
 ghost use Rattle.estimate.specs.Fraction.{◌//◌, ◌^ᶠ◌};
 ghost use Rattle.model.specs.Alignment as alignment;
-ghost use Rattle.model.specs.Coefficients.{editionOne, editionTwo, coefficientsOf};
+ghost use Rattle.model.specs.Coefficients.{edition_one, edition_two, coefficients_of};
 ghost use Rattle.bracket.specs.Ratio.{coded};
 
 use bracket::Ratio;
@@ -78,7 +78,7 @@ fn grade_power(exponent: u64) -> Ratio
 
 // Edition 1's factor of a grade, for up to 6 percent: the whole would not fit 64 bits.
 fn power_to_six(percent: u64) -> Ratio
-    ensures { result ≡ coded (editionOne.grade percent) }
+    ensures { result ≡ coded (edition_one.grade percent) }
 {
     if percent < 6 {
         return grade_power(percent);
@@ -89,7 +89,7 @@ fn power_to_six(percent: u64) -> Ratio
 // And for what is above 6.
 fn power_above_six(percent: u64) -> Ratio
     requires { percent ≤ 12 }
-    ensures { result ≡ coded (editionOne.steep-grade percent) }
+    ensures { result ≡ coded (edition_one.steep_grade percent) }
 {
     if percent < 6 {
         return grade_power(0);
@@ -99,7 +99,7 @@ fn power_above_six(percent: u64) -> Ratio
 
 // Edition 2's factor of a grade: level, moderate or steep.
 fn grade_class(percent: u64) -> Ratio
-    ensures { result ≡ coded (editionTwo.grade percent) }
+    ensures { result ≡ coded (edition_two.grade percent) }
 {
     if percent <= 3 {
         return Ratio { num: 100, den: 100 };
@@ -112,7 +112,7 @@ fn grade_class(percent: u64) -> Ratio
 
 // The factor of a grade, in edition 1 for up to 6 percent.
 pub fn grade(edition: u64, percent: u64) -> Ratio
-    ensures { result ≡ coded ((coefficientsOf edition).grade percent) }
+    ensures { result ≡ coded ((coefficients_of edition).grade percent) }
 {
     if edition <= 1 {
         return power_to_six(percent);
@@ -123,7 +123,7 @@ pub fn grade(edition: u64, percent: u64) -> Ratio
 // And in edition 1 for what is above 6.
 pub fn steep_grade(edition: u64, percent: u64) -> Ratio
     requires { percent ≤ 12 }
-    ensures { result ≡ coded ((coefficientsOf edition).steep-grade percent) }
+    ensures { result ≡ coded ((coefficients_of edition).steep_grade percent) }
 {
     if edition <= 1 {
         return power_above_six(percent);

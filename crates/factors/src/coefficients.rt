@@ -1,7 +1,7 @@
 // The numbers of an edition, each once: constants, and a table by kind (0 segment, 1 3ST, 2 4ST, 3 4SG). The base factors are
 // stored in `prediction`.
 ghost use Rattle.std.specs.Prelude.{◌≡◌, ◌≤◌};
-ghost use Rattle.model.specs.Coefficients.{dispersionByKind, coefficientsOf};
+ghost use Rattle.model.specs.Coefficients.{dispersion_by_kind, coefficients_of};
 ghost use Rattle.bracket.specs.Ratio.{coded};
 ghost use Rattle.factors.specs.Edition.{Held};
 
@@ -23,7 +23,7 @@ const OVERDISPERSIONS: [u64; 4] = [31, 54, 24, 11];
 
 // The numbers that are the same for every kind, of edition 1 and of edition 2.
 pub fn coefficients_of(edition: u64) -> Coefficients
-    ensures { Held (coefficientsOf edition) result }
+    ensures { Held (coefficients_of edition) result }
 {
     if edition <= 1 {
         return Coefficients {
@@ -42,7 +42,7 @@ pub fn coefficients_of(edition: u64) -> Coefficients
 // Overdispersion by kind alone.
 fn dispersion_by_kind(kind: u8) -> Ratio
     requires { kind ≤ 3 }
-    ensures { result ≡ coded (dispersionByKind kind) }
+    ensures { result ≡ coded (dispersion_by_kind kind) }
 {
     Ratio {
         num: OVERDISPERSIONS[kind as usize],
@@ -53,7 +53,7 @@ fn dispersion_by_kind(kind: u8) -> Ratio
 // A site's overdispersion, by which its history is weighed: in edition 2 a segment's goes by its length.
 pub fn overdispersion(edition: u64, kind: u8, length: u64) -> Ratio
     requires { (kind ≤ 3) × (kind ≡ 0 → 1 ≤ length) }
-    ensures { result ≡ coded ((coefficientsOf edition).overdispersion kind length) }
+    ensures { result ≡ coded ((coefficients_of edition).overdispersion kind length) }
 {
     if edition <= 1 {
         return dispersion_by_kind(kind);

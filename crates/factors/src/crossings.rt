@@ -1,6 +1,6 @@
 // Turn lanes and limited sight at a crossing: 1 3ST, 2 4ST, 3 4SG.
 ghost use Rattle.std.specs.Prelude.{◌≡◌, ◌≤◌};
-ghost use Rattle.model.specs.Coefficients.{coefficientsOf};
+ghost use Rattle.model.specs.Coefficients.{coefficients_of};
 ghost use Rattle.model.specs.Crossings as crossings;
 ghost use Rattle.bracket.specs.Ratio.{coded};
 
@@ -35,10 +35,10 @@ const RIGHT_TURN_TWO: [[u64; 3]; 4] = [
     [1000, 960, 920],
 ];
 
-// The factor of the major road's left-turn lanes. A table is written out where it is read, so the edition's own alone is.
+// The factor of the major road's left_turn lanes. A table is written out where it is read, so the edition's own alone is.
 pub fn left_turn(edition: u64, kind: u8, lanes: u64) -> Ratio
     requires { (kind ≤ 3) × (lanes ≤ 2) }
-    ensures { result ≡ coded (crossings.leftTurn (coefficientsOf edition) kind lanes) }
+    ensures { result ≡ coded (crossings.left_turn (coefficients_of edition) kind lanes) }
 {
     if edition <= 1 {
         return Ratio {
@@ -52,10 +52,10 @@ pub fn left_turn(edition: u64, kind: u8, lanes: u64) -> Ratio
     }
 }
 
-// The factor of its right-turn lanes.
+// The factor of its right_turn lanes.
 pub fn right_turn(edition: u64, kind: u8, lanes: u64) -> Ratio
     requires { (kind ≤ 3) × (lanes ≤ 2) }
-    ensures { result ≡ coded (crossings.rightTurn (coefficientsOf edition) kind lanes) }
+    ensures { result ≡ coded (crossings.right_turn (coefficients_of edition) kind lanes) }
 {
     if edition <= 1 {
         return Ratio {

@@ -1,10 +1,10 @@
 // Lane and shoulder: values by column that change with the traffic, and the factor of the related crashes.
 ghost use Rattle.std.specs.Prelude.{◌≡◌, ◌+◌, ◌*◌, ◌≤◌, ◌<◌, get_or};
-ghost use Rattle.model.specs.Widths.{laneColumns, laneColumn, laneValue, none, atTraffic, ofRelated, widthUnit};
-ghost use Rattle.model.specs.Widths.{width_at, type_at, shoulderValue, typeValue, shoulderUnit};
+ghost use Rattle.model.specs.Widths.{lane_columns, lane_column, lane_value, none, at_traffic, of_related, width_unit};
+ghost use Rattle.model.specs.Widths.{width_at, type_at, shoulder_value, type_value, shoulder_unit};
 ghost use Rattle.model.specs.FactorBounds.{ColumnWithin, MeansWithin};
 ghost use Rattle.bracket.specs.Ratio.{coded};
-ghost use Rattle.factors.specs.Column.{columnOf};
+ghost use Rattle.factors.specs.Column.{column_of};
 ghost use Rattle.factors.specs.Neighbours.{Beside, AtBoth};
 
 use bracket::Ratio;
@@ -97,8 +97,8 @@ const SHOULDER_UNIT: u64 = 40_000_000_000;
 
 // A column's value at a traffic: one rule for lane and shoulder.
 fn at_traffic(column: Column, traffic: u64) -> u64
-    requires { ColumnWithin (columnOf column) }
-    ensures { result ≡ atTraffic (columnOf column) traffic }
+    requires { ColumnWithin (column_of column) }
+    ensures { result ≡ at_traffic (column_of column) traffic }
 {
     if traffic < 400 {
         return column.light;
@@ -112,7 +112,7 @@ fn at_traffic(column: Column, traffic: u64) -> u64
 
 // The place of a lane's column.
 fn lane_place(feet: u64) -> u64
-    ensures { result ≡ laneColumn feet }
+    ensures { result ≡ lane_column feet }
 {
     if feet <= 9 {
         return 0;
@@ -125,8 +125,8 @@ fn lane_place(feet: u64) -> u64
 
 // The factor 1 + share (r - 1), of r / unit and a share in thousandths.
 fn of_related(share: u64, r: u64, unit: u64) -> Ratio
-    requires { (share ≤ 1000) × (0 < unit) × (unit ≤ shoulderUnit) × (2 * r ≤ 3 * unit) }
-    ensures { result ≡ coded (ofRelated share r unit) }
+    requires { (share ≤ 1000) × (0 < unit) × (unit ≤ shoulder_unit) × (2 * r ≤ 3 * unit) }
+    ensures { result ≡ coded (of_related share r unit) }
 {
     Ratio {
         num: (1000 - share) * unit + share * r,
@@ -136,7 +136,7 @@ fn of_related(share: u64, r: u64, unit: u64) -> Ratio
 
 // The lane's column.
 fn lane_column(feet: u64) -> Column
-    ensures { columnOf result ≡ get_or laneColumns (laneColumn feet) none }
+    ensures { column_of result ≡ get_or lane_columns (lane_column feet) none }
 {
     LANE_COLUMNS[lane_place(feet) as usize]
 }
@@ -144,7 +144,7 @@ fn lane_column(feet: u64) -> Column
 // The lane's factor, for the share of crashes that it bears on.
 pub fn lane(share: u64, feet: u64, traffic: u64) -> Ratio
     requires { share ≤ 1000 }
-    ensures { result ≡ coded (ofRelated share (laneValue feet traffic) widthUnit) }
+    ensures { result ≡ coded (of_related share (lane_value feet traffic) width_unit) }
 {
     of_related(share, at_traffic(lane_column(feet), traffic), WIDTH_UNIT)
 }
@@ -204,7 +204,7 @@ fn product_of_means(width_below: u64, width_above: u64, type_below: u64, type_ab
 // The shoulder's factor, of its width's value times its type's.
 pub fn shoulder(share: u64, feet: u64, surface: u64, traffic: u64) -> Ratio
     requires { (share ≤ 1000) × (surface ≤ 3) }
-    ensures { result ≡ coded (ofRelated share (shoulderValue feet traffic * typeValue surface feet) shoulderUnit) }
+    ensures { result ≡ coded (of_related share (shoulder_value feet traffic * type_value surface feet) shoulder_unit) }
 {
     let columns = columns_of(feet);
     let widths = widths_of(columns, traffic);

@@ -6,12 +6,12 @@ use Rattle.header.specs.Layout.{byte}
 
 -- "years Y, 1 to 10 .. segment calibration, 1 to 9,999 thousandths .. the same for crossings"
 pub record ValuesWithin (years segments crossings : ℕ) : Type 0 where
-  pub years-least : 1 ≤ years
-  pub years-most : years ≤ 10
-  pub segments-least : 1 ≤ segments
-  pub segments-most : segments ≤ 9999
-  pub crossings-least : 1 ≤ crossings
-  pub crossings-most : crossings ≤ 9999
+  pub years_least : 1 ≤ years
+  pub years_most : years ≤ 10
+  pub segments_least : 1 ≤ segments
+  pub segments_most : segments ≤ 9999
+  pub crossings_least : 1 ≤ crossings
+  pub crossings_most : crossings ≤ 9999
 
 -- of values that a caller hands over
 abbrev pub HeaderWithin : Header → Type 0
@@ -26,8 +26,8 @@ pub record WithinLimits (s : List ℕ) : Type 0 where
 pub record EditionNot (s : List ℕ) (p : ℕ) : Type 0 where
   pub place_is : p ≡ 0
   pub there : 0 < length s
-  pub not-one : byte s 0 ≡ 1 → ⊥
-  pub not-two : byte s 0 ≡ 2 → ⊥
+  pub not_one : byte s 0 ≡ 1 → ⊥
+  pub not_two : byte s 0 ≡ 2 → ⊥
 
 -- "years, calibration or sites outside limits": 4, at "place 0"
 pub record OutsideLimits (s : List ℕ) (p : ℕ) : Type 0 where
@@ -37,9 +37,9 @@ pub record OutsideLimits (s : List ℕ) (p : ℕ) : Type 0 where
 
 -- "Order: header 1, 3, 4": fewer than eight bytes; else the edition; else, of an edition that is 1 or 2, the limits
 pub data HeaderCause (s : List ℕ) : ℕ → Type 0 where
-  header-cut : length s < 8 → HeaderCause s 1
-  header-edition : 8 ≤ length s → EditionNot s 0 → HeaderCause s 3
-  header-limits : (byte s 0 ≡ 1) ⊎ (byte s 0 ≡ 2) → OutsideLimits s 0 → HeaderCause s 4
+  header_cut : length s < 8 → HeaderCause s 1
+  header_edition : 8 ≤ length s → EditionNot s 0 → HeaderCause s 3
+  header_limits : (byte s 0 ≡ 1) ⊎ (byte s 0 ≡ 2) → OutsideLimits s 0 → HeaderCause s 4
 
 -- a header in which none of these is found
 pub record HeaderAccepted (s : List ℕ) : Type 0 where

@@ -1,8 +1,8 @@
 // The header of a project file: what it says of every site, the count of sites, their limits, and the first cause to refuse it.
 ghost use Rattle.std.specs.Prelude.{◌≡◌, ◌≤◌, true, length};
 ghost use Rattle.std.proofs.lemmas.List.Edits.{sets};
-ghost use Rattle.site.specs.Rules.{inside, editionKnown};
-ghost use Rattle.header.specs.Header.{headerLength, headerIn, countIn, inLimits, admits, headerBytes, headerNumber};
+ghost use Rattle.site.specs.Rules.{inside, edition_known};
+ghost use Rattle.header.specs.Header.{header_length, header_in, count_in, in_limits, admits, header_bytes, header_number};
 
 use site::rules::{are_years_known, is_edition_known};
 use site::words::{put_word, word_at};
@@ -31,8 +31,8 @@ fn wide(byte: u8) -> u64
 
 // The edition, years and calibrations of a file that is long enough for a header.
 pub fn header_in(file: &[u8]) -> Header
-    requires { headerLength ≤ length file.now }
-    ensures { result ≡ headerIn file.now }
+    requires { header_length ≤ length file.now }
+    ensures { result ≡ header_in file.now }
 {
     let edition = wide(file[0]);
     let years = wide(file[1]);
@@ -48,8 +48,8 @@ pub fn header_in(file: &[u8]) -> Header
 
 // The count of sites of such a file.
 pub fn count_in(file: &[u8]) -> usize
-    requires { headerLength ≤ length file.now }
-    ensures { result ≡ countIn file.now }
+    requires { header_length ≤ length file.now }
+    ensures { result ≡ count_in file.now }
 {
     word_at(file, 6) as usize
 }
@@ -63,7 +63,7 @@ fn is_up_to(most: u64, value: u64) -> bool
 
 // Whether years and calibrations are within their limits.
 pub fn is_in_limits(header: Header) -> bool
-    ensures { result ≡ inLimits header }
+    ensures { result ≡ in_limits header }
 {
     if !are_years_known(header.years) {
         return false;
@@ -86,8 +86,8 @@ pub fn does_admit(header: Header, sites: usize) -> bool
 
 // Writes a header of a known edition, within its limits, at the start of a buffer that has space for it.
 pub fn put_header(header: Header, sites: usize, buffer: &mut [u8])
-    requires { (editionKnown header.edition ≡ true) × (admits header sites ≡ true) × (headerLength ≤ length buffer.old) }
-    ensures { buffer.new ≡ sets buffer.old 0 (headerBytes header sites) }
+    requires { (edition_known header.edition ≡ true) × (admits header sites ≡ true) × (header_length ≤ length buffer.old) }
+    ensures { buffer.new ≡ sets buffer.old 0 (header_bytes header sites) }
 {
     buffer[0] = header.edition as u8;
     buffer[1] = header.years as u8;
@@ -98,7 +98,7 @@ pub fn put_header(header: Header, sites: usize, buffer: &mut [u8])
 
 // The header's refusal, 1, 3 or 4, or 0.
 pub fn header_number(file: &[u8]) -> u8
-    ensures { result ≡ headerNumber file.now }
+    ensures { result ≡ header_number file.now }
 {
     if file.len() < HEADER_LENGTH {
         return 1;

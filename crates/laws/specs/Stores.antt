@@ -3,8 +3,8 @@ use Rattle.std.specs.Prelude.{ℕ, suc, ◌+◌, ◌-◌, ◌≤◌, ◌≡◌, 
 use Rattle.std.proofs.Common.{ap, ◌∙◌, append-nil, append_assoc, arith, add-zero, zero-add, length-append, length-drop, drop_of_length-le, take_at, drop-drop}
 use Rattle.std.proofs.lemmas.List.Edits.{sets, sets-eq}
 use Rattle.std.proofs.lemmas.List.{set_comm}
-use Rattle.laws.specs.Lent.{laidOver}
-use Rattle.laws.specs.Walk.{part-from}
+use Rattle.laws.specs.Lent.{laid_over}
+use Rattle.laws.specs.Walk.{part_from}
 
 -- a text is stored from a place on and nothing else is changed; the place after it
 pub record Puts (before : List ℕ) (at : ℕ) (text : List ℕ) (place : ℕ) (after : List ℕ) : Type 0 where
@@ -27,28 +27,28 @@ set_first l i (y ∷ a) x =
     rw (set_comm l (i + suc (length a)) i x y other, e) (set_first (set l i y) (suc i) a x)
 
 -- a run stored from the start is laid over what was there
-pub sets-laid : (text before : List ℕ) → length text ≤ length before → sets before 0 text ≡ laidOver text before
-sets-laid text before h = rw zero-add at (sets-eq text before 0 (omega arith))
+pub sets_laid : (text before : List ℕ) → length text ≤ length before → sets before 0 text ≡ laid_over text before
+sets_laid text before h = rw zero-add at (sets-eq text before 0 (omega arith))
 
 -- a run stored at the start of the part from a place on, which was lent and is put back
-pub part-stored : {A : Type 0} (l : List A) (i : ℕ) (part a : List A) → i + length a ≤ length l → part ≡ sets (take (length l - i) (drop i l)) 0 a
+pub part_stored : {A : Type 0} (l : List A) (i : ℕ) (part a : List A) → i + length a ≤ length l → part ≡ sets (take (length l - i) (drop i l)) 0 a
     → take i l ++ (part ++ drop (length l - i) (drop i l)) ≡ sets l i a
-part-stored l i part a h e =
+part_stored l i part a h e =
     let long : length (drop i l) ≤ length l - i = omega (arith, length-drop i l) in
     let room : 0 + length a ≤ length (drop i l) = omega (arith, length-drop i l) in
-    rw (e, part-from l i, drop_of_length-le (drop i l) long, append-nil, sets-eq a (drop i l) 0 room, drop-drop, zero-add, sets-eq a l i h, append_assoc)
+    rw (e, part_from l i, drop_of_length-le (drop i l) long, append-nil, sets-eq a (drop i l) 0 room, drop-drop, zero-add, sets-eq a l i h, append_assoc)
 
 -- a text and the text after it
-pub puts-more : {before between after : List ℕ} {at place end : ℕ} {a b : List ℕ} → Puts before at a place between
+pub puts_more : {before between after : List ℕ} {at place end : ℕ} {a b : List ℕ} → Puts before at a place between
     → Puts between place b end after → Puts before at (a ++ b) end after
-puts-more {before} {between} {after} {at} {place} {end} {a} {b} p q = record {
+puts_more {before} {between} {after} {at} {place} {end} {a} {b} p q = record {
   place_is = omega (arith, length-append a b, p.place_is, q.place_is);
   stored = q.stored ∙ rw (p.stored, p.place_is) (sets_more before at a b);
 }
 
 -- what a buffer starts with, once a text is stored from its start
-pub puts-start : {before after text : List ℕ} {place : ℕ} → Puts before 0 text place after → place ≤ length before → take place after ≡ text
-puts-start {before} {after} {text} {place} p h =
+pub puts_start : {before after text : List ℕ} {place : ℕ} → Puts before 0 text place after → place ≤ length before → take place after ≡ text
+puts_start {before} {after} {text} {place} p h =
     let long : length text ≡ place = omega (arith, p.place_is) in
     let fits : 0 + length text ≤ length before = omega arith in
     ap (take place) (p.stored ∙ sets-eq text before 0 fits) ∙ take_at text (drop (0 + length text) before) place long

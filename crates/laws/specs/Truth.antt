@@ -19,8 +19,8 @@ pub or_right : (a b : Bool) → (a || b) ≡ false → b ≡ false
 or_right true b e = absurd (true≢false e)
 or_right false b e = e
 
-pub not-both : {A : Type 0} (a : Bool) → a ≡ true → a ≡ false → A
-not-both a p q = absurd (true≢false (sym p ∙ q))
+pub not_both : {A : Type 0} (a : Bool) → a ≡ true → a ≡ false → A
+not_both a p q = absurd (true≢false (sym p ∙ q))
 
 -- a choice that comes out as the first, and is never the second
 pub chosen : {A : Type 0} (a : Bool) (x y z : A) → (y ≡ z → ⊥) → cond a x y ≡ z → (a ≡ true) × (x ≡ z)
@@ -38,14 +38,14 @@ passed true x y e = let z : ⊥ = omega arith in absurd z
 passed false x y e = (refl, e)
 
 -- a test that never holds
-pub never-so : (a : Bool) → (a ≡ true → ⊥) → a ≡ false
-never-so true never = absurd (never refl)
-never-so false never = refl
+pub never_so : (a : Bool) → (a ≡ true → ⊥) → a ≡ false
+never_so true never = absurd (never refl)
+never_so false never = refl
 
 -- and one that never fails
-pub never-false : (a : Bool) → (a ≡ false → ⊥) → a ≡ true
-never-false true never = refl
-never-false false never = absurd (never refl)
+pub never_false : (a : Bool) → (a ≡ false → ⊥) → a ≡ true
+never_false true never = refl
+never_false false never = absurd (never refl)
 
 pub both_true : (a b : Bool) → a ≡ true → b ≡ true → (a && b) ≡ true
 both_true a b p q = rw (p, q)

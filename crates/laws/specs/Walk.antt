@@ -7,12 +7,12 @@ module _ {A : Type 0} where
   pub next : (xs : List A) (i : ℕ) (d : A) → i < length xs → drop i xs ≡ get_or xs i d ∷ drop (i + 1) xs
   next xs i d h = rw (add-one, drop-cons xs i d)
 
-  pub at-end : (xs : List A) (i : ℕ) → length xs ≤ i → drop i xs ≡ []
-  at-end xs i h = drop_of_length-le xs h
+  pub at_end : (xs : List A) (i : ℕ) → length xs ≤ i → drop i xs ≡ []
+  at_end xs i h = drop_of_length-le xs h
 
   -- the part from a place on, as it is lent
-  pub part-from : (xs : List A) (i : ℕ) → take (length xs - i) (drop i xs) ≡ drop i xs
-  part-from xs i = take_all (length xs - i) (drop i xs) (omega (arith, length-drop i xs))
+  pub part_from : (xs : List A) (i : ℕ) → take (length xs - i) (drop i xs) ≡ drop i xs
+  part_from xs i = take_all (length xs - i) (drop i xs) (omega (arith, length-drop i xs))
 
   pub fill_start : (v whole : List A) → length v ≡ length whole → sets v 0 whole ≡ whole
   fill_start v whole e =

@@ -4,27 +4,27 @@ use Rattle.estimate.specs.Fraction.{Fraction}
 use Rattle.site.specs.declared.values.Site.{Site}
 use Rattle.site.specs.declared.values.Slot.{Slot}
 use Rattle.site.specs.declared.values.Slot.TheVariants.{Absent, Number}
-use Rattle.site.specs.Rules.{editionKnown}
+use Rattle.site.specs.Rules.{edition_known}
 use Rattle.site.specs.Writing.{sound}
 use Rattle.header.specs.declared.Header.{Header}
-use Rattle.header.specs.Header.{inLimits}
+use Rattle.header.specs.Header.{in_limits}
 use Rattle.model.specs.Coefficients.{Coefficients}
-use Rattle.model.specs.Expected.{expectedLow, expectedHigh, overdispersionOf}
+use Rattle.model.specs.Expected.{expected_low, expected_high, overdispersion_of}
 use Rattle.prediction.specs.declared.Pair.{Pair}
-use Rattle.prediction.specs.Pair.{predictedPair}
+use Rattle.prediction.specs.Pair.{predicted_pair}
 use Rattle.line.specs.declared.Line.{Line}
 use Rattle.line.specs.declared.LineAnswer.{LineAnswer}
 use Rattle.line.specs.declared.LineAnswer.TheVariants.{Made, EditionUnknown, OutsideLimits, OutsideRange}
 
 -- "Expected low is the formula at predicted low, rounded down; expected high at predicted high, rounded up; without history they
 -- are the predicted pair"
-abbrev pub expectedPair : (k : Fraction) → Slot → Pair → Pair
-expectedPair k Absent p = p
-expectedPair k (Number observed) p = record { low = expectedLow k observed p.low; high = expectedHigh k observed p.high }
+abbrev pub expected_pair : (k : Fraction) → Slot → Pair → Pair
+expected_pair k Absent p = p
+expected_pair k (Number observed) p = record { low = expected_low k observed p.low; high = expected_high k observed p.high }
 
 -- "predicted low, predicted high, expected low, expected high"
-abbrev pub lineBy : (predicted expected : Pair) → Line
-lineBy predicted expected = record {
+abbrev pub line_by : (predicted expected : Pair) → Line
+line_by predicted expected = record {
   predicted_low = predicted.low;
   predicted_high = predicted.high;
   expected_low = expected.low;
@@ -32,28 +32,28 @@ lineBy predicted expected = record {
 }
 
 -- THE LINE of a site
-unfoldable pub siteLine : Coefficients → Header → Site → Line
-siteLine c header site =
-    let p = predictedPair c header site in
-    lineBy p (expectedPair (overdispersionOf c site) site.observed p)
+unfoldable pub site_line : Coefficients → Header → Site → Line
+site_line c header site =
+    let p = predicted_pair c header site in
+    line_by p (expected_pair (overdispersion_of c site) site.observed p)
 
 -- document 01's number for each case: 0; request 6: "3 now means neither 1 nor 2"; "years, calibration or sites outside limits", 4;
 -- "field outside its range", 8
-abbrev pub lineNumber : LineAnswer → ℕ
-lineNumber (Made line) = 0
-lineNumber EditionUnknown = 3
-lineNumber OutsideLimits = 4
-lineNumber OutsideRange = 8
+abbrev pub line_number : LineAnswer → ℕ
+line_number (Made line) = 0
+line_number EditionUnknown = 3
+line_number OutsideLimits = 4
+line_number OutsideRange = 8
 
 -- "one outside its limits is 3 or 4 .., tried first": the edition, the header's other values, then the site
-unfoldable pub lineRefusal : Header → Site → ℕ
-lineRefusal header site = cond (editionKnown header.edition) (cond (inLimits header) (cond (sound header.edition header.years site) 0 8) 4) 3
+unfoldable pub line_refusal : Header → Site → ℕ
+line_refusal header site = cond (edition_known header.edition) (cond (in_limits header) (cond (sound header.edition header.years site) 0 8) 4) 3
 
 -- a line, or the first refusal
-unfoldable pub lineAnswer : Coefficients → Header → Site → LineAnswer
-lineAnswer c header site =
-    cond (editionKnown header.edition)
-    (cond (inLimits header)
-    (cond (sound header.edition header.years site) (Made (siteLine c header site)) OutsideRange)
+unfoldable pub line_answer : Coefficients → Header → Site → LineAnswer
+line_answer c header site =
+    cond (edition_known header.edition)
+    (cond (in_limits header)
+    (cond (sound header.edition header.years site) (Made (site_line c header site)) OutsideRange)
     OutsideLimits)
     EditionUnknown

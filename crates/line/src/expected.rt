@@ -2,9 +2,9 @@
 ghost use Rattle.std.specs.Prelude.{◌≡◌, ◌≤◌};
 ghost use Rattle.wide.specs.Scaling.{floor, ceiling};
 ghost use Rattle.site.specs.Numbers.{number};
-ghost use Rattle.prediction.specs.Pair.{mostPredicted};
+ghost use Rattle.prediction.specs.Pair.{most_predicted};
 ghost use Rattle.line.specs.Dispersion.{Overdispersed};
-ghost use Rattle.line.specs.Weighing.{over, under, Sizes, weighedPair};
+ghost use Rattle.line.specs.Weighing.{over, under, Sizes, weighed_pair};
 
 use bracket::Ratio;
 use prediction::Pair;
@@ -23,7 +23,7 @@ fn over_of(kn: u64, kd: u64, observed: u64) -> u64
 
 // kd million and kn n.
 fn under_of(kn: u64, kd: u64, n: u64) -> u64
-    requires { Overdispersed kn kd × (n ≤ mostPredicted) }
+    requires { Overdispersed kn kd × (n ≤ most_predicted) }
     ensures { result ≡ under kn kd n }
 {
     kd * MILLION + kn * n
@@ -52,7 +52,7 @@ fn weigh_high(k: Ratio, observed: u64, high: u64) -> u64
 // The predicted pair itself where there is no history; a history of 0 is one.
 pub fn weigh(k: Ratio, observed: Slot, predicted: Pair) -> Pair
     requires { Sizes k.num k.den (number observed) predicted.low × Sizes k.num k.den (number observed) predicted.high }
-    ensures { result ≡ weighedPair k.num k.den observed predicted }
+    ensures { result ≡ weighed_pair k.num k.den observed predicted }
 {
     match observed {
         Slot::Absent => predicted,

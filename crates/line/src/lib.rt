@@ -7,8 +7,8 @@ ghost use Rattle.logarithm.specs.Stored.{StoredLogarithms};
 ghost use Rattle.power.specs.Stored.{StoredPowers};
 ghost use Rattle.site.specs.Writing.{Valid};
 ghost use Rattle.header.specs.HeaderLaws.{HeaderWithin};
-ghost use Rattle.model.specs.Coefficients.{coefficientsOf};
-ghost use Rattle.line.specs.Line.{siteLine, lineAnswer, lineNumber, lineRefusal};
+ghost use Rattle.model.specs.Coefficients.{coefficients_of};
+ghost use Rattle.line.specs.Line.{site_line, line_answer, line_number, line_refusal};
 ghost use Rattle.line.specs.Stands.{AnswerStands};
 
 use crate::expected::weigh;
@@ -52,7 +52,7 @@ pub fn line_with(
 ) -> Line
     requires { StoredPowers powers.now × StoredLogarithms logarithms.now × StoredExponentials exponentials.now × HeaderWithin header
         × Valid header.edition header.years site }
-    ensures { result ≡ siteLine (coefficientsOf header.edition) header site }
+    ensures { result ≡ site_line (coefficients_of header.edition) header site }
 {
     let kind = site.kind;
     let observed = site.observed;
@@ -70,9 +70,9 @@ pub fn line_with(
 
 // The line of a site, or the first refusal: the edition, then a header value outside its limits, then the site outside its range.
 pub fn line_of(header: Header, site: Site) -> LineAnswer
-    ensures value { result ≡ lineAnswer (coefficientsOf header.edition) header site }
-    ensures number { lineNumber result ≡ lineRefusal header site }
-    ensures stands { AnswerStands (coefficientsOf header.edition) header site result }
+    ensures value { result ≡ line_answer (coefficients_of header.edition) header site }
+    ensures number { line_number result ≡ line_refusal header site }
+    ensures stands { AnswerStands (coefficients_of header.edition) header site result }
 {
     if !is_edition_known(header.edition) {
         return LineAnswer::EditionUnknown;

@@ -3,23 +3,23 @@ use Rattle.std.specs.Prelude.{ℕ, leb}
 use borrow.Author.Tests.{le-leb}
 use Rattle.std.proofs.Math.Dec.{leb→le}
 use Rattle.laws.specs.Table.{both_left, both_right}
-use Rattle.bracket.specs.Answer.{Answers, answer-stands}
-use Rattle.logarithm.specs.Logarithm.{logarithmBracket, LogarithmRange, in_range, StandingLogarithm, logarithmAnswer, LogarithmStands}
-use Rattle.logarithm.specs.LogarithmLaws.{logarithm-standing}
+use Rattle.bracket.specs.Answer.{Answers, answer_stands}
+use Rattle.logarithm.specs.Logarithm.{logarithm_bracket, LogarithmRange, in_range, StandingLogarithm, logarithm_answer, LogarithmStands}
+use Rattle.logarithm.specs.LogarithmLaws.{logarithm_standing}
 
 module _ (a : ℕ) where
-  pub logarithm-answers : Answers (LogarithmRange a) (StandingLogarithm a) (LogarithmRange a → ⊥) (in_range a) (logarithmBracket a)
+  pub logarithm_answers : Answers (LogarithmRange a) (StandingLogarithm a) (LogarithmRange a → ⊥) (in_range a) (logarithm_bracket a)
   unfolding in_range
-  logarithm-answers = record {
-    passed = λ r. rw (le-leb 1 a r.from_one, le-leb a 20000 r.to-20000);
+  logarithm_answers = record {
+    passed = λ r. rw (le-leb 1 a r.from_one, le-leb a 20000 r.to_20000);
     within = λ t. record {
       from_one = leb→le 1 a (both_left (leb 1 a) (leb a 20000) t);
-      to-20000 = leb→le a 20000 (both_right (leb 1 a) (leb a 20000) t);
+      to_20000 = leb→le a 20000 (both_right (leb 1 a) (leb a 20000) t);
     };
-    kept = λ r. logarithm-standing a r.from_one r.to-20000;
+    kept = λ r. logarithm_standing a r.from_one r.to_20000;
     outside = λ f. f;
   }
 
-  pub logarithm-answer-stands : LogarithmStands a (logarithmAnswer a)
-  unfolding logarithmAnswer
-  logarithm-answer-stands = answer-stands logarithm-answers
+  pub logarithm_answer_stands : LogarithmStands a (logarithm_answer a)
+  unfolding logarithm_answer
+  logarithm_answer_stands = answer_stands logarithm_answers

@@ -5,141 +5,141 @@ use Rattle.std.proofs.Math.Nat.{mul-le-mul_right, one-le-pow}
 use native.Mathlib.Omega.{arith}
 use Rattle.std.proofs.Math.Dec.{lit≤}
 use Rattle.estimate.specs.Fraction.{Fraction, ◌≤ᶠ◌, ◌=ᶠ◌, fraction, whole, decimal, ◌+ᶠ◌, ◌*ᶠ◌}
-use Rattle.estimate.specs.FractionLaws.{≤ᶠ-refl, ≤ᶠ-trans, =ᶠ-≤ᶠ, =ᶠ-≥ᶠ, whole-mono, decimal-mono}
-use Rattle.estimate.specs.Exponential.{expUnder, partialSum, sumNum, termNum, termDen}
-use Rattle.estimate.specs.ExponentialBounds.{AtMostExp, AtLeastExp, at-most-weaker, at-least-weaker, at-most-product, at-least-product}
-use Rattle.estimate.specs.Logarithm.{lnUnder, lnOver, ln-smallest-is}
-use Rattle.estimate.specs.LogarithmLaws.{ln-low-stands, ln-high-stands, below-ln-over, ln-over-mono}
+use Rattle.estimate.specs.FractionLaws.{≤ᶠ-refl, ≤ᶠ-trans, =ᶠ-≤ᶠ, =ᶠ-≥ᶠ, whole_mono, decimal_mono}
+use Rattle.estimate.specs.Exponential.{exp_under, partial_sum, sum_num, term_num, term_den}
+use Rattle.estimate.specs.ExponentialBounds.{AtMostExp, AtLeastExp, at_most_weaker, at_least_weaker, at_most_product, at_least_product}
+use Rattle.estimate.specs.Logarithm.{ln_under, ln_over, ln_smallest_is}
+use Rattle.estimate.specs.LogarithmLaws.{ln_low_stands, ln_high_stands, below_ln_over, ln_over_mono}
 use Rattle.estimate.specs.Remainder.{ratio}
-use Rattle.bracket.specs.Bracket.{Stands, AbsoluteWidth, logarithmWidth}
+use Rattle.bracket.specs.Bracket.{Stands, AbsoluteWidth, logarithm_width}
 use Rattle.bracket.specs.declared.Bracket.{Bracket}
-use Rattle.remainder.specs.Split.{firstFactor, secondFactor, splitRest, Splits, split-is}
-use Rattle.remainder.specs.Remainder.{scale, logLow, logHigh}
-use Rattle.remainder.specs.LogarithmBounds.{log-low-at-least, log-high-at-most, log-in-order, log-near}
-use Rattle.logarithm.specs.Stored.{storedLow, storedHigh, stored-low-at-least, stored-high-at-most, stored-in-order, stored-near}
-use Rattle.logarithm.specs.Logarithm.{logarithmLow, logarithmHigh, logarithmBracket, StandingLogarithm}
+use Rattle.remainder.specs.Split.{first_factor, second_factor, split_rest, Splits, split_is}
+use Rattle.remainder.specs.Remainder.{scale, log_low, log_high}
+use Rattle.remainder.specs.LogarithmBounds.{log_low_at_least, log_high_at_most, log_in_order, log_near}
+use Rattle.logarithm.specs.Stored.{stored_low, stored_high, stored_low_at_least, stored_high_at_most, stored_in_order, stored_near}
+use Rattle.logarithm.specs.Logarithm.{logarithm_low, logarithm_high, logarithm_bracket, StandingLogarithm}
 
 -- SUMS OF BOUNDS
 
-decimal-sum : (d s t : ℕ) → decimal d (s + t) =ᶠ decimal d s +ᶠ decimal d t
+decimal_sum : (d s t : ℕ) → decimal d (s + t) =ᶠ decimal d s +ᶠ decimal d t
 unfolding decimal fraction ◌+ᶠ◌
-decimal-sum d s t = record { cross = omega arith }
+decimal_sum d s t = record { cross = omega arith }
 
 module _ {A B : Fraction} (d s t : ℕ) where
-  at-least-sum : AtLeastExp A (decimal d s) → AtLeastExp B (decimal d t) → AtLeastExp (A *ᶠ B) (decimal d (s + t))
-  at-least-sum h k = at-least-weaker (≤ᶠ-refl (A *ᶠ B)) (=ᶠ-≤ᶠ (decimal-sum d s t)) (at-least-product h k)
+  at_least_sum : AtLeastExp A (decimal d s) → AtLeastExp B (decimal d t) → AtLeastExp (A *ᶠ B) (decimal d (s + t))
+  at_least_sum h k = at_least_weaker (≤ᶠ-refl (A *ᶠ B)) (=ᶠ-≤ᶠ (decimal_sum d s t)) (at_least_product h k)
 
-  at-most-sum : AtMostExp A (decimal d s) → AtMostExp B (decimal d t) → AtMostExp (A *ᶠ B) (decimal d (s + t))
-  at-most-sum h k = at-most-weaker (≤ᶠ-refl (A *ᶠ B)) (=ᶠ-≥ᶠ (decimal-sum d s t)) (at-most-product h k)
+  at_most_sum : AtMostExp A (decimal d s) → AtMostExp B (decimal d t) → AtMostExp (A *ᶠ B) (decimal d (s + t))
+  at_most_sum h k = at_most_weaker (≤ᶠ-refl (A *ᶠ B)) (=ᶠ-≥ᶠ (decimal_sum d s t)) (at_most_product h k)
 
 -- a = n m + r is n times m times (n m + r)/(n m)
-split-product : (a n m r : ℕ) (h : 0 < n * m) → n * m + r ≡ a → whole n *ᶠ whole m *ᶠ ratio (n * m) r h =ᶠ whole a
+split_product : (a n m r : ℕ) (h : 0 < n * m) → n * m + r ≡ a → whole n *ᶠ whole m *ᶠ ratio (n * m) r h =ᶠ whole a
 unfolding whole fraction ◌*ᶠ◌ ratio
-split-product a n m r h e = record { cross = omega (arith, ap (λ z. n * m * z) e) }
+split_product a n m r h e = record { cross = omega (arith, ap (λ z. n * m * z) e) }
 
 -- how large the numbers of a bracket's ends are
 pub record EndSizes (b : Bracket) : Type 0 where
-  pub low-den-most : b.low_den ≤ 1000000000000
-  pub high-den-most : b.high_den ≤ 1000000000000
-  pub low-most : b.low_num ≤ 10 * b.low_den
-  pub high-most : b.high_num ≤ 10 * b.high_den
+  pub low_den_most : b.low_den ≤ 1000000000000
+  pub high_den_most : b.high_den ≤ 1000000000000
+  pub low_most : b.low_num ≤ 10 * b.low_den
+  pub high_most : b.high_num ≤ 10 * b.high_den
 
 module _ (a : ℕ) (from : 1 ≤ a) (to : a ≤ 20000) where
-  parts : Splits a (firstFactor a) (secondFactor a) (splitRest a)
-  parts = split-is a from (omega arith)
+  parts : Splits a (first_factor a) (second_factor a) (split_rest a)
+  parts = split_is a from (omega arith)
 
-  product : whole (firstFactor a) *ᶠ whole (secondFactor a) *ᶠ ratio (firstFactor a * secondFactor a) (splitRest a) parts.rest.positive =ᶠ whole a
-  product = split-product a (firstFactor a) (secondFactor a) (splitRest a) parts.rest.positive parts.is
+  product : whole (first_factor a) *ᶠ whole (second_factor a) *ᶠ ratio (first_factor a * second_factor a) (split_rest a) parts.rest.positive =ᶠ whole a
+  product = split_product a (first_factor a) (second_factor a) (split_rest a) parts.rest.positive parts.is
 
-  n-few : firstFactor a ≤ 20000
-  n-few = omega (arith, parts.n-to)
+  n_few : first_factor a ≤ 20000
+  n_few = omega (arith, parts.n_to)
 
-  m-few : secondFactor a ≤ 20000
-  m-few = omega (arith, parts.m-to)
+  m_few : second_factor a ≤ 20000
+  m_few = omega (arith, parts.m_to)
 
   -- e^(low) ≤ a
-  low-at-least : AtLeastExp (whole a) (decimal 12 (logarithmLow a))
-  unfolding logarithmLow
-  low-at-least =
-      let n = firstFactor a in
-      let m = secondFactor a in
-      at-least-weaker (=ᶠ-≤ᶠ product) (≤ᶠ-refl (decimal 12 (storedLow n + storedLow m + logLow (n * m) (splitRest a))))
-      (at-least-sum 12 (storedLow n + storedLow m) (logLow (n * m) (splitRest a))
-      (at-least-sum 12 (storedLow n) (storedLow m) (stored-low-at-least n parts.n-from n-few) (stored-low-at-least m parts.m-from m-few))
-      (log-low-at-least (n * m) (splitRest a) parts.rest))
+  low_at_least : AtLeastExp (whole a) (decimal 12 (logarithm_low a))
+  unfolding logarithm_low
+  low_at_least =
+      let n = first_factor a in
+      let m = second_factor a in
+      at_least_weaker (=ᶠ-≤ᶠ product) (≤ᶠ-refl (decimal 12 (stored_low n + stored_low m + log_low (n * m) (split_rest a))))
+      (at_least_sum 12 (stored_low n + stored_low m) (log_low (n * m) (split_rest a))
+      (at_least_sum 12 (stored_low n) (stored_low m) (stored_low_at_least n parts.n_from n_few) (stored_low_at_least m parts.m_from m_few))
+      (log_low_at_least (n * m) (split_rest a) parts.rest))
 
   -- a ≤ e^(high)
-  high-at-most : AtMostExp (whole a) (decimal 12 (logarithmHigh a))
-  unfolding logarithmHigh
-  high-at-most =
-      let n = firstFactor a in
-      let m = secondFactor a in
-      at-most-weaker (=ᶠ-≥ᶠ product) (≤ᶠ-refl (decimal 12 (storedHigh n + storedHigh m + logHigh (n * m) (splitRest a))))
-      (at-most-sum 12 (storedHigh n + storedHigh m) (logHigh (n * m) (splitRest a))
-      (at-most-sum 12 (storedHigh n) (storedHigh m) (stored-high-at-most n parts.n-from n-few) (stored-high-at-most m parts.m-from m-few))
-      (log-high-at-most (n * m) (splitRest a) parts.rest))
+  high_at_most : AtMostExp (whole a) (decimal 12 (logarithm_high a))
+  unfolding logarithm_high
+  high_at_most =
+      let n = first_factor a in
+      let m = second_factor a in
+      at_most_weaker (=ᶠ-≥ᶠ product) (≤ᶠ-refl (decimal 12 (stored_high n + stored_high m + log_high (n * m) (split_rest a))))
+      (at_most_sum 12 (stored_high n + stored_high m) (log_high (n * m) (split_rest a))
+      (at_most_sum 12 (stored_high n) (stored_high m) (stored_high_at_most n parts.n_from n_few) (stored_high_at_most m parts.m_from m_few))
+      (log_high_at_most (n * m) (split_rest a) parts.rest))
 
-  pub logarithm-in-order : logarithmLow a ≤ logarithmHigh a
-  unfolding logarithmLow logarithmHigh
-  logarithm-in-order =
+  pub logarithm_in_order : logarithm_low a ≤ logarithm_high a
+  unfolding logarithm_low logarithm_high
+  logarithm_in_order =
       omega (
         arith,
-        stored-in-order (firstFactor a) parts.n-from n-few,
-        stored-in-order (secondFactor a) parts.m-from m-few,
-        log-in-order (firstFactor a * secondFactor a) (splitRest a) parts.rest,
+        stored_in_order (first_factor a) parts.n_from n_few,
+        stored_in_order (second_factor a) parts.m_from m_few,
+        log_in_order (first_factor a * second_factor a) (split_rest a) parts.rest,
       )
 
   -- 7.505 * 10^-9 apart at most
-  pub logarithm-near : logarithmHigh a ≤ logarithmLow a + 7505
-  unfolding logarithmLow logarithmHigh
-  logarithm-near =
+  pub logarithm_near : logarithm_high a ≤ logarithm_low a + 7505
+  unfolding logarithm_low logarithm_high
+  logarithm_near =
       omega (
         arith,
-        stored-near (firstFactor a) parts.n-from n-few,
-        stored-near (secondFactor a) parts.m-from m-few,
-        log-near (firstFactor a * secondFactor a) (splitRest a) parts.rest,
+        stored_near (first_factor a) parts.n_from n_few,
+        stored_near (second_factor a) parts.m_from m_few,
+        log_near (first_factor a * second_factor a) (split_rest a) parts.rest,
       )
 
   -- HOW LARGE THE ENDS ARE: ln 20,000 is below 9.91
 
-  low_below : decimal 12 (logarithmLow a) ≤ᶠ decimal 2 991
+  low_below : decimal 12 (logarithm_low a) ≤ᶠ decimal 2 991
   low_below =
-      ≤ᶠ-trans (below-ln-over low-at-least 2) (≤ᶠ-trans (ln-over-mono (whole-mono to) 2)
-      (unfold lnOver in decimal-mono 2 ((ln-smallest-is 2 (whole 20000)).least 991 by-sum)))
+      ≤ᶠ-trans (below_ln_over low_at_least 2) (≤ᶠ-trans (ln_over_mono (whole_mono to) 2)
+      (unfold ln_over in decimal_mono 2 ((ln_smallest_is 2 (whole 20000)).least 991 by_sum)))
     where
-      by-sum : whole 20000 ≤ᶠ expUnder 2 (decimal 2 991)
-      by-sum = unfold expUnder partialSum sumNum termNum termDen decimal whole fraction in record { cross = lit≤ tt }
+      by_sum : whole 20000 ≤ᶠ exp_under 2 (decimal 2 991)
+      by_sum = unfold exp_under partial_sum sum_num term_num term_den decimal whole fraction in record { cross = lit≤ tt }
 
-  pub logarithm-high-small : logarithmHigh a ≤ 9920000000000
-  logarithm-high-small = let l = low_below in unfold decimal fraction in omega (arith, l.cross, logarithm-near)
+  pub logarithm_high_small : logarithm_high a ≤ 9920000000000
+  logarithm_high_small = let l = low_below in unfold decimal fraction in omega (arith, l.cross, logarithm_near)
 
   -- AT EVERY DEPTH
-  pub logarithm-stands : Stands (logarithmBracket a) (λ d. lnUnder d (whole a)) (λ d. lnOver d (whole a))
-  unfolding decimal logarithmBracket
-  logarithm-stands = record {
-    low-den = one-le-pow 12 10 (lit< tt);
-    high-den = one-le-pow 12 10 (lit< tt);
-    low-right = ln-low-stands low-at-least;
-    high-right = ln-high-stands (whole-mono from) high-within high-at-most;
-    in_order = unfold fraction in record { cross = mul-le-mul_right scale logarithm-in-order };
+  pub logarithm_stands : Stands (logarithm_bracket a) (λ d. ln_under d (whole a)) (λ d. ln_over d (whole a))
+  unfolding decimal logarithm_bracket
+  logarithm_stands = record {
+    low_den = one-le-pow 12 10 (lit< tt);
+    high_den = one-le-pow 12 10 (lit< tt);
+    low_right = ln_low_stands low_at_least;
+    high_right = ln_high_stands (whole_mono from) high_within high_at_most;
+    in_order = unfold fraction in record { cross = mul-le-mul_right scale logarithm_in_order };
   }
     where
-      high-within : decimal 12 (logarithmHigh a) ≤ᶠ whole 21
-      high-within = unfold decimal whole fraction in omega (arith, logarithm-high-small)
+      high_within : decimal 12 (logarithm_high a) ≤ᶠ whole 21
+      high_within = unfold decimal whole fraction in omega (arith, logarithm_high_small)
 
-  pub logarithm-width : AbsoluteWidth logarithmWidth (logarithmBracket a)
-  unfolding logarithmWidth logarithmBracket
-  logarithm-width = record { width = omega (arith, logarithm-near) }
+  pub logarithm_width : AbsoluteWidth logarithm_width (logarithm_bracket a)
+  unfolding logarithm_width logarithm_bracket
+  logarithm_width = record { width = omega (arith, logarithm_near) }
 
   -- an end is at most 10, over at most 10^12
-  pub logarithm-sizes : EndSizes (logarithmBracket a)
-  unfolding logarithmBracket
-  logarithm-sizes = record {
-    low-den-most = lit≤ tt;
-    high-den-most = lit≤ tt;
-    low-most = omega (arith, logarithm-in-order, logarithm-high-small);
-    high-most = omega (arith, logarithm-high-small);
+  pub logarithm_sizes : EndSizes (logarithm_bracket a)
+  unfolding logarithm_bracket
+  logarithm_sizes = record {
+    low_den_most = lit≤ tt;
+    high_den_most = lit≤ tt;
+    low_most = omega (arith, logarithm_in_order, logarithm_high_small);
+    high_most = omega (arith, logarithm_high_small);
   }
 
-  pub logarithm-standing : StandingLogarithm a (logarithmBracket a)
-  logarithm-standing = record { stands = logarithm-stands; narrow = logarithm-width }
+  pub logarithm_standing : StandingLogarithm a (logarithm_bracket a)
+  logarithm_standing = record { stands = logarithm_stands; narrow = logarithm_width }

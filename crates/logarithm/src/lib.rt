@@ -4,7 +4,7 @@ pub mod stored;
 
 ghost use Rattle.std.specs.Prelude.{◌≡◌, ◌≤◌};
 ghost use Rattle.logarithm.specs.Stored.{StoredLogarithms};
-ghost use Rattle.logarithm.specs.Logarithm.{logarithmBracket, logarithmAnswer, LogarithmStands};
+ghost use Rattle.logarithm.specs.Logarithm.{logarithm_bracket, logarithm_answer, LogarithmStands};
 
 use crate::stored::{stored_high, stored_logarithms, stored_low};
 use bracket::{Bracket, BracketAnswer};
@@ -13,7 +13,7 @@ use remainder::{SCALE, log_bounds, split};
 // Both ends in units of 10^-12, with the stored numbers lent.
 pub fn logarithm_with(stored: &[u64; 256], a: u64) -> Bracket
     requires { StoredLogarithms stored.now × (1 ≤ a) × (a ≤ 20000) }
-    ensures { result ≡ logarithmBracket a }
+    ensures { result ≡ logarithm_bracket a }
 {
     let s = split(a);
     let rest = log_bounds(s.n * s.m, s.r);
@@ -29,7 +29,7 @@ pub fn logarithm_with(stored: &[u64; 256], a: u64) -> Bracket
 
 // A bracket of ln a, or that a is out of range.
 pub fn logarithm(a: u64) -> BracketAnswer
-    ensures value { result ≡ logarithmAnswer a }
+    ensures value { result ≡ logarithm_answer a }
     ensures stands { LogarithmStands a result }
 {
     if a < 1 {

@@ -1,6 +1,6 @@
 // Stored bounds of the logarithms of 1 to 256, in units of 10^-12: made once, and lent to the calls that read them.
 ghost use Rattle.std.specs.Prelude.{◌≡◌, ◌*◌, ◌≤◌};
-ghost use Rattle.logarithm.specs.Stored.{StoredLogarithms, storedLow, storedHigh};
+ghost use Rattle.logarithm.specs.Stored.{StoredLogarithms, stored_low, stored_high};
 ghost use Rattle.remainder.specs.Remainder.{scale};
 
 // The lower bounds. But for ln 1, which is 0, the upper bound is the next number.
@@ -273,7 +273,7 @@ pub fn stored_logarithms() -> [u64; 256]
 // The lower bound of ln k.
 pub fn stored_low(stored: &[u64; 256], k: u64) -> u64
     requires { StoredLogarithms stored.now × (1 ≤ k) × (k ≤ 256) }
-    ensures value { result ≡ storedLow k }
+    ensures value { result ≡ stored_low k }
     ensures small { result ≤ 10 * scale }
 {
     let i = (k - 1) as usize;
@@ -283,7 +283,7 @@ pub fn stored_low(stored: &[u64; 256], k: u64) -> u64
 // The upper bound.
 pub fn stored_high(stored: &[u64; 256], k: u64) -> u64
     requires { StoredLogarithms stored.now × (1 ≤ k) × (k ≤ 256) }
-    ensures value { result ≡ storedHigh k }
+    ensures value { result ≡ stored_high k }
     ensures small { result ≤ 10 * scale }
 {
     if k == 1 {

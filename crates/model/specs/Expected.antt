@@ -9,7 +9,7 @@ use Rattle.site.specs.declared.values.Slot.TheVariants.{Absent, Number}
 use Rattle.header.specs.declared.Header.{Header}
 use Rattle.model.specs.Coefficients.{Coefficients}
 use Rattle.site.specs.Numbers.{number}
-use Rattle.model.specs.Predicted.{predictedUnder, predictedOver}
+use Rattle.model.specs.Predicted.{predicted_under, predicted_over}
 
 -- with N = n / m and k = a / b it is n (b + a O) / (b m + a n)
 unfoldable pub weighed : (k : Fraction) (observed : ℕ) (N : Fraction) → Fraction
@@ -20,23 +20,23 @@ weighed k observed N = record {
 }
 
 -- "Expected low is the formula at predicted low, rounded down; expected high at predicted high, rounded up", in millionths
-unfoldable pub expectedLow : (k : Fraction) (observed low : ℕ) → ℕ
-expectedLow k observed low = let x = weighed k observed (millionths low) in floor 1000000 x.num x.den
+unfoldable pub expected_low : (k : Fraction) (observed low : ℕ) → ℕ
+expected_low k observed low = let x = weighed k observed (millionths low) in floor 1000000 x.num x.den
 
-unfoldable pub expectedHigh : (k : Fraction) (observed high : ℕ) → ℕ
-expectedHigh k observed high = let x = weighed k observed (millionths high) in ceiling 1000000 x.num x.den
+unfoldable pub expected_high : (k : Fraction) (observed high : ℕ) → ℕ
+expected_high k observed high = let x = weighed k observed (millionths high) in ceiling 1000000 x.num x.den
 
 -- "its estimates are this at N's estimates, and N's own where there is no history"; a standing 0 is a history
-abbrev pub withHistory : Fraction → Slot → Fraction → Fraction
-withHistory k Absent N = N
-withHistory k (Number observed) N = weighed k observed N
+abbrev pub with_history : Fraction → Slot → Fraction → Fraction
+with_history k Absent N = N
+with_history k (Number observed) N = weighed k observed N
 
 -- k of a site
-abbrev pub overdispersionOf : Coefficients → Site → Fraction
-overdispersionOf c site = c.overdispersion site.kind (number site.length)
+abbrev pub overdispersion_of : Coefficients → Site → Fraction
+overdispersion_of c site = c.overdispersion site.kind (number site.length)
 
-unfoldable pub expectedUnder : Coefficients → Header → Site → ℕ → Fraction
-expectedUnder c header site d = withHistory (overdispersionOf c site) site.observed (predictedUnder c header site d)
+unfoldable pub expected_under : Coefficients → Header → Site → ℕ → Fraction
+expected_under c header site d = with_history (overdispersion_of c site) site.observed (predicted_under c header site d)
 
-unfoldable pub expectedOver : Coefficients → Header → Site → ℕ → Fraction
-expectedOver c header site d = withHistory (overdispersionOf c site) site.observed (predictedOver c header site d)
+unfoldable pub expected_over : Coefficients → Header → Site → ℕ → Fraction
+expected_over c header site d = with_history (overdispersion_of c site) site.observed (predicted_over c header site d)

@@ -2,33 +2,33 @@
 -- mean of its two neighbours at 1, 3, 5 and 7, and the last column's from 8 feet on. And its factor in each of these cases.
 use Rattle.std.specs.Prelude.{ℕ, ◌+◌, ◌*◌, ◌/◌, ◌≤◌, ◌<◌, Bool, true, false, ◌≡◌, refl, leb}
 use Rattle.std.proofs.Common.{arith, le-leb, leb-true, leb-false}
-use Rattle.laws.specs.Table.{all_below, agree-below}
+use Rattle.laws.specs.Table.{all_below, agree_below}
 use Rattle.estimate.specs.Fraction.{Fraction, fraction, ◌//◌, ◌=ᶠ◌}
 use Rattle.model.specs.Coefficients.{Coefficients}
-use Rattle.model.specs.Widths.{columnBelow, columnAbove, twiceMean, widthUnit, width_at, type_at, shoulderValue, typeValue, ofRelated, shoulder}
+use Rattle.model.specs.Widths.{column_below, column_above, twice_mean, width_unit, width_at, type_at, shoulder_value, type_value, of_related, shoulder}
 
 -- a width with the columns below and above it
 abbrev pub Between : (feet below above : ℕ) → Type 0
-Between feet below above = (columnBelow feet ≡ below) × (columnAbove feet ≡ above)
+Between feet below above = (column_below feet ≡ below) × (column_above feet ≡ above)
 
 -- up to 8 feet, and from 8 feet on
 pub narrow : (feet : ℕ) → feet < 9 → Between feet (feet / 2) ((feet + 1) / 2)
 unfolding all_below
-narrow feet h = (agree-below columnBelow (λ feet. feet / 2) 9 tt feet h, agree-below columnAbove (λ feet. (feet + 1) / 2) 9 tt feet h)
+narrow feet h = (agree_below column_below (λ feet. feet / 2) 9 tt feet h, agree_below column_above (λ feet. (feet + 1) / 2) 9 tt feet h)
 
 pub wide : (feet : ℕ) → 8 ≤ feet → Between feet 4 4
 wide feet h = (simp (le-leb 8 feet h), simp (le-leb 8 (feet + 1) (omega arith)))
 
 -- either way the two are among the five
-few : (test : Bool) (feet : ℕ) → leb 8 feet ≡ test → (columnBelow feet < 5) × (columnAbove feet < 5)
+few : (test : Bool) (feet : ℕ) → leb 8 feet ≡ test → (column_below feet < 5) × (column_above feet < 5)
 few true feet e = let four = wide feet (leb-true 8 feet e) in (omega (arith, four.0), omega (arith, four.1))
 few false feet e =
     let small : feet < 8 = leb-false 8 feet e in
     let half = narrow feet (omega arith) in
     (omega (arith, half.0), omega (arith, half.1))
 
-pub columns-few : (feet : ℕ) → (columnBelow feet < 5) × (columnAbove feet < 5)
-columns-few feet = few (leb 8 feet) feet refl
+pub columns_few : (feet : ℕ) → (column_below feet < 5) × (column_above feet < 5)
+columns_few feet = few (leb 8 feet) feet refl
 
 -- the i-th column is that of 2i feet, and 2i + 1 feet stand between it and the next
 even : (i : ℕ) → i < 5 → Between (2 * i) i i
@@ -39,35 +39,35 @@ odd i h = let half = narrow (2 * i + 1) (omega arith) in (omega (arith, half.0),
 
 -- ANY TABLE
 module _ (value : ℕ → ℕ) where
-  pub own-column : (i : ℕ) → i < 5 → twiceMean value (2 * i) ≡ 2 * value i
-  own-column i h = rw ((even i h).0, (even i h).1) (omega arith)
+  pub own_column : (i : ℕ) → i < 5 → twice_mean value (2 * i) ≡ 2 * value i
+  own_column i h = rw ((even i h).0, (even i h).1) (omega arith)
 
-  pub between-columns : (i : ℕ) → i < 4 → twiceMean value (2 * i + 1) ≡ value i + value (i + 1)
-  between-columns i h = rw ((odd i h).0, (odd i h).1)
+  pub between_columns : (i : ℕ) → i < 4 → twice_mean value (2 * i + 1) ≡ value i + value (i + 1)
+  between_columns i h = rw ((odd i h).0, (odd i h).1)
 
-  pub last-column : (feet : ℕ) → 8 ≤ feet → twiceMean value feet ≡ 2 * value 4
-  last-column feet h = rw ((wide feet h).0, (wide feet h).1) (omega arith)
+  pub last_column : (feet : ℕ) → 8 ≤ feet → twice_mean value feet ≡ 2 * value 4
+  last_column feet h = rw ((wide feet h).0, (wide feet h).1) (omega arith)
 
 -- THE FACTOR, in any edition
 module _ (k : Coefficients) (surface traffic : ℕ) where
   -- document 01's, of the values at one column
-  abbrev pub factorAt : ℕ → Fraction
-  factorAt i = ofRelated k.related-share (width_at traffic i * type_at surface i) (widthUnit * 100)
+  abbrev pub factor_at : ℕ → Fraction
+  factor_at i = of_related k.related_share (width_at traffic i * type_at surface i) (width_unit * 100)
 
   -- a column twice: four times the product, over four times the unit
-  one-column : (feet i : ℕ) → Between feet i i → shoulder k feet surface traffic =ᶠ factorAt i
-  unfolding shoulder shoulderValue typeValue ◌//◌ fraction
-  one-column feet i e = record { cross = rw (e.0, e.1) (omega arith) }
+  one_column : (feet i : ℕ) → Between feet i i → shoulder k feet surface traffic =ᶠ factor_at i
+  unfolding shoulder shoulder_value type_value ◌//◌ fraction
+  one_column feet i e = record { cross = rw (e.0, e.1) (omega arith) }
 
-  pub own-factor : (i : ℕ) → i < 5 → shoulder k (2 * i) surface traffic =ᶠ factorAt i
-  own-factor i h = one-column (2 * i) i (even i h)
+  pub own_factor : (i : ℕ) → i < 5 → shoulder k (2 * i) surface traffic =ᶠ factor_at i
+  own_factor i h = one_column (2 * i) i (even i h)
 
-  pub last-factor : (feet : ℕ) → 8 ≤ feet → shoulder k feet surface traffic =ᶠ factorAt 4
-  last-factor feet h = one-column feet 4 (wide feet h)
+  pub last_factor : (feet : ℕ) → 8 ≤ feet → shoulder k feet surface traffic =ᶠ factor_at 4
+  last_factor feet h = one_column feet 4 (wide feet h)
 
   -- the mean width times the mean type, each mean a sum over twice its unit
-  pub between-factor : (i : ℕ) → i < 4 → shoulder k (2 * i + 1) surface traffic
-      ≡ ofRelated k.related-share ((width_at traffic i + width_at traffic (i + 1)) * (type_at surface i + type_at surface (i + 1)))
-      ((2 * widthUnit) * (2 * 100))
-  unfolding shoulder shoulderValue typeValue
-  between-factor i h = rw ((odd i h).0, (odd i h).1)
+  pub between_factor : (i : ℕ) → i < 4 → shoulder k (2 * i + 1) surface traffic
+      ≡ of_related k.related_share ((width_at traffic i + width_at traffic (i + 1)) * (type_at surface i + type_at surface (i + 1)))
+      ((2 * width_unit) * (2 * 100))
+  unfolding shoulder shoulder_value type_value
+  between_factor i h = rw ((odd i h).0, (odd i h).1)

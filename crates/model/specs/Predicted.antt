@@ -3,55 +3,55 @@ use Rattle.std.specs.Prelude.{ℕ, zero, suc, ◌-◌, cond, List, [], ◌∷◌
 use Rattle.estimate.specs.Fraction.{Fraction, whole, ◌+ᶠ◌, ◌*ᶠ◌}
 use Rattle.site.specs.declared.values.Slot.TheVariants.{Absent}
 use Rattle.site.specs.declared.values.Site.{Site}
-use Rattle.site.specs.Yearly.{laterSlots, yearly}
+use Rattle.site.specs.Yearly.{later_slots, yearly}
 use Rattle.header.specs.declared.Header.{Header}
 use Rattle.model.specs.Coefficients.{Coefficients}
 use Rattle.site.specs.Numbers.{number}
-use Rattle.model.specs.Parts.{Part, Term, termAt, parts_of}
+use Rattle.model.specs.Parts.{Part, Term, term_at, parts_of}
 
 -- the product of the unders, and of the overs
-unfoldable pub productUnder : ℕ → List Part → Fraction
-productUnder d [] = whole 1
-productUnder d (part ∷ parts) = part.under d *ᶠ productUnder d parts
+unfoldable pub product_under : ℕ → List Part → Fraction
+product_under d [] = whole 1
+product_under d (part ∷ parts) = part.under d *ᶠ product_under d parts
 
-unfoldable pub productOver : ℕ → List Part → Fraction
-productOver d [] = whole 1
-productOver d (part ∷ parts) = part.over d *ᶠ productOver d parts
+unfoldable pub product_over : ℕ → List Part → Fraction
+product_over d [] = whole 1
+product_over d (part ∷ parts) = part.over d *ᶠ product_over d parts
 
 -- years at the traffic of the first
-abbrev pub termOf : (years : ℕ) → Site → Term
-termOf years site = termAt years (number site.traffic) (number site.minor_traffic)
+abbrev pub term_of : (years : ℕ) → Site → Term
+term_of years site = term_at years (number site.traffic) (number site.minor_traffic)
 
 -- one of the later years, the second at place 0, at its own traffic
-abbrev pub yearTerm : Site → (i : ℕ) → Term
-yearTerm site i =
-    termAt 1 (number (get_or (laterSlots site.later_traffic) i Absent)) (number (get_or (laterSlots site.later_minor) i Absent))
+abbrev pub year_term : Site → (i : ℕ) → Term
+year_term site i =
+    term_at 1 (number (get_or (later_slots site.later_traffic) i Absent)) (number (get_or (later_slots site.later_minor) i Absent))
 
 -- so many later years from a place on
-unfoldable pub laterTerms : Site → (i count : ℕ) → List Term
-laterTerms site i zero = []
-laterTerms site i (suc count) = yearTerm site i ∷ laterTerms site (suc i) count
+unfoldable pub later_terms : Site → (i count : ℕ) → List Term
+later_terms site i zero = []
+later_terms site i (suc count) = year_term site i ∷ later_terms site (suc i) count
 
 -- document 02, request 4: "The site's prediction is the sum of its Y one-year predictions, each with that year's factors"
-abbrev pub yearlyTerms : (years : ℕ) → Site → List Term
-yearlyTerms years site = termOf 1 site ∷ laterTerms site 0 (years - 1)
+abbrev pub yearly_terms : (years : ℕ) → Site → List Term
+yearly_terms years site = term_of 1 site ∷ later_terms site 0 (years - 1)
 
 -- and without later years, one traffic for all the years
-unfoldable pub termsOf : Header → Site → List Term
-termsOf header site = cond (yearly site) (yearlyTerms header.years site) (termOf header.years site ∷ [])
+unfoldable pub terms_of : Header → Site → List Term
+terms_of header site = cond (yearly site) (yearly_terms header.years site) (term_of header.years site ∷ [])
 
-unfoldable pub sumUnder : Coefficients → Header → Site → ℕ → List Term → Fraction
-sumUnder k header site d [] = whole 0
-sumUnder k header site d (term ∷ terms) =
-    productUnder d (parts_of k header.segments header.crossings site term) +ᶠ sumUnder k header site d terms
+unfoldable pub sum_under : Coefficients → Header → Site → ℕ → List Term → Fraction
+sum_under k header site d [] = whole 0
+sum_under k header site d (term ∷ terms) =
+    product_under d (parts_of k header.segments header.crossings site term) +ᶠ sum_under k header site d terms
 
-unfoldable pub sumOver : Coefficients → Header → Site → ℕ → List Term → Fraction
-sumOver k header site d [] = whole 0
-sumOver k header site d (term ∷ terms) =
-    productOver d (parts_of k header.segments header.crossings site term) +ᶠ sumOver k header site d terms
+unfoldable pub sum_over : Coefficients → Header → Site → ℕ → List Term → Fraction
+sum_over k header site d [] = whole 0
+sum_over k header site d (term ∷ terms) =
+    product_over d (parts_of k header.segments header.crossings site term) +ᶠ sum_over k header site d terms
 
-unfoldable pub predictedUnder : Coefficients → Header → Site → ℕ → Fraction
-predictedUnder k header site d = sumUnder k header site d (termsOf header site)
+unfoldable pub predicted_under : Coefficients → Header → Site → ℕ → Fraction
+predicted_under k header site d = sum_under k header site d (terms_of header site)
 
-unfoldable pub predictedOver : Coefficients → Header → Site → ℕ → Fraction
-predictedOver k header site d = sumOver k header site d (termsOf header site)
+unfoldable pub predicted_over : Coefficients → Header → Site → ℕ → Fraction
+predicted_over k header site d = sum_over k header site d (terms_of header site)

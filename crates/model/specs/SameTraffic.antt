@@ -9,16 +9,16 @@ use native.Mathlib.Omega.{arith}
 use Rattle.estimate.specs.Fraction.{Fraction, fraction, ◌//◌, whole, ◌=ᶠ◌, ◌+ᶠ◌, ◌*ᶠ◌}
 use Rattle.site.specs.declared.values.Site.{Site}
 use Rattle.site.specs.declared.values.Slot.TheVariants.{Absent}
-use Rattle.site.specs.Yearly.{yearly, noLater, laterSlots}
+use Rattle.site.specs.Yearly.{yearly, no_later, later_slots}
 use Rattle.site.specs.Numbers.{number}
-use Rattle.site.specs.Record.{siteOf}
+use Rattle.site.specs.Record.{site_of}
 use Rattle.site.specs.Writing.{slots_of}
 use Rattle.header.specs.declared.Header.{Header}
 use Rattle.model.specs.Coefficients.{Coefficients}
-use Rattle.model.specs.Parts.{Part, Term, exact, termAt, segmentStart, segmentParts, crossingStart, crossingParts, parts_of}
-use Rattle.model.specs.Expected.{overdispersionOf, expectedUnder, expectedOver}
-use Rattle.model.specs.ExpectedLaws.{history-same}
-use Rattle.model.specs.Predicted.{productUnder, productOver, termOf, yearTerm, laterTerms, yearlyTerms, termsOf, sumUnder, sumOver, predictedUnder, predictedOver}
+use Rattle.model.specs.Parts.{Part, Term, exact, term_at, segment_start, segment_parts, crossing_start, crossing_parts, parts_of}
+use Rattle.model.specs.Expected.{overdispersion_of, expected_under, expected_over}
+use Rattle.model.specs.ExpectedLaws.{history_same}
+use Rattle.model.specs.Predicted.{product_under, product_over, term_of, year_term, later_terms, yearly_terms, terms_of, sum_under, sum_over, predicted_under, predicted_over}
 
 -- a product whose first factor has so many times the numerator of another's
 scaled : (years : ℕ) (x y rest : Fraction) → x.num ≡ years * y.num → x.den ≡ y.den → x *ᶠ rest =ᶠ whole years *ᶠ (y *ᶠ rest)
@@ -28,20 +28,20 @@ scaled years x y rest e f = record { cross = rw (e, f) (omega arith) }
 -- A PRODUCT IS IN PROPORTION TO THE YEARS OF ITS TERM, under or over
 module _ (product : List Part → Fraction) (exactly : (x : Fraction) (parts : List Part) → product (exact x ∷ parts) ≡ x *ᶠ product parts)
     (k : Coefficients) (segments crossings : ℕ) (site : Site) (traffic minor years : ℕ) where
-  by-years : product (parts_of k segments crossings site (termAt years traffic minor))
-      =ᶠ whole years *ᶠ product (parts_of k segments crossings site (termAt 1 traffic minor))
-  unfolding segmentParts crossingParts ◌//◌ fraction
-  by-years = by (eqb site.kind 0)
+  by_years : product (parts_of k segments crossings site (term_at years traffic minor))
+      =ᶠ whole years *ᶠ product (parts_of k segments crossings site (term_at 1 traffic minor))
+  unfolding segment_parts crossing_parts ◌//◌ fraction
+  by_years = by (eqb site.kind 0)
     where
       by : (segment : Bool)
-          → product (cond segment (segmentParts k segments site (termAt years traffic minor)) (crossingParts k crossings site (termAt years traffic minor)))
+          → product (cond segment (segment_parts k segments site (term_at years traffic minor)) (crossing_parts k crossings site (term_at years traffic minor)))
           =ᶠ whole years
-          *ᶠ product (cond segment (segmentParts k segments site (termAt 1 traffic minor)) (crossingParts k crossings site (termAt 1 traffic minor)))
+          *ᶠ product (cond segment (segment_parts k segments site (term_at 1 traffic minor)) (crossing_parts k crossings site (term_at 1 traffic minor)))
       by true =
-          rw (exactly (segmentStart segments site (termAt years traffic minor)) _, exactly (segmentStart segments site (termAt 1 traffic minor)) _)
+          rw (exactly (segment_start segments site (term_at years traffic minor)) _, exactly (segment_start segments site (term_at 1 traffic minor)) _)
           (scaled years _ _ _ (omega arith) refl)
       by false =
-          rw (exactly (crossingStart crossings (termAt years traffic minor)) _, exactly (crossingStart crossings (termAt 1 traffic minor)) _)
+          rw (exactly (crossing_start crossings (term_at years traffic minor)) _, exactly (crossing_start crossings (term_at 1 traffic minor)) _)
           (scaled years _ _ _ (omega arith) refl)
 
 -- one more of the same
@@ -50,9 +50,9 @@ unfolding ◌+ᶠ◌ ◌*ᶠ◌ whole fraction
 one_more n all f p s e = record { cross = rw (← f) (omega (arith, ap (λ (x : ℕ). x * p.den) e.cross)) }
 
 -- what are both so many times the same are equal
-same-times : (n : ℕ) (p s t : Fraction) → s =ᶠ whole n *ᶠ p → t =ᶠ whole n *ᶠ p → s =ᶠ t +ᶠ whole 0
+same_times : (n : ℕ) (p s t : Fraction) → s =ᶠ whole n *ᶠ p → t =ᶠ whole n *ᶠ p → s =ᶠ t +ᶠ whole 0
 unfolding ◌+ᶠ◌ ◌*ᶠ◌ whole fraction
-same-times n p s t e f =
+same_times n p s t e f =
     let left = ap (λ (x : ℕ). x * t.den) e.cross in
     let right = ap (λ (x : ℕ). x * s.den) f.cross in
     let most : s.num * t.den ≤ t.num * s.den = le_of_mul-le-mul_right {k = p.den} (omega (arith, left, right)) p.pos in
@@ -62,60 +62,60 @@ same-times n p s t e f =
 -- the later year at a place, and every one so many places from a place on, have the traffic of the first, major and minor
 abbrev pub SameAt : Site → (i : ℕ) → Type 0
 SameAt site i =
-    (number (get_or (laterSlots site.later_traffic) i Absent) ≡ number site.traffic)
-    × (number (get_or (laterSlots site.later_minor) i Absent) ≡ number site.minor_traffic)
+    (number (get_or (later_slots site.later_traffic) i Absent) ≡ number site.traffic)
+    × (number (get_or (later_slots site.later_minor) i Absent) ≡ number site.minor_traffic)
 
 abbrev pub SameFrom : Site → (i count : ℕ) → Type 0
 SameFrom site i count = (j : ℕ) → i ≤ j → j < i + count → SameAt site j
 
 -- each is then a term of one year, as the first year's
-same-term : (site : Site) (i : ℕ) → SameAt site i → yearTerm site i ≡ termOf 1 site
-same-term site i same = rw (same.0, same.1) refl
+same_term : (site : Site) (i : ℕ) → SameAt site i → year_term site i ≡ term_of 1 site
+same_term site i same = rw (same.0, same.1) refl
 
 -- A SUM OVER TERMS, under or over, of products that are in proportion to the years
 module _ (product : Term → Fraction) (sum : List Term → Fraction) (none : sum [] ≡ whole 0)
     (more : (term : Term) (terms : List Term) → sum (term ∷ terms) ≡ product term +ᶠ sum terms) (site : Site)
-    (by-the-years : (years : ℕ) → product (termOf years site) =ᶠ whole years *ᶠ product (termOf 1 site)) where
-  later-sum : (i count : ℕ) → SameFrom site i count → sum (laterTerms site i count) =ᶠ whole count *ᶠ product (termOf 1 site)
-  unfolding laterTerms ◌*ᶠ◌ whole fraction
-  later-sum i zero same = rw none (record { cross = omega arith })
-  later-sum i (suc count) same =
-      let rest = later-sum (suc i) count (λ j l m. same j (omega arith) (omega arith)) in
-      rw (more (yearTerm site i) (laterTerms site (suc i) count), same-term site i (same i (omega arith) (omega arith)))
-      (one_more count _ refl (product (termOf 1 site)) (sum (laterTerms site (suc i) count)) rest)
+    (by_the_years : (years : ℕ) → product (term_of years site) =ᶠ whole years *ᶠ product (term_of 1 site)) where
+  later_sum : (i count : ℕ) → SameFrom site i count → sum (later_terms site i count) =ᶠ whole count *ᶠ product (term_of 1 site)
+  unfolding later_terms ◌*ᶠ◌ whole fraction
+  later_sum i zero same = rw none (record { cross = omega arith })
+  later_sum i (suc count) same =
+      let rest = later_sum (suc i) count (λ j l m. same j (omega arith) (omega arith)) in
+      rw (more (year_term site i) (later_terms site (suc i) count), same_term site i (same i (omega arith) (omega arith)))
+      (one_more count _ refl (product (term_of 1 site)) (sum (later_terms site (suc i) count)) rest)
 
-  same_sum : (years : ℕ) → 1 ≤ years → SameFrom site 0 (years - 1) → sum (yearlyTerms years site) =ᶠ sum (termOf years site ∷ [])
+  same_sum : (years : ℕ) → 1 ≤ years → SameFrom site 0 (years - 1) → sum (yearly_terms years site) =ᶠ sum (term_of years site ∷ [])
   same_sum years some same =
-      let all = one_more (years - 1) years (omega arith) (product (termOf 1 site)) (sum (laterTerms site 0 (years - 1))) (later-sum 0 (years - 1) same) in
-      rw (more (termOf 1 site) (laterTerms site 0 (years - 1)), more (termOf years site) [], none)
-      (same-times years (product (termOf 1 site)) _ _ all (by-the-years years))
+      let all = one_more (years - 1) years (omega arith) (product (term_of 1 site)) (sum (later_terms site 0 (years - 1))) (later_sum 0 (years - 1) same) in
+      rw (more (term_of 1 site) (later_terms site 0 (years - 1)), more (term_of years site) [], none)
+      (same_times years (product (term_of 1 site)) _ _ all (by_the_years years))
 
 -- the site without its later years
-abbrev pub ofOneTraffic : Site → Site
-ofOneTraffic site = siteOf site.kind (slots_of site) noLater noLater
+abbrev pub of_one_traffic : Site → Site
+of_one_traffic site = site_of site.kind (slots_of site) no_later no_later
 
 -- THE SAME TRAFFIC IN EVERY YEAR gives the estimates of one traffic for all the years
 module _ (k : Coefficients) (header : Header) (site : Site) (d : ℕ) (some : 1 ≤ header.years) (each : yearly site ≡ true)
     (same : SameFrom site 0 (header.years - 1)) where
-  pub same-under : predictedUnder k header site d =ᶠ predictedUnder k header (ofOneTraffic site) d
-  unfolding predictedUnder sumUnder productUnder termsOf segmentParts crossingParts
-  same-under =
+  pub same_under : predicted_under k header site d =ᶠ predicted_under k header (of_one_traffic site) d
+  unfolding predicted_under sum_under product_under terms_of segment_parts crossing_parts
+  same_under =
       rw each
-      (same_sum (λ term. productUnder d (parts_of k header.segments header.crossings site term)) (sumUnder k header site d) refl
-      (λ term terms. refl) site (by-years (productUnder d) (λ x parts. refl) k header.segments header.crossings site _ _) header.years some same)
+      (same_sum (λ term. product_under d (parts_of k header.segments header.crossings site term)) (sum_under k header site d) refl
+      (λ term terms. refl) site (by_years (product_under d) (λ x parts. refl) k header.segments header.crossings site _ _) header.years some same)
 
-  pub same_over : predictedOver k header site d =ᶠ predictedOver k header (ofOneTraffic site) d
-  unfolding predictedOver sumOver productOver termsOf segmentParts crossingParts
+  pub same_over : predicted_over k header site d =ᶠ predicted_over k header (of_one_traffic site) d
+  unfolding predicted_over sum_over product_over terms_of segment_parts crossing_parts
   same_over =
       rw each
-      (same_sum (λ term. productOver d (parts_of k header.segments header.crossings site term)) (sumOver k header site d) refl
-      (λ term terms. refl) site (by-years (productOver d) (λ x parts. refl) k header.segments header.crossings site _ _) header.years some same)
+      (same_sum (λ term. product_over d (parts_of k header.segments header.crossings site term)) (sum_over k header site d) refl
+      (λ term terms. refl) site (by_years (product_over d) (λ x parts. refl) k header.segments header.crossings site _ _) header.years some same)
 
   -- "the history still covers the whole period": it is weighed against the same prediction
-  pub same-expected-under : expectedUnder k header site d =ᶠ expectedUnder k header (ofOneTraffic site) d
-  unfolding expectedUnder
-  same-expected-under = history-same (overdispersionOf k site) site.observed same-under
+  pub same_expected_under : expected_under k header site d =ᶠ expected_under k header (of_one_traffic site) d
+  unfolding expected_under
+  same_expected_under = history_same (overdispersion_of k site) site.observed same_under
 
-  pub same-expected-over : expectedOver k header site d =ᶠ expectedOver k header (ofOneTraffic site) d
-  unfolding expectedOver
-  same-expected-over = history-same (overdispersionOf k site) site.observed same_over
+  pub same_expected_over : expected_over k header site d =ᶠ expected_over k header (of_one_traffic site) d
+  unfolding expected_over
+  same_expected_over = history_same (overdispersion_of k site) site.observed same_over

@@ -9,46 +9,46 @@ use Rattle.site.specs.Numbers.{number}
 use Rattle.model.specs.Coefficients.{Coefficients}
 
 -- document 02, request 8: "lose their hundred-thousandth and get a millionth of high in its place"
-abbrev pub widthParts : ℕ
-widthParts = 1000000
+abbrev pub width_parts : ℕ
+width_parts = 1000000
 
 -- "the terms for each site and crash remain": of a predicted pair, for each site
-abbrev pub predictedEach : ℕ
-predictedEach = 4
+abbrev pub predicted_each : ℕ
+predicted_each = 4
 
 -- of an expected pair, for each site and each observed crash
-abbrev pub expectedEach : ℕ
-expectedEach = 8
+abbrev pub expected_each : ℕ
+expected_each = 8
 
 -- document 02, request 4, of a site with a traffic for each year: "In demand 3's widths such a site counts as Y sites"
-unfoldable pub sitesCounted : (years : ℕ) → Site → ℕ
-sitesCounted years site = cond (yearly site) years 1
+unfoldable pub sites_counted : (years : ℕ) → Site → ℕ
+sites_counted years site = cond (yearly site) years 1
 
 -- "and each of its observed crashes as Y"; request 6: "in edition 2, an observed crash on a segment counts 1 + k times"
-unfoldable pub crashesCounted : Coefficients → (years : ℕ) → Site → Fraction
-crashesCounted c years site = whole (sitesCounted years site * number site.observed) *ᶠ c.crash-count site.kind (number site.length)
+unfoldable pub crashes_counted : Coefficients → (years : ℕ) → Site → Fraction
+crashes_counted c years site = whole (sites_counted years site * number site.observed) *ᶠ c.crash_count site.kind (number site.length)
 
 -- "rounded up"
-abbrev pub roundedUp : Fraction → ℕ
-roundedUp count = ceiling count.num 1 count.den
+abbrev pub rounded_up : Fraction → ℕ
+rounded_up count = ceiling count.num 1 count.den
 
 -- of a line, once for all the crashes of its site
-abbrev pub observedWeight : Coefficients → (years : ℕ) → Site → ℕ
-observedWeight c years site = roundedUp (crashesCounted c years site)
+abbrev pub observed_weight : Coefficients → (years : ℕ) → Site → ℕ
+observed_weight c years site = rounded_up (crashes_counted c years site)
 
 -- OF THE TOTALS, over a list of sites: what each has, added up
-unfoldable pub addedUp : (Site → Fraction) → List Site → Fraction
-addedUp each [] = whole 0
-addedUp each (site ∷ sites) = each site +ᶠ addedUp each sites
+unfoldable pub added_up : (Site → Fraction) → List Site → Fraction
+added_up each [] = whole 0
+added_up each (site ∷ sites) = each site +ᶠ added_up each sites
 
-unfoldable pub countOver : (Site → ℕ) → List Site → ℕ
-countOver each [] = 0
-countOver each (site ∷ sites) = each site + countOver each sites
+unfoldable pub count_over : (Site → ℕ) → List Site → ℕ
+count_over each [] = 0
+count_over each (site ∷ sites) = each site + count_over each sites
 
 -- the sites, each as it counts
-abbrev pub sitesCountedIn : (years : ℕ) → List Site → ℕ
-sitesCountedIn years sites = countOver (sitesCounted years) sites
+abbrev pub sites_counted_in : (years : ℕ) → List Site → ℕ
+sites_counted_in years sites = count_over (sites_counted years) sites
 
 -- "A project's observed crashes are the sum of the O that stand", each as it counts: added up as fractions, and rounded up once
-abbrev pub observedIn : Coefficients → (years : ℕ) → List Site → ℕ
-observedIn c years sites = roundedUp (addedUp (crashesCounted c years) sites)
+abbrev pub observed_in : Coefficients → (years : ℕ) → List Site → ℕ
+observed_in c years sites = rounded_up (added_up (crashes_counted c years) sites)

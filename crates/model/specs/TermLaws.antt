@@ -5,35 +5,35 @@ use Rattle.site.specs.declared.values.Site.{Site}
 use Rattle.site.specs.Yearly.{yearly}
 use Rattle.header.specs.declared.Header.{Header}
 use Rattle.model.specs.Parts.{Term}
-use Rattle.model.specs.Predicted.{termOf, laterTerms, yearlyTerms, termsOf}
-use Rattle.model.specs.StatedWidths.{sitesCounted}
+use Rattle.model.specs.Predicted.{term_of, later_terms, yearly_terms, terms_of}
+use Rattle.model.specs.StatedWidths.{sites_counted}
 
 -- what holds of the terms of a site with later years, and of the one term of a site without
-pub by-years : (P : List Term → Type 0) (header : Header) (site : Site) → (yearly site ≡ true → P (yearlyTerms header.years site))
-    → (yearly site ≡ false → P (termOf header.years site ∷ [])) → P (termsOf header site)
-unfolding termsOf
-by-years P header site each all = by (yearly site) refl
+pub by_years : (P : List Term → Type 0) (header : Header) (site : Site) → (yearly site ≡ true → P (yearly_terms header.years site))
+    → (yearly site ≡ false → P (term_of header.years site ∷ [])) → P (terms_of header site)
+unfolding terms_of
+by_years P header site each all = by (yearly site) refl
   where
-    by : (b : Bool) → yearly site ≡ b → P (cond b (yearlyTerms header.years site) (termOf header.years site ∷ []))
+    by : (b : Bool) → yearly site ≡ b → P (cond b (yearly_terms header.years site) (term_of header.years site ∷ []))
     by true e = each e
     by false e = all e
 
-later-length : (site : Site) (i count : ℕ) → length (laterTerms site i count) ≡ count
-unfolding laterTerms
-later-length site i zero = refl
-later-length site i (suc count) = ap suc (later-length site (suc i) count)
+later_length : (site : Site) (i count : ℕ) → length (later_terms site i count) ≡ count
+unfolding later_terms
+later_length site i zero = refl
+later_length site i (suc count) = ap suc (later_length site (suc i) count)
 
 -- A SITE COUNTS FOR ITS TERMS
-pub sites-counted : (header : Header) (site : Site) → 1 ≤ header.years → sitesCounted header.years site ≡ length (termsOf header site)
-unfolding sitesCounted
-sites-counted header site some =
-    by-years (λ terms. sitesCounted header.years site ≡ length terms) header site
-    (λ e. rw e (omega (arith, later-length site 0 (header.years - 1))))
+pub sites_counted_lem : (header : Header) (site : Site) → 1 ≤ header.years → sites_counted header.years site ≡ length (terms_of header site)
+unfolding sites_counted
+sites_counted_lem header site some =
+    by_years (λ terms. sites_counted header.years site ≡ length terms) header site
+    (λ e. rw e (omega (arith, later_length site 0 (header.years - 1))))
     (λ e. rw e)
 
 -- what holds of the years and of one site
-pub by_count : (P : ℕ → Type 0) (years : ℕ) (site : Site) → P years → P 1 → P (sitesCounted years site)
-unfolding sitesCounted
+pub by_count : (P : ℕ → Type 0) (years : ℕ) (site : Site) → P years → P 1 → P (sites_counted years site)
+unfolding sites_counted
 by_count P years site each all = by (yearly site)
   where
     by : (b : Bool) → P (cond b years 1)

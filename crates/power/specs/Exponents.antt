@@ -9,8 +9,8 @@ use Rattle.remainder.specs.Remainder.{Exponent}
 abbrev pub exponents : List ℕ
 exponents = 79 ∷ 49 ∷ 60 ∷ 61 ∷ 20 ∷ []
 
-abbrev pub exponentAt : ℕ → ℕ
-exponentAt e = get_or exponents e 0
+abbrev pub exponent_at : ℕ → ℕ
+exponent_at e = get_or exponents e 0
 
 -- the place of x in a list, the list's length where it is not in it
 abbrev pub place_in : List ℕ → ℕ → ℕ
@@ -32,9 +32,9 @@ pub place_none : (xs : List ℕ) (x : ℕ) → ((j : ℕ) → j < length xs → 
 place_none [] x f = refl
 place_none (y ∷ ys) x f = rw (ne_eqb y x (f 0 (zero-lt-suc (length ys)))) (ap suc (place_none ys x (λ j h. f (suc j) (suc-le-suc h))))
 
-pub place-holds : (xs : List ℕ) (x : ℕ) → place_in xs x < length xs → get_or xs (place_in xs x) 0 ≡ x
-place-holds [] x l = absurd (not-suc-le-zero l)
-place-holds (y ∷ ys) x l = by_cases (ℕ_discrete y x) (place-holds ys x) l
+pub place_holds : (xs : List ℕ) (x : ℕ) → place_in xs x < length xs → get_or xs (place_in xs x) 0 ≡ x
+place_holds [] x l = absurd (not-suc-le-zero l)
+place_holds (y ∷ ys) x l = by_cases (ℕ_discrete y x) (place_holds ys x) l
   where
     by_cases : Dec (y ≡ x) → (place_in ys x < length ys → get_or ys (place_in ys x) 0 ≡ x)
         → place_in (y ∷ ys) x < length (y ∷ ys) → get_or (y ∷ ys) (place_in (y ∷ ys) x) 0 ≡ x
@@ -42,14 +42,14 @@ place-holds (y ∷ ys) x l = by_cases (ℕ_discrete y x) (place-holds ys x) l
     by_cases (no f) r h = rw (ne_eqb y x f) (r (le_of_suc-le-suc (rw (ne_eqb y x f) at h)))
 
 -- a stored exponent is what its place has
-pub place-of-holds : (num : ℕ) → place_of num < 5 → exponentAt (place_of num) ≡ num
+pub place_of_holds : (num : ℕ) → place_of num < 5 → exponent_at (place_of num) ≡ num
 unfolding place_of
-place-of-holds num h = place-holds exponents num h
+place_of_holds num h = place_holds exponents num h
 
 -- EACH IS AT MOST 0.79
 
-pub exponent_small : (e : ℕ) → e < 5 → exponentAt e ≤ 79
-exponent_small e h = leb→le (exponentAt e) 79 (at (λ i x. leb x 79) exponents tt e h)
+pub exponent_small : (e : ℕ) → e < 5 → exponent_at e ≤ 79
+exponent_small e h = leb→le (exponent_at e) 79 (at (λ i x. leb x 79) exponents tt e h)
 
-pub exponent-is : (e : ℕ) → e < 5 → Exponent (exponentAt e) 100
-exponent-is e h = let s = exponent_small e h in record { at_most_one = omega arith; positive = omega arith }
+pub exponent_is : (e : ℕ) → e < 5 → Exponent (exponent_at e) 100
+exponent_is e h = let s = exponent_small e h in record { at_most_one = omega arith; positive = omega arith }

@@ -2,14 +2,14 @@
 use Rattle.std.specs.Prelude.{ℕ, ◌+◌, ◌*◌, ◌≤◌, ◌<◌}
 use Rattle.std.proofs.Common.{mul-le-mul, mul-le-mul_left, mul-le-mul_right, le_of_mul-le-mul_right, arith}
 use Rattle.wide.specs.Scaling.{floor, ceiling}
-use Rattle.wide.specs.Rounding.{floor-le, floor-lt, ceiling-ge, ceiling-lt}
+use Rattle.wide.specs.Rounding.{floor_le, floor_lt, ceiling_ge, ceiling_lt}
 use Rattle.laws.specs.Quotient.{RoundedDown, RoundedUp, at_most}
 
-pub floor-rounded : (a n d : ℕ) → 0 < d → RoundedDown (a * n) d (floor a n d)
-floor-rounded a n d h = record { below = floor-le a n d; near = floor-lt a n d h }
+pub floor_rounded : (a n d : ℕ) → 0 < d → RoundedDown (a * n) d (floor a n d)
+floor_rounded a n d h = record { below = floor_le a n d; near = floor_lt a n d h }
 
-pub ceiling-rounded : (a n d : ℕ) → 0 < d → RoundedUp (a * n) d (ceiling a n d)
-ceiling-rounded a n d h = record { above = ceiling-ge a n d h; near = ceiling-lt a n d h }
+pub ceiling_rounded : (a n d : ℕ) → 0 < d → RoundedUp (a * n) d (ceiling a n d)
+ceiling_rounded a n d h = record { above = ceiling_ge a n d h; near = ceiling_lt a n d h }
 
 -- a product by a number from d on, over d and rounded down, is no smaller
 pub at_least : (x y d z : ℕ) → d ≤ y → RoundedDown (x * y) d z → x ≤ z
@@ -33,8 +33,8 @@ module _ (S R s t u u' g g' v v' c : ℕ) (hS : 0 < S) (a : RoundedDown (s * t) 
         mul-le-mul_left (s + t + 2 * S) small,
       )
 
-  pub ends-apart : v' * R ≤ v * R + u * c + 1005 * (s + t + 2 * S) + 2 * R
-  ends-apart = le_of_mul-le-mul_right {k = S} second hS
+  pub ends_apart : v' * R ≤ v * R + u * c + 1005 * (s + t + 2 * S) + 2 * R
+  ends_apart = le_of_mul-le-mul_right {k = S} second hS
 
 -- WHAT THE ROUNDINGS ADD, BESIDE THE FIRST PRODUCT
 
@@ -55,9 +55,9 @@ beside k l S s t u h hs ht a = record {
 }
 
 module _ (S s t : ℕ) (big : 10000 ≤ S) where
-  pub roundings-from-one : S ≤ s → S ≤ t → RoundingsWithin S 6021 s t
-  roundings-from-one hs ht u a = let b = beside 100 100 S s t u (omega arith) (omega arith) (omega arith) a in omega arith
+  pub roundings_from_one : S ≤ s → S ≤ t → RoundingsWithin S 6021 s t
+  roundings_from_one hs ht u a = let b = beside 100 100 S s t u (omega arith) (omega arith) (omega arith) a in omega arith
 
   -- s from 1.41 S, t from 11.31 S on
-  pub roundings-from-roots : 141 * S ≤ 100 * s → 1131 * S ≤ 100 * t → RoundingsWithin S 1055 s t
-  roundings-from-roots hs ht u a = let b = beside 141 1131 S s t u (omega arith) hs ht a in omega arith
+  pub roundings_from_roots : 141 * S ≤ 100 * s → 1131 * S ≤ 100 * t → RoundingsWithin S 1055 s t
+  roundings_from_roots hs ht u a = let b = beside 141 1131 S s t u (omega arith) hs ht a in omega arith

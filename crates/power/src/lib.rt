@@ -5,10 +5,10 @@ pub mod stored;
 ghost use Rattle.std.specs.Prelude.{◌≡◌, ◌≤◌, ◌<◌};
 ghost use Rattle.wide.specs.Scaling.{rounded};
 ghost use Rattle.remainder.specs.Remainder.{scale, NearOne};
-ghost use Rattle.power.specs.Exponents.{exponentAt};
+ghost use Rattle.power.specs.Exponents.{exponent_at};
 ghost use Rattle.power.specs.Stored.{StoredPowers, billion};
-ghost use Rattle.power.specs.Ends.{mostStored, mostProduct};
-ghost use Rattle.power.specs.Power.{powerBracket, powerAnswer, PowerStands};
+ghost use Rattle.power.specs.Ends.{most_stored, most_product};
+ghost use Rattle.power.specs.Power.{power_bracket, power_answer, PowerStands};
 
 use crate::stored::{exponent_place, hundredths, stored_bounds, stored_powers};
 use bracket::{Bracket, BracketAnswer};
@@ -25,9 +25,9 @@ const SCALE_TWOS: u64 = 4096;
 // The product of two stored bounds, in billionths: rounded down for the low end, where `up` is 0, and up for the high one, where it
 // is 1.
 fn product_of(first: u64, second: u64, up: u64) -> u64
-    requires { (up ≤ 1) × (first ≤ mostStored) × (second ≤ mostStored) }
+    requires { (up ≤ 1) × (first ≤ most_stored) × (second ≤ most_stored) }
     ensures value { result ≡ rounded up first second billion }
-    ensures small { result ≤ mostProduct }
+    ensures small { result ≤ most_product }
 {
     scale_by_parts(
         first,
@@ -40,7 +40,7 @@ fn product_of(first: u64, second: u64, up: u64) -> u64
 
 // That product times a remainder, rounded the same way. A remainder is 1 and little more, and only the little is multiplied.
 fn end_of(product: u64, remainder: u64, up: u64) -> u64
-    requires { (up ≤ 1) × (product ≤ mostProduct) × NearOne remainder }
+    requires { (up ≤ 1) × (product ≤ most_product) × NearOne remainder }
     ensures { result ≡ rounded up product remainder scale }
 {
     let more = scale_by_parts(
@@ -57,7 +57,7 @@ fn end_of(product: u64, remainder: u64, up: u64) -> u64
 // before it in the code (docs/DECISIONS.md#Arithmetic).
 pub fn power_with(stored: &[u64; 2560], base: u64, exponent: u64) -> Bracket
     requires { StoredPowers stored.now × (1 ≤ base) × (base ≤ 20000) × (exponent < 5) }
-    ensures { result ≡ powerBracket base (exponentAt exponent) 100 }
+    ensures { result ≡ power_bracket base (exponent_at exponent) 100 }
 {
     let s = split(base);
     let first = stored_bounds(stored, exponent, s.n);
@@ -75,7 +75,7 @@ pub fn power_with(stored: &[u64; 2560], base: u64, exponent: u64) -> Bracket
 
 // A bracket of base^(num / den), or that the base or the exponent is out of range.
 pub fn power(base: u64, num: u64, den: u64) -> BracketAnswer
-    ensures value { result ≡ powerAnswer base num den }
+    ensures value { result ≡ power_answer base num den }
     ensures stands { PowerStands base num den result }
 {
     if base < 1 {

@@ -1,8 +1,8 @@
 // Stored bounds of the powers of 1 to 256 at five exponents, in billionths: made once, and lent to the calls that read them.
 ghost use Rattle.std.specs.Prelude.{◌≡◌, ◌≤◌, ◌<◌};
-ghost use Rattle.power.specs.Exponents.{exponentAt, place_of};
-ghost use Rattle.power.specs.Stored.{StoredPowers, storedBounds};
-ghost use Rattle.power.specs.Ends.{mostStored};
+ghost use Rattle.power.specs.Exponents.{exponent_at, place_of};
+ghost use Rattle.power.specs.Stored.{StoredPowers, stored_bounds};
+ghost use Rattle.power.specs.Ends.{most_stored};
 
 use remainder::Bounds;
 
@@ -2583,7 +2583,7 @@ pub fn stored_powers() -> [u64; 2560]
 // The exponent at a place, in hundredths.
 pub fn hundredths(exponent: u64) -> u64
     requires { exponent < 5 }
-    ensures { result ≡ exponentAt exponent }
+    ensures { result ≡ exponent_at exponent }
 {
     let i = exponent as usize;
     HUNDREDTHS[i]
@@ -2606,8 +2606,8 @@ pub fn exponent_place(num: u64) -> u64
 // The bounds of k to the exponent at a place.
 pub fn stored_bounds(stored: &[u64; 2560], exponent: u64, k: u64) -> Bounds
     requires { StoredPowers stored.now × (exponent < 5) × (1 ≤ k) × (k ≤ 256) }
-    ensures value { result ≡ storedBounds k (exponentAt exponent) 100 }
-    ensures small { (result.low ≤ mostStored) × (result.high ≤ mostStored) }
+    ensures value { result ≡ stored_bounds k (exponent_at exponent) 100 }
+    ensures small { (result.low ≤ most_stored) × (result.high ≤ most_stored) }
 {
     let i = (2 * (exponent * 256 + (k - 1))) as usize;
     Bounds {

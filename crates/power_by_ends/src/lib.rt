@@ -1,9 +1,9 @@
 // Brackets of powers with each end by a walk of its own and scaled in two words, and the call that answers them: `power` as it was
 // before request 5. Two programs alone call it, beside the new form: `rounds` times both, and `power_forms` prints what both answer.
 ghost use Rattle.std.specs.Prelude.{◌≡◌, ◌≤◌, ◌<◌};
-ghost use Rattle.power.specs.Exponents.{exponentAt};
+ghost use Rattle.power.specs.Exponents.{exponent_at};
 ghost use Rattle.power.specs.Stored.{StoredPowers};
-ghost use Rattle.power.specs.Power.{powerLow, powerHigh, powerBracket, powerAnswer, PowerStands};
+ghost use Rattle.power.specs.Power.{power_low, power_high, power_bracket, power_answer, PowerStands};
 
 use bracket::{Bracket, BracketAnswer};
 use power::BILLION;
@@ -14,7 +14,7 @@ use wide::scale::{times_down, times_up};
 // The low end, in billionths, for the exponent at a place below 5.
 fn power_low_with(stored: &[u64; 2560], base: u64, exponent: u64) -> u64
     requires { StoredPowers stored.now × (1 ≤ base) × (base ≤ 20000) × (exponent < 5) }
-    ensures { result ≡ powerLow base (exponentAt exponent) 100 }
+    ensures { result ≡ power_low base (exponent_at exponent) 100 }
 {
     let s = split(base);
     let first = stored_bounds(stored, exponent, s.n);
@@ -27,7 +27,7 @@ fn power_low_with(stored: &[u64; 2560], base: u64, exponent: u64) -> u64
 // The high end.
 fn power_high_with(stored: &[u64; 2560], base: u64, exponent: u64) -> u64
     requires { StoredPowers stored.now × (1 ≤ base) × (base ≤ 20000) × (exponent < 5) }
-    ensures { result ≡ powerHigh base (exponentAt exponent) 100 }
+    ensures { result ≡ power_high base (exponent_at exponent) 100 }
 {
     let s = split(base);
     let first = stored_bounds(stored, exponent, s.n);
@@ -40,7 +40,7 @@ fn power_high_with(stored: &[u64; 2560], base: u64, exponent: u64) -> u64
 // Both ends, the same as by `power_with`.
 pub fn power_by_ends_with(stored: &[u64; 2560], base: u64, exponent: u64) -> Bracket
     requires { StoredPowers stored.now × (1 ≤ base) × (base ≤ 20000) × (exponent < 5) }
-    ensures { result ≡ powerBracket base (exponentAt exponent) 100 }
+    ensures { result ≡ power_bracket base (exponent_at exponent) 100 }
 {
     Bracket {
         low_num: power_low_with(stored, base, exponent),
@@ -51,9 +51,9 @@ pub fn power_by_ends_with(stored: &[u64; 2560], base: u64, exponent: u64) -> Bra
 }
 
 // A bracket of base^(num / den), or that the base or the exponent is out of range. What it ensures is what `power` ensures: both
-// answers are `powerAnswer base num den`, and so the same for every argument, inside the range or out.
+// answers are `power_answer base num den`, and so the same for every argument, inside the range or out.
 pub fn power_by_ends(base: u64, num: u64, den: u64) -> BracketAnswer
-    ensures value { result ≡ powerAnswer base num den }
+    ensures value { result ≡ power_answer base num den }
     ensures stands { PowerStands base num den result }
 {
     if base < 1 {

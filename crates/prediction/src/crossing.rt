@@ -1,18 +1,18 @@
 // A crossing's start carried through the brackets of its factors.
 ghost use Rattle.std.specs.Prelude.{◌≡◌, ◌*◌, ◌≤◌};
-ghost use Rattle.exponential.specs.Exponential.{expBracket};
+ghost use Rattle.exponential.specs.Exponential.{exp_bracket};
 ghost use Rattle.exponential.specs.Stored.{StoredExponentials};
 ghost use Rattle.power.specs.Stored.{StoredPowers};
 ghost use Rattle.bracket.specs.Carry.{carried};
-ghost use Rattle.site.specs.Rules.{mostYears};
+ghost use Rattle.site.specs.Rules.{most_years};
 ghost use Rattle.site.specs.Numbers.{CrossingSizes};
-ghost use Rattle.header.specs.Header.{mostCalibration};
-ghost use Rattle.model.specs.Coefficients.{coefficientsOf};
-ghost use Rattle.model.specs.Crossings.{skewExponent};
-ghost use Rattle.model.specs.Parts.{crossingFactors};
-ghost use Rattle.prediction.specs.Factors.{bracketsOf};
-ghost use Rattle.prediction.specs.Pair.{crossingUnits};
-ghost use Rattle.prediction.specs.Carrying.{majorPlace, minorPlace};
+ghost use Rattle.header.specs.Header.{most_calibration};
+ghost use Rattle.model.specs.Coefficients.{coefficients_of};
+ghost use Rattle.model.specs.Crossings.{skew_exponent};
+ghost use Rattle.model.specs.Parts.{crossing_factors};
+ghost use Rattle.prediction.specs.Factors.{brackets_of};
+ghost use Rattle.prediction.specs.Pair.{crossing_units};
+ghost use Rattle.prediction.specs.Carrying.{major_place, minor_place};
 
 use crate::stored::base_factor;
 use bracket::Bracket;
@@ -33,7 +33,7 @@ const SKEW_EXPONENTS: [u64; 4] = [0, 40, 54, 0];
 // The place of the exponent of the major road's traffic.
 fn major_place(kind: u8) -> u64
     requires { kind ≤ 3 }
-    ensures { result ≡ majorPlace kind }
+    ensures { result ≡ major_place kind }
 {
     MAJOR_PLACES[kind as usize]
 }
@@ -41,7 +41,7 @@ fn major_place(kind: u8) -> u64
 // The place of the exponent of the minor road's traffic.
 fn minor_place(kind: u8) -> u64
     requires { kind ≤ 3 }
-    ensures { result ≡ minorPlace kind }
+    ensures { result ≡ minor_place kind }
 {
     MINOR_PLACES[kind as usize]
 }
@@ -49,7 +49,7 @@ fn minor_place(kind: u8) -> u64
 // What a degree of skew adds to the exponent of e.
 fn skew_exponent(kind: u8) -> u64
     requires { kind ≤ 3 }
-    ensures { result ≡ skewExponent kind }
+    ensures { result ≡ skew_exponent kind }
 {
     SKEW_EXPONENTS[kind as usize]
 }
@@ -57,7 +57,7 @@ fn skew_exponent(kind: u8) -> u64
 // The skew's factor.
 fn skew_factor(exponentials: &[u64; 15], v: Crossing) -> Bracket
     requires { StoredExponentials exponentials.now × CrossingSizes v }
-    ensures { result ≡ expBracket (skewExponent v.kind * v.skew) }
+    ensures { result ≡ exp_bracket (skew_exponent v.kind * v.skew) }
 {
     exponential_with(exponentials, skew_exponent(v.kind) * v.skew)
 }
@@ -71,8 +71,8 @@ pub fn carry_crossing(
     calibration: u64,
     v: Crossing,
 ) -> CarryAnswer
-    requires { StoredPowers powers.now × StoredExponentials exponentials.now × (years ≤ mostYears) × (calibration ≤ mostCalibration) × CrossingSizes v }
-    ensures { result ≡ carried (crossingUnits years calibration) (crossingUnits years calibration) (bracketsOf (coefficientsOf edition) (crossingFactors v)) }
+    requires { StoredPowers powers.now × StoredExponentials exponentials.now × (years ≤ most_years) × (calibration ≤ most_calibration) × CrossingSizes v }
+    ensures { result ≡ carried (crossing_units years calibration) (crossing_units years calibration) (brackets_of (coefficients_of edition) (crossing_factors v)) }
 {
     let start = years * calibration * 200_000_000;
     let ends = CarryAnswer::Carried(start, start);

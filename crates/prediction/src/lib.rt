@@ -13,8 +13,8 @@ ghost use Rattle.logarithm.specs.Stored.{StoredLogarithms};
 ghost use Rattle.power.specs.Stored.{StoredPowers};
 ghost use Rattle.site.specs.Writing.{Valid};
 ghost use Rattle.header.specs.HeaderLaws.{HeaderWithin};
-ghost use Rattle.model.specs.Coefficients.{coefficientsOf};
-ghost use Rattle.prediction.specs.Pair.{predictedPair};
+ghost use Rattle.model.specs.Coefficients.{coefficients_of};
+ghost use Rattle.prediction.specs.Pair.{predicted_pair};
 
 use crate::term::term_pair;
 use crate::yearly::{add_pair, count_of, traffic_in, years_of};
@@ -39,7 +39,7 @@ pub fn predicted_with(
 ) -> Pair
     requires { StoredPowers powers.now × StoredLogarithms logarithms.now × StoredExponentials exponentials.now × HeaderWithin header
         × Valid header.edition header.years site }
-    ensures { result ≡ predictedPair (coefficientsOf header.edition) header site }
+    ensures { result ≡ predicted_pair (coefficients_of header.edition) header site }
 {
     let traffic = site.traffic;
     let minor = site.minor_traffic;

@@ -1,14 +1,14 @@
 // A segment's start carried through the brackets of its factors.
 ghost use Rattle.std.specs.Prelude.{◌≡◌, ◌≤◌};
 ghost use Rattle.logarithm.specs.Stored.{StoredLogarithms};
-ghost use Rattle.bracket.specs.Carry.{carried, carriedOn};
-ghost use Rattle.site.specs.Rules.{mostYears};
+ghost use Rattle.bracket.specs.Carry.{carried, carried_on};
+ghost use Rattle.site.specs.Rules.{most_years};
 ghost use Rattle.site.specs.Numbers.{SegmentSizes, CurveSizes};
-ghost use Rattle.header.specs.Header.{mostCalibration};
-ghost use Rattle.model.specs.Coefficients.{Coefficients, coefficientsOf};
-ghost use Rattle.model.specs.Parts.{straightFactors, curveFactors, segmentFactors};
-ghost use Rattle.prediction.specs.Factors.{bracketsOf};
-ghost use Rattle.prediction.specs.Pair.{segmentUnits};
+ghost use Rattle.header.specs.Header.{most_calibration};
+ghost use Rattle.model.specs.Coefficients.{Coefficients, coefficients_of};
+ghost use Rattle.model.specs.Parts.{straight_factors, curve_factors, segment_factors};
+ghost use Rattle.prediction.specs.Factors.{brackets_of};
+ghost use Rattle.prediction.specs.Pair.{segment_units};
 
 use crate::stored::{base_factor, hazard_factor};
 use bracket::carry::{CarryAnswer, through, through_exact};
@@ -21,8 +21,8 @@ use site::numbers::Segment;
 
 // Y × calibration × A × L × 0.000365, in units.
 fn segment_start(years: u64, calibration: u64, v: Segment) -> u64
-    requires { (years ≤ mostYears) × (calibration ≤ mostCalibration) × SegmentSizes v }
-    ensures { result ≡ segmentUnits years calibration v }
+    requires { (years ≤ most_years) × (calibration ≤ most_calibration) × SegmentSizes v }
+    ensures { result ≡ segment_units years calibration v }
 {
     years * calibration * v.traffic * v.length * 73
 }
@@ -30,7 +30,7 @@ fn segment_start(years: u64, calibration: u64, v: Segment) -> u64
 // The start through the factors of every road.
 fn carry_straight(logarithms: &[u64; 256], edition: u64, start: u64, v: Segment) -> CarryAnswer
     requires { StoredLogarithms logarithms.now × SegmentSizes v }
-    ensures { result ≡ carried start start (bracketsOf (coefficientsOf edition) (straightFactors v)) }
+    ensures { result ≡ carried start start (brackets_of (coefficients_of edition) (straight_factors v)) }
 {
     let k = coefficients_of(edition);
     let ends = CarryAnswer::Carried(start, start);
@@ -62,7 +62,7 @@ fn carry_straight(logarithms: &[u64; 256], edition: u64, start: u64, v: Segment)
 // A straight road's answer through the curve's two factors, which are the same in every edition.
 fn carry_curve(straight: CarryAnswer, v: Segment) -> CarryAnswer
     requires { CurveSizes v }
-    ensures { (k : Coefficients) → result ≡ carriedOn straight (bracketsOf k (curveFactors v)) }
+    ensures { (k : Coefficients) → result ≡ carried_on straight (brackets_of k (curve_factors v)) }
 {
     let after_curve = through_exact(straight, curve(v.curve_length, v.radius, v.spiral_ends));
     through_exact(after_curve, superelevation(v.deficiency))
@@ -76,8 +76,8 @@ pub fn carry_segment(
     calibration: u64,
     v: Segment,
 ) -> CarryAnswer
-    requires { StoredLogarithms logarithms.now × (years ≤ mostYears) × (calibration ≤ mostCalibration) × SegmentSizes v }
-    ensures { result ≡ carried (segmentUnits years calibration v) (segmentUnits years calibration v) (bracketsOf (coefficientsOf edition) (segmentFactors v)) }
+    requires { StoredLogarithms logarithms.now × (years ≤ most_years) × (calibration ≤ most_calibration) × SegmentSizes v }
+    ensures { result ≡ carried (segment_units years calibration v) (segment_units years calibration v) (brackets_of (coefficients_of edition) (segment_factors v)) }
 {
     let start = segment_start(years, calibration, v);
     let straight = carry_straight(logarithms, edition, start, v);

@@ -1,8 +1,8 @@
 // The factors that are a power of e at a few exponents only: their brackets are stored, proved by a test to be those of their exponents.
 ghost use Rattle.std.specs.Prelude.{◌≡◌, ◌≤◌};
-ghost use Rattle.model.specs.Coefficients.{coefficientsOf};
-ghost use Rattle.model.specs.Parts.{Base, hazardExponent};
-ghost use Rattle.exponential.specs.StoredBrackets.{storedBracket};
+ghost use Rattle.model.specs.Coefficients.{coefficients_of};
+ghost use Rattle.model.specs.Parts.{Base, hazard_exponent};
+ghost use Rattle.exponential.specs.StoredBrackets.{stored_bracket};
 ghost use Rattle.prediction.specs.Stored.{StoredBases, StoredHazards};
 ghost use Rattle.prediction.specs.Factors.{bracket_of};
 
@@ -52,7 +52,7 @@ const HAZARDS: [u64; 14] = [
 ];
 
 fn stored_bases(edition: u64) -> [u64; 8]
-    ensures { StoredBases (coefficientsOf edition) result }
+    ensures { StoredBases (coefficients_of edition) result }
 {
     if edition <= 1 {
         return BASES_ONE;
@@ -69,7 +69,7 @@ fn stored_hazards() -> [u64; 14]
 // The base factor of a kind, e^(-0.4865) for a segment of edition 1.
 pub fn base_factor(edition: u64, kind: u8) -> Bracket
     requires { kind ≤ 3 }
-    ensures { result ≡ bracket_of (coefficientsOf edition) (Base kind) }
+    ensures { result ≡ bracket_of (coefficients_of edition) (Base kind) }
 {
     let ends = stored_bases(edition);
     let at = 2 * (kind as usize);
@@ -79,7 +79,7 @@ pub fn base_factor(edition: u64, kind: u8) -> Bracket
 // e^(0.0668 (rating - 3)).
 pub fn hazard_factor(rating: u64) -> Bracket
     requires { (1 ≤ rating) × (rating ≤ 7) }
-    ensures { result ≡ storedBracket (hazardExponent rating) }
+    ensures { result ≡ stored_bracket (hazard_exponent rating) }
 {
     let ends = stored_hazards();
     let at = 2 * ((rating - 1) as usize);

@@ -5,9 +5,9 @@ ghost use Rattle.logarithm.specs.Stored.{StoredLogarithms};
 ghost use Rattle.power.specs.Stored.{StoredPowers};
 ghost use Rattle.site.specs.Writing.{Valid};
 ghost use Rattle.header.specs.HeaderLaws.{HeaderWithin};
-ghost use Rattle.model.specs.Coefficients.{coefficientsOf};
-ghost use Rattle.model.specs.Parts.{termAt};
-ghost use Rattle.prediction.specs.Pair.{termPair};
+ghost use Rattle.model.specs.Coefficients.{coefficients_of};
+ghost use Rattle.model.specs.Parts.{term_at};
+ghost use Rattle.prediction.specs.Pair.{term_pair};
 ghost use Rattle.prediction.specs.Terms.{TermSizes};
 
 use crate::Pair;
@@ -30,8 +30,8 @@ pub fn term_pair(
     minor: u64,
 ) -> Pair
     requires { StoredPowers powers.now × StoredLogarithms logarithms.now × StoredExponentials exponentials.now × HeaderWithin header
-        × Valid header.edition header.years site × TermSizes site (termAt years traffic minor) }
-    ensures { result ≡ termPair (coefficientsOf header.edition) header site (termAt years traffic minor) }
+        × Valid header.edition header.years site × TermSizes site (term_at years traffic minor) }
+    ensures { result ≡ term_pair (coefficients_of header.edition) header site (term_at years traffic minor) }
 {
     if site.kind == 0 {
         let road = segment_of(site, traffic);

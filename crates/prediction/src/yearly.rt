@@ -1,10 +1,10 @@
 // The terms of a site, year by year or one of all the years.
 ghost use Rattle.std.specs.Prelude.{◌≡◌, cond, ◌∷◌, ◌≤◌, get_or};
 ghost use Rattle.site.specs.declared.values.Slot.TheVariants.{Absent};
-ghost use Rattle.site.specs.Rules.{laterYears};
-ghost use Rattle.site.specs.Yearly.{laterSlots};
+ghost use Rattle.site.specs.Rules.{later_years};
+ghost use Rattle.site.specs.Yearly.{later_slots};
 ghost use Rattle.site.specs.Numbers as numbers;
-ghost use Rattle.prediction.specs.Pair.{mostPredicted, plus};
+ghost use Rattle.prediction.specs.Pair.{most_predicted, plus};
 
 use crate::Pair;
 use site::numbers::number;
@@ -26,8 +26,8 @@ pub fn count_of(years: u64, yearly: bool) -> u64
 
 // A traffic in a year, the first at place 0.
 pub fn traffic_in(first: Slot, later: Later, year: u64) -> u64
-    requires { year ≤ laterYears }
-    ensures { result ≡ numbers.number (get_or (first ∷ laterSlots later) year Absent) }
+    requires { year ≤ later_years }
+    ensures { result ≡ numbers.number (get_or (first ∷ later_slots later) year Absent) }
 {
     if year == 0 {
         return number(first);
@@ -38,7 +38,7 @@ pub fn traffic_in(first: Slot, later: Later, year: u64) -> u64
 
 // The sum of two pairs.
 pub fn add_pair(sum: Pair, next: Pair) -> Pair
-    requires { ((plus sum next).low ≤ mostPredicted) × ((plus sum next).high ≤ mostPredicted) }
+    requires { ((plus sum next).low ≤ most_predicted) × ((plus sum next).high ≤ most_predicted) }
     ensures { result ≡ plus sum next }
 {
     Pair {

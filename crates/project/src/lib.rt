@@ -1,7 +1,7 @@
 // The project file: the scan that finds the first cause to refuse it, from the bytes alone.
 ghost use Rattle.std.specs.Prelude.{◌≡◌, ◌≤◌, length};
-ghost use Rattle.header.specs.Header.{headerLength};
-ghost use Rattle.project.specs.File.{scanRecords};
+ghost use Rattle.header.specs.Header.{header_length};
+ghost use Rattle.project.specs.File.{scan_records};
 ghost use Rattle.project.specs.Promise.{ScansFile};
 
 use header::{HEADER_LENGTH, count_in, header_in, header_number};
@@ -18,8 +18,8 @@ pub enum ScanAnswer {
 // The records in turn, each by the part that starts at its kind byte, in a project of an edition and of so many years, then the
 // bytes after the last.
 fn scan_records(file: &[u8], edition: u64, years: u64, sites: usize) -> ScanAnswer
-    requires { headerLength ≤ length file.now }
-    ensures { result ≡ scanRecords edition years sites sites headerLength file.now }
+    requires { header_length ≤ length file.now }
+    ensures { result ≡ scan_records edition years sites sites header_length file.now }
 {
     let mut at = HEADER_LENGTH;
     let mut i = 0;

@@ -38,17 +38,17 @@ module _ (κs : Lifetimes.Lfts 2) where
   abbrev pub ensures : (a : World.ArgsD walk.signature κs) → (g : Ghost) → (r : World.ResD walk.signature κs) → (s : Clauses.AtExit (Kinds.ended_of 2 WalkKinds.ps WalkKinds.r) κs) → (w : World.World) → World.Pr w
   ensures = λ a g r s w. (walk.clauses w.𝓛 w.𝓜.mem w.𝓡.run κs a).ensures g r s
 
-  abbrev pub requires-1·read : (a : World.ArgsD walk.signature κs) → (g : Ghost) → Read.Read (World.In walk.signature κs a) Read.no_know λ w. walk.requires-1 w.𝓛 κs w.𝓜.mem w.𝓡.run a.0 a.1.0 a.1.1.0 a.1.1.1.0 a.1.1.1.1.0
-  requires-1·read = λ a g. Read.all_models (λ w. walk.requires-1 w.𝓛 κs w.𝓜.mem w.𝓡.run a.0 a.1.0 a.1.1.0 a.1.1.1.0 a.1.1.1.1.0) (λ w. Read.r_last _) (λ w. Path.refl) (λ w. Path.refl) λ w. Path.refl
+  abbrev pub requires_1·read : (a : World.ArgsD walk.signature κs) → (g : Ghost) → Read.Read (World.In walk.signature κs a) Read.no_know λ w. walk.requires_1 w.𝓛 κs w.𝓜.mem w.𝓡.run a.0 a.1.0 a.1.1.0 a.1.1.1.0 a.1.1.1.1.0
+  requires_1·read = λ a g. Read.all_models (λ w. walk.requires_1 w.𝓛 κs w.𝓜.mem w.𝓡.run a.0 a.1.0 a.1.1.0 a.1.1.1.0 a.1.1.1.1.0) (λ w. Read.r_last _) (λ w. Path.refl) (λ w. Path.refl) λ w. Path.refl
 
   abbrev pub pre_read : (a : World.ArgsD walk.signature κs) → (g : Ghost) → Read.Read (World.In walk.signature κs a) Read.no_know (requires a g)
-  pre_read = λ a g. requires-1·read a g
+  pre_read = λ a g. requires_1·read a g
 
-  abbrev pub ensures-1·read : (a : World.ArgsD walk.signature κs) → (g : Ghost) → (r : World.ResD walk.signature κs) → (s : Clauses.AtExit (Kinds.ended_of 2 WalkKinds.ps WalkKinds.r) κs) → Read.Read (Base a) (Owned r s) λ w. walk.ensures-1 w.𝓛 κs w.𝓜.mem w.𝓡.run a.0 a.1.0 a.1.1.0 a.1.1.1.0 a.1.1.1.1.0 record { entry = a.0; exit = s.0 } record { entry = a.1.0; exit = s.1.0 } record { entry = a.1.1.0; exit = s.1.1.0 } record { entry = a.1.1.1.0; exit = s.1.1.1.0 } record { entry = a.1.1.1.1.0; exit = s.1.1.1.1.0 } r
-  ensures-1·read = λ a g r s. Read.all_models (λ w. walk.ensures-1 w.𝓛 κs w.𝓜.mem w.𝓡.run a.0 a.1.0 a.1.1.0 a.1.1.1.0 a.1.1.1.1.0 record { entry = a.0; exit = s.0 } record { entry = a.1.0; exit = s.1.0 } record { entry = a.1.1.0; exit = s.1.1.0 } record { entry = a.1.1.1.0; exit = s.1.1.1.0 } record { entry = a.1.1.1.1.0; exit = s.1.1.1.1.0 } r) (λ w. Read.r_last _) (λ w. Path.refl) (λ w. Path.refl) λ w. Path.refl
+  abbrev pub ensures_1·read : (a : World.ArgsD walk.signature κs) → (g : Ghost) → (r : World.ResD walk.signature κs) → (s : Clauses.AtExit (Kinds.ended_of 2 WalkKinds.ps WalkKinds.r) κs) → Read.Read (Base a) (Owned r s) λ w. walk.ensures_1 w.𝓛 κs w.𝓜.mem w.𝓡.run a.0 a.1.0 a.1.1.0 a.1.1.1.0 a.1.1.1.1.0 record { entry = a.0; exit = s.0 } record { entry = a.1.0; exit = s.1.0 } record { entry = a.1.1.0; exit = s.1.1.0 } record { entry = a.1.1.1.0; exit = s.1.1.1.0 } record { entry = a.1.1.1.1.0; exit = s.1.1.1.1.0 } r
+  ensures_1·read = λ a g r s. Read.all_models (λ w. walk.ensures_1 w.𝓛 κs w.𝓜.mem w.𝓡.run a.0 a.1.0 a.1.1.0 a.1.1.1.0 a.1.1.1.1.0 record { entry = a.0; exit = s.0 } record { entry = a.1.0; exit = s.1.0 } record { entry = a.1.1.0; exit = s.1.1.0 } record { entry = a.1.1.1.0; exit = s.1.1.1.0 } record { entry = a.1.1.1.1.0; exit = s.1.1.1.1.0 } r) (λ w. Read.r_last _) (λ w. Path.refl) (λ w. Path.refl) λ w. Path.refl
 
   abbrev pub post_read : (a : World.ArgsD walk.signature κs) → (g : Ghost) → (r : World.ResD walk.signature κs) → (s : Clauses.AtExit (Kinds.ended_of 2 WalkKinds.ps WalkKinds.r) κs) → Read.Read (Base a) (Owned r s) (ensures a g r s)
-  post_read = λ a g r s. ensures-1·read a g r s
+  post_read = λ a g r s. ensures_1·read a g r s
 
 abbrev pub Pre : Kinds.In 2 WalkKinds.ps
 Pre = Written.Pre 2 WalkKinds.ps WalkKinds.r Ghost requires ensures pre_read Pinned Owned post_read tt

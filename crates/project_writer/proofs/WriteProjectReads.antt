@@ -41,11 +41,11 @@ module _ (κs : Lifetimes.Lfts 2) where
   abbrev pub pre_read : (a : World.ArgsD write_project.signature κs) → (g : Ghost) → Read.Read (World.In write_project.signature κs a) Read.no_know (requires a g)
   pre_read = λ a g. Read.all_models (requires a g) (λ w. Read.r_top) (λ w. Path.refl) (λ w. Path.refl) λ w. Path.refl
 
-  abbrev pub ensures-1·read : (a : World.ArgsD write_project.signature κs) → (g : Ghost) → (r : World.ResD write_project.signature κs) → (s : Clauses.AtExit (Kinds.ended_of 2 WriteProjectKinds.ps WriteProjectKinds.r) κs) → Read.Read (Base a) (Owned r s) λ w. write_project.ensures-1 w.𝓛 κs w.𝓜.mem w.𝓡.run a.0 a.1.0 a.1.1.0 a.1.1.1.0 a.1.1.1.1.0 a.1.1.1.1.1.0 record { entry = a.0; exit = s.0 } record { entry = a.1.0; exit = s.1.0 } record { entry = a.1.1.0; exit = s.1.1.0 } record { entry = a.1.1.1.0; exit = s.1.1.1.0 } record { entry = a.1.1.1.1.0; exit = s.1.1.1.1.0 } record { entry = a.1.1.1.1.1.0; exit = s.1.1.1.1.1.0 } r
-  ensures-1·read = λ a g r s. Read.all_models (λ w. write_project.ensures-1 w.𝓛 κs w.𝓜.mem w.𝓡.run a.0 a.1.0 a.1.1.0 a.1.1.1.0 a.1.1.1.1.0 a.1.1.1.1.1.0 record { entry = a.0; exit = s.0 } record { entry = a.1.0; exit = s.1.0 } record { entry = a.1.1.0; exit = s.1.1.0 } record { entry = a.1.1.1.0; exit = s.1.1.1.0 } record { entry = a.1.1.1.1.0; exit = s.1.1.1.1.0 } record { entry = a.1.1.1.1.1.0; exit = s.1.1.1.1.1.0 } r) (λ w. Read.r_last _) (λ w. Path.refl) (λ w. Path.refl) λ w. Path.refl
+  abbrev pub ensures_1·read : (a : World.ArgsD write_project.signature κs) → (g : Ghost) → (r : World.ResD write_project.signature κs) → (s : Clauses.AtExit (Kinds.ended_of 2 WriteProjectKinds.ps WriteProjectKinds.r) κs) → Read.Read (Base a) (Owned r s) λ w. write_project.ensures_1 w.𝓛 κs w.𝓜.mem w.𝓡.run a.0 a.1.0 a.1.1.0 a.1.1.1.0 a.1.1.1.1.0 a.1.1.1.1.1.0 record { entry = a.0; exit = s.0 } record { entry = a.1.0; exit = s.1.0 } record { entry = a.1.1.0; exit = s.1.1.0 } record { entry = a.1.1.1.0; exit = s.1.1.1.0 } record { entry = a.1.1.1.1.0; exit = s.1.1.1.1.0 } record { entry = a.1.1.1.1.1.0; exit = s.1.1.1.1.1.0 } r
+  ensures_1·read = λ a g r s. Read.all_models (λ w. write_project.ensures_1 w.𝓛 κs w.𝓜.mem w.𝓡.run a.0 a.1.0 a.1.1.0 a.1.1.1.0 a.1.1.1.1.0 a.1.1.1.1.1.0 record { entry = a.0; exit = s.0 } record { entry = a.1.0; exit = s.1.0 } record { entry = a.1.1.0; exit = s.1.1.0 } record { entry = a.1.1.1.0; exit = s.1.1.1.0 } record { entry = a.1.1.1.1.0; exit = s.1.1.1.1.0 } record { entry = a.1.1.1.1.1.0; exit = s.1.1.1.1.1.0 } r) (λ w. Read.r_last _) (λ w. Path.refl) (λ w. Path.refl) λ w. Path.refl
 
   abbrev pub post_read : (a : World.ArgsD write_project.signature κs) → (g : Ghost) → (r : World.ResD write_project.signature κs) → (s : Clauses.AtExit (Kinds.ended_of 2 WriteProjectKinds.ps WriteProjectKinds.r) κs) → Read.Read (Base a) (Owned r s) (ensures a g r s)
-  post_read = λ a g r s. ensures-1·read a g r s
+  post_read = λ a g r s. ensures_1·read a g r s
 
 abbrev pub Pre : Kinds.In 2 WriteProjectKinds.ps
 Pre = Written.Pre 2 WriteProjectKinds.ps WriteProjectKinds.r Ghost requires ensures pre_read Pinned Owned post_read tt

@@ -1,6 +1,6 @@
 // The course of a walk over the sites: the file is measured, then written, and each site is one step of either.
 ghost use Rattle.std.specs.Prelude.{◌≡◌, [], ◌∷◌, length};
-ghost use Rattle.project_writer.specs.Course.{stepCourse, stepBuffer, begunCourse, begunBuffer, courseAnswer, Walks, Begins};
+ghost use Rattle.project_writer.specs.Course.{step_course, step_buffer, begun_course, begun_buffer, course_answer, Walks, Begins};
 
 use header::{HEADER_LENGTH, Header, put_header};
 use site::values::{Measure, Site};
@@ -29,7 +29,7 @@ pub enum Course {
 // One site more of a project of an edition and of so many years: its record is measured, or written at the place reached.
 pub fn step(edition: u64, years: u64, site: Site, buffer: &mut [u8], course: Course) -> Course
     requires { Walks edition years (site ∷ []) course (length buffer.old) }
-    ensures { (result ≡ stepCourse edition years site course) × (buffer.new ≡ stepBuffer edition site course buffer.old) }
+    ensures { (result ≡ step_course edition years site course) × (buffer.new ≡ step_buffer edition site course buffer.old) }
 {
     match course {
         Course::Stopped(answer) => Course::Stopped(answer),
@@ -50,7 +50,7 @@ pub fn step(edition: u64, years: u64, site: Site, buffer: &mut [u8], course: Cou
 // The space test of a file that is measured, and its header written where there is space.
 pub fn begin_writing(header: Header, sites: usize, buffer: &mut [u8], course: Course) -> Course
     requires { Begins header sites course }
-    ensures { (result ≡ begunCourse course (length buffer.old)) × (buffer.new ≡ begunBuffer header sites course buffer.old) }
+    ensures { (result ≡ begun_course course (length buffer.old)) × (buffer.new ≡ begun_buffer header sites course buffer.old) }
 {
     match course {
         Course::Stopped(answer) => Course::Stopped(answer),
@@ -67,7 +67,7 @@ pub fn begin_writing(header: Header, sites: usize, buffer: &mut [u8], course: Co
 
 // The answer at the end of the course. A file that was measured and not written lacked the space.
 pub fn answer_of(course: Course) -> FileAnswer
-    ensures { result ≡ courseAnswer course }
+    ensures { result ≡ course_answer course }
 {
     match course {
         Course::Stopped(answer) => answer,

@@ -2,8 +2,8 @@
 pub mod course;
 
 ghost use Rattle.std.specs.Prelude.{◌≡◌, length};
-ghost use Rattle.header.specs.Header.{headerOf};
-ghost use Rattle.project_writer.specs.Course.{walkCourse, walkBuffer, Walks};
+ghost use Rattle.header.specs.Header.{header_of};
+ghost use Rattle.project_writer.specs.Course.{walk_course, walk_buffer, Walks};
 ghost use Rattle.project_writer.specs.Promise.{WritesProject};
 
 use crate::course::{Course, FileAnswer, answer_of, begin_writing, step};
@@ -14,7 +14,7 @@ use site::values::Site;
 // The one walk over the sites: each is taken out, and the course goes on with it.
 fn walk(edition: u64, years: u64, sites: &[Site], buffer: &mut [u8], start: Course) -> Course
     requires { Walks edition years sites.now start (length buffer.old) }
-    ensures { (result ≡ walkCourse edition years sites.now start) × (buffer.new ≡ walkBuffer edition years sites.now start buffer.old) }
+    ensures { (result ≡ walk_course edition years sites.now start) × (buffer.new ≡ walk_buffer edition years sites.now start buffer.old) }
 {
     let mut course = start;
     let mut i = 0;
@@ -36,7 +36,7 @@ pub fn write_project(
     sites: &[Site],
     buffer: &mut [u8],
 ) -> FileAnswer
-    ensures { WritesProject (headerOf edition years segments crossings) sites.now buffer.old buffer.new result }
+    ensures { WritesProject (header_of edition years segments crossings) sites.now buffer.old buffer.new result }
 {
     let header = Header {
         edition,

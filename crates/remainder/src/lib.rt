@@ -1,10 +1,10 @@
 // A number up to 65536 as a product of two up to 256 and a small rest, and bounds of what the rest adds to its logarithm
 // and to its powers, in whole numbers over 10^12.
 ghost use Rattle.std.specs.Prelude.{◌≡◌, ◌+◌, ◌*◌, ◌^◌, ◌≤◌, ◌<◌};
-ghost use Rattle.laws.specs.Quotient.{quotientDown, quotientUp, RoundedUp};
-ghost use Rattle.remainder.specs.Split.{splitOf, Splits};
-ghost use Rattle.remainder.specs.Remainder.{SmallRest, Exponent, NearOne, mostDenominator, mostLog, withCube};
-ghost use Rattle.remainder.specs.Remainder.{logBoundsOf, exponentialLow, exponentialHigh, remainderBoundsOf};
+ghost use Rattle.laws.specs.Quotient.{quotient_down, quotient_up, RoundedUp};
+ghost use Rattle.remainder.specs.Split.{split_of, Splits};
+ghost use Rattle.remainder.specs.Remainder.{SmallRest, Exponent, NearOne, most_denominator, most_log, with_cube};
+ghost use Rattle.remainder.specs.Remainder.{log_bounds_of, exponential_low, exponential_high, remainder_bounds_of};
 
 // The bounds' denominator.
 pub const SCALE: u64 = 1_000_000_000_000;
@@ -27,7 +27,7 @@ pub struct Bounds {
 // a / d, rounded up.
 fn up(a: u64, d: u64) -> u64
     requires { (0 < d) × (a + d < 2 ^ 64) }
-    ensures value { result ≡ quotientUp a d }
+    ensures value { result ≡ quotient_up a d }
     ensures rounded { RoundedUp a d result }
 {
     (a + (d - 1)) / d
@@ -35,8 +35,8 @@ fn up(a: u64, d: u64) -> u64
 
 // The same, from the quotient rounded down.
 fn up_from(a: u64, d: u64, q: u64) -> u64
-    requires { (0 < d) × (q ≡ quotientDown a d) }
-    ensures value { result ≡ quotientUp a d }
+    requires { (0 < d) × (q ≡ quotient_down a d) }
+    ensures value { result ≡ quotient_up a d }
     ensures rounded { RoundedUp a d result }
 {
     if q * d < a {
@@ -48,7 +48,7 @@ fn up_from(a: u64, d: u64, q: u64) -> u64
 // a = n * m + r, with n and m at most 256 and r at most n * m / 255.
 pub fn split(a: u64) -> Parts
     requires { (1 ≤ a) × (a ≤ 65536) }
-    ensures value { result ≡ splitOf a }
+    ensures value { result ≡ split_of a }
     ensures parts { Splits a result.n result.m result.r }
 {
     let n = up(a, 256);
@@ -59,7 +59,7 @@ pub fn split(a: u64) -> Parts
 // 2z + z^3, from 2z.
 fn with_cube(twice: u64) -> u64
     requires { twice ≤ 3913900000 }
-    ensures { result ≡ withCube twice }
+    ensures { result ≡ with_cube twice }
 {
     let z = up(twice, 2);
     let square = up(z * z, SCALE);
@@ -70,8 +70,8 @@ fn with_cube(twice: u64) -> u64
 // Bounds of ln((product + rest) / product), from one division.
 pub fn log_bounds(product: u64, rest: u64) -> Bounds
     requires { SmallRest product rest }
-    ensures value { result ≡ logBoundsOf product rest }
-    ensures small { (result.low ≤ mostLog) × (result.high ≤ mostLog) }
+    ensures value { result ≡ log_bounds_of product rest }
+    ensures small { (result.low ≤ most_log) × (result.high ≤ most_log) }
 {
     let dividend = 2 * rest * SCALE;
     let divisor = 2 * product + rest;
@@ -86,7 +86,7 @@ pub fn log_bounds(product: u64, rest: u64) -> Bounds
 // A number below e^x.
 fn exponential_low(x: u64) -> u64
     requires { x ≤ 4000000000 }
-    ensures { result ≡ exponentialLow x }
+    ensures { result ≡ exponential_low x }
 {
     let square = x * x / (2 * SCALE);
     let cube = square * x / (3 * SCALE);
@@ -96,7 +96,7 @@ fn exponential_low(x: u64) -> u64
 // A number above e^x.
 fn exponential_high(x: u64) -> u64
     requires { x ≤ 4000000000 }
-    ensures { result ≡ exponentialHigh x }
+    ensures { result ≡ exponential_high x }
 {
     let square = up(x * x, 2 * SCALE);
     let cube = up(square * x, 3 * SCALE);
@@ -106,8 +106,8 @@ fn exponential_high(x: u64) -> u64
 
 // A number below e^(log * num / den).
 pub fn raised_low(log: u64, num: u64, den: u64) -> u64
-    requires { (log ≤ mostLog) × Exponent num den × (den ≤ mostDenominator) }
-    ensures value { result ≡ exponentialLow (quotientDown (log * num) den) }
+    requires { (log ≤ most_log) × Exponent num den × (den ≤ most_denominator) }
+    ensures value { result ≡ exponential_low (quotient_down (log * num) den) }
     ensures near_one { NearOne result }
 {
     exponential_low(log * num / den)
@@ -115,8 +115,8 @@ pub fn raised_low(log: u64, num: u64, den: u64) -> u64
 
 // A number above it.
 pub fn raised_high(log: u64, num: u64, den: u64) -> u64
-    requires { (log ≤ mostLog) × Exponent num den × (den ≤ mostDenominator) }
-    ensures value { result ≡ exponentialHigh (quotientUp (log * num) den) }
+    requires { (log ≤ most_log) × Exponent num den × (den ≤ most_denominator) }
+    ensures value { result ≡ exponential_high (quotient_up (log * num) den) }
     ensures near_one { NearOne result }
 {
     exponential_high(up(log * num, den))
@@ -124,8 +124,8 @@ pub fn raised_high(log: u64, num: u64, den: u64) -> u64
 
 // Bounds of ((product + rest) / product)^(num / den), from those of the logarithm.
 pub fn remainder_bounds(product: u64, rest: u64, num: u64, den: u64) -> Bounds
-    requires { SmallRest product rest × Exponent num den × (den ≤ mostDenominator) }
-    ensures value { result ≡ remainderBoundsOf product rest num den }
+    requires { SmallRest product rest × Exponent num den × (den ≤ most_denominator) }
+    ensures value { result ≡ remainder_bounds_of product rest num den }
     ensures near_one { NearOne result.low × NearOne result.high }
 {
     let log = log_bounds(product, rest);

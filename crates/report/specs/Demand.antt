@@ -6,19 +6,19 @@ use Rattle.estimate.specs.Fraction.{Fraction, millionths}
 use Rattle.estimate.specs.Standing.{Between}
 use Rattle.wide.specs.Rounding.{Narrow}
 use Rattle.site.specs.declared.values.Site.{Site}
-use Rattle.site.specs.Yearly.{noLater}
-use Rattle.site.specs.Record.{siteOf}
+use Rattle.site.specs.Yearly.{no_later}
+use Rattle.site.specs.Record.{site_of}
 use Rattle.header.specs.declared.Header.{Header}
-use Rattle.header.specs.Header.{headerIn, countIn}
+use Rattle.header.specs.Header.{header_in, count_in}
 use Rattle.model.specs.Coefficients.{Coefficients}
-use Rattle.model.specs.Predicted.{predictedUnder, predictedOver}
-use Rattle.model.specs.Expected.{expectedUnder, expectedOver}
+use Rattle.model.specs.Predicted.{predicted_under, predicted_over}
+use Rattle.model.specs.Expected.{expected_under, expected_over}
 use Rattle.line.specs.declared.Line.{Line}
-use Rattle.model.specs.StatedWidths.{widthParts, predictedEach, expectedEach, addedUp, sitesCountedIn, observedIn}
+use Rattle.model.specs.StatedWidths.{width_parts, predicted_each, expected_each, added_up, sites_counted_in, observed_in}
 use Rattle.line.specs.Stands.{LineStands}
 use Rattle.project.specs.File.{sites_in}
-use Rattle.project.specs.Causes.{reportLength, NoCause, FirstCause}
-use Rattle.report.specs.Report.{coefficientsIn, projectAnswer, answerNumber, answerValue, reportAfter}
+use Rattle.project.specs.Causes.{report_length, NoCause, FirstCause}
+use Rattle.report.specs.Report.{coefficients_in, project_answer, answer_number, answer_value, report_after}
 use Rattle.report.specs.declared.ProjectAnswer.{ProjectAnswer}
 use Rattle.report.specs.declared.ProjectAnswer.TheVariants.{Reported, Refused}
 
@@ -32,44 +32,44 @@ line_at report i = record {
 }
 
 -- a site of a list
-abbrev pub siteAt : List Site → ℕ → Site
-siteAt sites i = get_or sites i (siteOf 0 [] noLater noLater)
+abbrev pub site_at : List Site → ℕ → Site
+site_at sites i = get_or sites i (site_of 0 [] no_later no_later)
 
 -- "A project's estimates are sums over sites"
-abbrev pub sumOfSites : (Site → ℕ → Fraction) → List Site → ℕ → Fraction
-sumOfSites estimate sites d = addedUp (λ site. estimate site d) sites
+abbrev pub sum_of_sites : (Site → ℕ → Fraction) → List Site → ℕ → Fraction
+sum_of_sites estimate sites d = added_up (λ site. estimate site d) sites
 
 -- the totals of a list of sites: at most 4 a site as it counts, or 8 for sites and crashes as they count together, rounded up once, and
 -- a millionth of the high apart
 pub record TotalsStand (c : Coefficients) (header : Header) (sites : List Site) (total : Line) : Type 0 where
-  pub predicted-between : Between (millionths total.predicted_low) (millionths total.predicted_high)
-      (sumOfSites (predictedUnder c header) sites) (sumOfSites (predictedOver c header) sites)
-  pub expected-between : Between (millionths total.expected_low) (millionths total.expected_high)
-      (sumOfSites (expectedUnder c header) sites) (sumOfSites (expectedOver c header) sites)
-  pub predicted-in-order : total.predicted_low ≤ total.predicted_high
-  pub expected-in-order : total.expected_low ≤ total.expected_high
-  pub predicted-narrow : Narrow widthParts (predictedEach * sitesCountedIn header.years sites) 1 total.predicted_low total.predicted_high
-  pub expected-narrow : Narrow widthParts (expectedEach * (sitesCountedIn header.years sites + observedIn c header.years sites)) 1
+  pub predicted_between : Between (millionths total.predicted_low) (millionths total.predicted_high)
+      (sum_of_sites (predicted_under c header) sites) (sum_of_sites (predicted_over c header) sites)
+  pub expected_between : Between (millionths total.expected_low) (millionths total.expected_high)
+      (sum_of_sites (expected_under c header) sites) (sum_of_sites (expected_over c header) sites)
+  pub predicted_in_order : total.predicted_low ≤ total.predicted_high
+  pub expected_in_order : total.expected_low ≤ total.expected_high
+  pub predicted_narrow : Narrow width_parts (predicted_each * sites_counted_in header.years sites) 1 total.predicted_low total.predicted_high
+  pub expected_narrow : Narrow width_parts (expected_each * (sites_counted_in header.years sites + observed_in c header.years sites)) 1
       total.expected_low total.expected_high
 
 -- THE CLAIM, with the coefficients of the project's edition
 pub record Demand (bytes report : List ℕ) : Type 0 where
-  pub each : (i : ℕ) → i < length (sites_in bytes) → LineStands (coefficientsIn bytes) (headerIn bytes) (siteAt (sites_in bytes) i) (line_at report i)
-  pub totals : TotalsStand (coefficientsIn bytes) (headerIn bytes) (sites_in bytes) (line_at report (length (sites_in bytes)))
+  pub each : (i : ℕ) → i < length (sites_in bytes) → LineStands (coefficients_in bytes) (header_in bytes) (site_at (sites_in bytes) i) (line_at report i)
+  pub totals : TotalsStand (coefficients_in bytes) (header_in bytes) (sites_in bytes) (line_at report (length (sites_in bytes)))
 
 -- what an answer says: a report is made where no cause is found in the file or its report, as long as document 01 has it, and
 -- it meets the demand; a refusal is the first cause in document 01's order, and the report stays as it was
 abbrev pub AnswerMeets : (bytes before report : List ℕ) → ProjectAnswer → Type 0
 AnswerMeets bytes before report (Reported count) =
     NoCause bytes (length before)
-    × (answerNumber (Reported count) ≡ 0)
-    × (answerValue (Reported count) ≡ reportLength (countIn bytes))
+    × (answer_number (Reported count) ≡ 0)
+    × (answer_value (Reported count) ≡ report_length (count_in bytes))
     × Demand bytes report
 AnswerMeets bytes before report (Refused number place) =
-    FirstCause bytes (length before) (answerNumber (Refused number place)) (answerValue (Refused number place)) × (report ≡ before)
+    FirstCause bytes (length before) (answer_number (Refused number place)) (answer_value (Refused number place)) × (report ≡ before)
 
 -- the project reader's promise: its answer, the report afterwards number for number, and what both say
 pub record ReportsProject (bytes before report : List ℕ) (answer : ProjectAnswer) : Type 0 where
-  pub answer-is : answer ≡ projectAnswer bytes (length before)
-  pub report-is : report ≡ reportAfter bytes before
+  pub answer_is : answer ≡ project_answer bytes (length before)
+  pub report_is : report ≡ report_after bytes before
   pub meets : AnswerMeets bytes before report answer

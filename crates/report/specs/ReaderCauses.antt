@@ -4,108 +4,108 @@ use Rattle.std.specs.Prelude.{ℕ, ◌≤◌, ◌<◌, ◌≡◌, List, ◌↔�
 use Rattle.std.proofs.Math.Path.{refl, sym}
 use Rattle.std.proofs.Common.{ap, ◌∙◌, ⊎_elim, arith}
 use borrow.Author.Tests.{le-leb, lt-leb, leb-true}
-use Rattle.laws.specs.Lent.{laidOver}
-use Rattle.site.specs.RecordCauses.{cause-not-zero}
-use Rattle.header.specs.Header.{countIn}
-use Rattle.header.specs.HeaderLaws.{header-not-zero}
-use Rattle.project.specs.Causes.{reportLength, NoCause, FirstCause, in_bytes, in-report, in-header, in-record, in_rest}
-use Rattle.project.specs.Scan.{refused-exactly, accepted-exactly}
-use Rattle.project.specs.Acceptance.{no-cause-exactly, FirstFound, first_or_none}
+use Rattle.laws.specs.Lent.{laid_over}
+use Rattle.site.specs.RecordCauses.{cause_not_zero}
+use Rattle.header.specs.Header.{count_in}
+use Rattle.header.specs.HeaderLaws.{header_not_zero}
+use Rattle.project.specs.Causes.{report_length, NoCause, FirstCause, in_bytes, in_report, in_header, in_record, in_rest}
+use Rattle.project.specs.Scan.{refused_exactly, accepted_exactly}
+use Rattle.project.specs.Acceptance.{no_cause_exactly, FirstFound, first_or_none}
 use Rattle.project.specs.declared.ScanAnswer.TheVariants as scan
-use Rattle.project.specs.File.{scanFile}
+use Rattle.project.specs.File.{scan_file}
 use Rattle.report.specs.declared.ProjectAnswer.TheVariants.{Reported, Refused}
-use Rattle.report.specs.Report.{answerNumber, answerValue, projectAnswer, reportNumbers, linesIn, spaced, reportAfter}
+use Rattle.report.specs.Report.{answer_number, answer_value, project_answer, report_numbers, lines_in, spaced, report_after}
 use Rattle.report.specs.Demand.{Demand, ReportsProject}
 
 -- no cause has the number of a success
-pub first-not-zero : {s : List ℕ} {room number p : ℕ} → FirstCause s room number p → number ≡ 0 → ⊥
-first-not-zero {s} (in_bytes (in-header h)) e = header-not-zero s h e
-first-not-zero (in_bytes (in-record header r)) e = cause-not-zero r.cause e
-first-not-zero (in_bytes (in_rest header r)) e = omega arith
-first-not-zero (in-report w h) e = omega arith
+pub first_not_zero : {s : List ℕ} {room number p : ℕ} → FirstCause s room number p → number ≡ 0 → ⊥
+first_not_zero {s} (in_bytes (in_header h)) e = header_not_zero s h e
+first_not_zero (in_bytes (in_record header r)) e = cause_not_zero r.cause e
+first_not_zero (in_bytes (in_rest header r)) e = omega arith
+first_not_zero (in_report w h) e = omega arith
 
 module _ (s : List ℕ) (room : ℕ) where
-  none-reported : NoCause s room → projectAnswer s room ≡ Reported (reportLength (countIn s))
-  unfolding projectAnswer
-  none-reported none = let h = (no-cause-exactly s room (countIn s)).1 (none, refl) in rw (h.0, le-leb _ _ h.1) refl
+  none_reported : NoCause s room → project_answer s room ≡ Reported (report_length (count_in s))
+  unfolding project_answer
+  none_reported none = let h = (no_cause_exactly s room (count_in s)).1 (none, refl) in rw (h.0, le-leb _ _ h.1) refl
 
-  first-refused : {number p : ℕ} → FirstCause s room number p → projectAnswer s room ≡ Refused number p
-  unfolding projectAnswer
-  first-refused (in_bytes {number} {p} f) = rw ((refused-exactly s number p).1 f) refl
-  first-refused (in-report w h) = rw ((accepted-exactly s (countIn s)).1 w, lt-leb _ _ h.short) refl
+  first_refused : {number p : ℕ} → FirstCause s room number p → project_answer s room ≡ Refused number p
+  unfolding project_answer
+  first_refused (in_bytes {number} {p} f) = rw ((refused_exactly s number p).1 f) refl
+  first_refused (in_report w h) = rw ((accepted_exactly s (count_in s)).1 w, lt-leb _ _ h.short) refl
 
-  not-both : (number p count : ℕ) → projectAnswer s room ≡ Refused number p → projectAnswer s room ≡ Reported count → ⊥
-  not-both number p count e f = let z : ◌≡◌ {A = ℕ} 0 1 = cc in omega arith
+  not_both : (number p count : ℕ) → project_answer s room ≡ Refused number p → project_answer s room ≡ Reported count → ⊥
+  not_both number p count e f = let z : ◌≡◌ {A = ℕ} 0 1 = cc in omega arith
 
   -- A REPORT exactly where no cause is found, and then the count is 4(sites + 1)
-  pub reported-exactly : (count : ℕ) → (projectAnswer s room ≡ Reported count) ↔ (NoCause s room × (count ≡ reportLength (countIn s)))
-  reported-exactly count = (
+  pub reported_exactly : (count : ℕ) → (project_answer s room ≡ Reported count) ↔ (NoCause s room × (count ≡ report_length (count_in s)))
+  reported_exactly count = (
     λ e. ⊎_elim
-        (λ (found : FirstFound s room). absurd (not-both _ _ count (first-refused found.found) e))
-        (λ (none : NoCause s room). (none, ap answerValue (sym e ∙ none-reported none)))
+        (λ (found : FirstFound s room). absurd (not_both _ _ count (first_refused found.found) e))
+        (λ (none : NoCause s room). (none, ap answer_value (sym e ∙ none_reported none)))
         (first_or_none s room),
-    λ h. none-reported h.0 ∙ ap Reported (sym h.1),
+    λ h. none_reported h.0 ∙ ap Reported (sym h.1),
   )
 
   -- A REFUSAL exactly for the first cause, with its number and place
-  pub refused-by-first-cause : (number p : ℕ) → (projectAnswer s room ≡ Refused number p) ↔ FirstCause s room number p
-  refused-by-first-cause number p = (
+  pub refused_by_first_cause : (number p : ℕ) → (project_answer s room ≡ Refused number p) ↔ FirstCause s room number p
+  refused_by_first_cause number p = (
     λ e. ⊎_elim
         (λ (found : FirstFound s room).
-        let same = sym (first-refused found.found) ∙ e in
-        let number_is : found.number ≡ number = ap answerNumber same in
-        let place_is : found.place ≡ p = ap answerValue same in
+        let same = sym (first_refused found.found) ∙ e in
+        let number_is : found.number ≡ number = ap answer_number same in
+        let place_is : found.place ≡ p = ap answer_value same in
         rw (← number_is, ← place_is) found.found)
-        (λ (none : NoCause s room). absurd (not-both number p _ e (none-reported none)))
+        (λ (none : NoCause s room). absurd (not_both number p _ e (none_reported none)))
         (first_or_none s room),
-    λ f. first-refused f,
+    λ f. first_refused f,
   )
 
 -- the space test, by the count of a report's numbers
-pub room-short : (n room count : ℕ) → room < count → count ≡ reportLength n → Refused 10 0 ≡ spaced (scan.Accepted n) room
-room-short n room count h e = rw (lt-leb (reportLength n) room (omega arith)) refl
+pub room_short : (n room count : ℕ) → room < count → count ≡ report_length n → Refused 10 0 ≡ spaced (scan.Accepted n) room
+room_short n room count h e = rw (lt-leb (report_length n) room (omega arith)) refl
 
-pub room-enough : (n room count : ℕ) → count ≤ room → count ≡ reportLength n → Reported count ≡ spaced (scan.Accepted n) room
-room-enough n room count h e = rw (le-leb (reportLength n) room (omega arith)) (ap Reported e)
+pub room_enough : (n room count : ℕ) → count ≤ room → count ≡ report_length n → Reported count ≡ spaced (scan.Accepted n) room
+room_enough n room count h e = rw (le-leb (report_length n) room (omega arith)) (ap Reported e)
 
 -- what the space test says of an accepted file
-reported-by-space : (n room count : ℕ) → Reported count ≡ spaced (scan.Accepted n) room → (count ≡ reportLength n) × (reportLength n ≤ room)
-reported-by-space n room count e = by (leb (reportLength n) room) refl e
+reported_by_space : (n room count : ℕ) → Reported count ≡ spaced (scan.Accepted n) room → (count ≡ report_length n) × (report_length n ≤ room)
+reported_by_space n room count e = by (leb (report_length n) room) refl e
   where
-    by : (b : Bool) → leb (reportLength n) room ≡ b → Reported count ≡ cond b (Reported (reportLength n)) (Refused 10 0)
-        → (count ≡ reportLength n) × (reportLength n ≤ room)
-    by true t q = (ap answerValue q, leb-true (reportLength n) room t)
+    by : (b : Bool) → leb (report_length n) room ≡ b → Reported count ≡ cond b (Reported (report_length n)) (Refused 10 0)
+        → (count ≡ report_length n) × (report_length n ≤ room)
+    by true t q = (ap answer_value q, leb-true (report_length n) room t)
     by false t q = let z : ◌≡◌ {A = ℕ} 0 1 = cc in absurd (omega arith)
 
 -- an accepted file is answered by the space test
-module _ (s : List ℕ) (room n : ℕ) (accepted : scanFile s ≡ scan.Accepted n) where
-  answer-by-space : projectAnswer s room ≡ spaced (scan.Accepted n) room
-  unfolding projectAnswer
-  answer-by-space = rw accepted refl
+module _ (s : List ℕ) (room n : ℕ) (accepted : scan_file s ≡ scan.Accepted n) where
+  answer_by_space : project_answer s room ≡ spaced (scan.Accepted n) room
+  unfolding project_answer
+  answer_by_space = rw accepted refl
 
-  pub space-suffices : (count : ℕ) → Reported count ≡ spaced (scan.Accepted n) room → reportLength n ≤ room
-  space-suffices count e = (reported-by-space n room count e).1
+  pub space_suffices : (count : ℕ) → Reported count ≡ spaced (scan.Accepted n) room → report_length n ≤ room
+  space_suffices count e = (reported_by_space n room count e).1
 
 -- the report that each answer leaves
 module _ (s before : List ℕ) where
-  left-as-it-was : (number place : ℕ) → projectAnswer s (length before) ≡ Refused number place → ReportsProject s before before (Refused number place)
-  unfolding reportAfter
-  left-as-it-was number place e =
-      record { answer-is = sym e; report-is = rw e refl; meets = ((refused-by-first-cause s (length before) number place).0 e, refl) }
+  left_as_it_was : (number place : ℕ) → project_answer s (length before) ≡ Refused number place → ReportsProject s before before (Refused number place)
+  unfolding report_after
+  left_as_it_was number place e =
+      record { answer_is = sym e; report_is = rw e refl; meets = ((refused_by_first_cause s (length before) number place).0 e, refl) }
 
-  pub refused-by-bytes : (number place : ℕ) → scanFile s ≡ scan.Refused number place → ReportsProject s before before (Refused number place)
-  unfolding projectAnswer
-  refused-by-bytes number place e = left-as-it-was number place (rw e refl)
+  pub refused_by_bytes : (number place : ℕ) → scan_file s ≡ scan.Refused number place → ReportsProject s before before (Refused number place)
+  unfolding project_answer
+  refused_by_bytes number place e = left_as_it_was number place (rw e refl)
 
-  module _ (n : ℕ) (accepted : scanFile s ≡ scan.Accepted n) where
-    pub refused-by-room : (number place : ℕ) → Refused number place ≡ spaced (scan.Accepted n) (length before)
+  module _ (n : ℕ) (accepted : scan_file s ≡ scan.Accepted n) where
+    pub refused_by_room : (number place : ℕ) → Refused number place ≡ spaced (scan.Accepted n) (length before)
         → ReportsProject s before before (Refused number place)
-    refused-by-room number place e = left-as-it-was number place (answer-by-space s (length before) n accepted ∙ sym e)
+    refused_by_room number place e = left_as_it_was number place (answer_by_space s (length before) n accepted ∙ sym e)
 
     pub reported : (count : ℕ) (after : List ℕ) → Reported count ≡ spaced (scan.Accepted n) (length before)
-        → after ≡ laidOver (reportNumbers (linesIn s)) before → Demand s after → ReportsProject s before after (Reported count)
-    unfolding reportAfter
+        → after ≡ laid_over (report_numbers (lines_in s)) before → Demand s after → ReportsProject s before after (Reported count)
+    unfolding report_after
     reported count after e a met =
-        let w = answer-by-space s (length before) n accepted ∙ sym e in
-        let c = (reported-exactly s (length before) count).0 w in
-        record { answer-is = sym w; report-is = rw w a; meets = (c.0, refl, c.1, met) }
+        let w = answer_by_space s (length before) n accepted ∙ sym e in
+        let c = (reported_exactly s (length before) count).0 w in
+        record { answer_is = sym w; report_is = rw w a; meets = (c.0, refl, c.1, met) }

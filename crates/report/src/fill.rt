@@ -4,15 +4,15 @@ ghost use Rattle.std.proofs.lemmas.List.Edits.{sets};
 ghost use Rattle.exponential.specs.Stored.{StoredExponentials};
 ghost use Rattle.logarithm.specs.Stored.{StoredLogarithms};
 ghost use Rattle.power.specs.Stored.{StoredPowers};
-ghost use Rattle.site.specs.Record.{readSite};
-ghost use Rattle.laws.specs.Lent.{laidOver};
-ghost use Rattle.header.specs.Header.{headerLength};
+ghost use Rattle.site.specs.Record.{read_site};
+ghost use Rattle.laws.specs.Lent.{laid_over};
+ghost use Rattle.header.specs.Header.{header_length};
 ghost use Rattle.header.specs.HeaderLaws.{HeaderWithin};
-ghost use Rattle.model.specs.Coefficients.{coefficientsOf};
+ghost use Rattle.model.specs.Coefficients.{coefficients_of};
 ghost use Rattle.line.specs.Weighing.{LineAtMost};
-ghost use Rattle.report.specs.Report.{numbersOf, noLine, addLine, reportNumbers, linesIn};
+ghost use Rattle.report.specs.Report.{numbers_of, no_line, add_line, report_numbers, lines_in};
 ghost use Rattle.report.specs.Demand.{Demand};
-ghost use Rattle.report.specs.Fill.{fillFrom, recordLine, mostTotal, Fillable, Acceptable};
+ghost use Rattle.report.specs.Fill.{fill_from, record_line, most_total, Fillable, Acceptable};
 
 use exponential::stored::stored_exponentials;
 use header::{HEADER_LENGTH, Header, count_in, header_in};
@@ -40,7 +40,7 @@ fn line_at(
 ) -> RecordLine
     requires { StoredPowers powers.now × StoredLogarithms logarithms.now × StoredExponentials exponentials.now
         × (at ≤ length file.now) × HeaderWithin header }
-    ensures { result ≡ recordLine (coefficientsOf header.edition) header (readSite header.edition header.years (drop at file.now)) }
+    ensures { result ≡ record_line (coefficients_of header.edition) header (read_site header.edition header.years (drop at file.now)) }
 {
     let answer = read_site(header.edition, header.years, &file[at..]);
     match answer {
@@ -55,7 +55,7 @@ fn line_at(
 // Stores a line's four numbers from a place on.
 fn put_line(line: Line, report: &mut [u64], at: usize)
     requires { at + 4 ≤ length report.old }
-    ensures { report.new ≡ sets report.old at (numbersOf line) }
+    ensures { report.new ≡ sets report.old at (numbers_of line) }
 {
     report[at] = line.predicted_low;
     report[at + 1] = line.predicted_high;
@@ -65,8 +65,8 @@ fn put_line(line: Line, report: &mut [u64], at: usize)
 
 // Totals with one line more.
 fn add_line(total: Line, line: Line) -> Line
-    requires { LineAtMost mostTotal total × LineAtMost mostTotal line }
-    ensures { result ≡ addLine total line }
+    requires { LineAtMost most_total total × LineAtMost most_total line }
+    ensures { result ≡ add_line total line }
 {
     Line {
         predicted_low: total.predicted_low + line.predicted_low,
@@ -87,8 +87,8 @@ fn fill_lines(
     report: &mut [u64],
 )
     requires { StoredPowers powers.now × StoredLogarithms logarithms.now × StoredExponentials exponentials.now
-        × Fillable (coefficientsOf header.edition) file.now header sites (length report.old) }
-    ensures { report.new ≡ sets report.old 0 (fillFrom (coefficientsOf header.edition) header sites headerLength noLine file.now) }
+        × Fillable (coefficients_of header.edition) file.now header sites (length report.old) }
+    ensures { report.new ≡ sets report.old 0 (fill_from (coefficients_of header.edition) header sites header_length no_line file.now) }
 {
     let mut total = Line {
         predicted_low: 0,
@@ -114,7 +114,7 @@ fn fill_lines(
 // The report of an accepted file, from the start of a run that has room for it; the stored numbers are made once.
 pub(crate) fn fill(file: &[u8], report: &mut [u64])
     requires { Acceptable file.now (length report.old) }
-    ensures report_after { report.new ≡ laidOver (reportNumbers (linesIn file.now)) report.old }
+    ensures report_after { report.new ≡ laid_over (report_numbers (lines_in file.now)) report.old }
     ensures demand { Demand file.now report.new }
 {
     let powers = stored_powers();

@@ -2,7 +2,7 @@
 pub mod fill;
 
 ghost use Rattle.std.specs.Prelude.{◌≡◌, ◌≤◌};
-ghost use Rattle.header.specs.Header.{mostSites};
+ghost use Rattle.header.specs.Header.{most_sites};
 ghost use Rattle.project.specs.declared.ScanAnswer.TheVariants.{Accepted};
 ghost use Rattle.report.specs.Report.{spaced};
 ghost use Rattle.report.specs.Demand.{ReportsProject};
@@ -19,7 +19,7 @@ pub enum ProjectAnswer {
 
 // The space test: the count of a report's numbers, four for each site and four totals, or 10 where the run is shorter.
 fn space(sites: usize, room: usize) -> ProjectAnswer
-    requires { sites ≤ mostSites }
+    requires { sites ≤ most_sites }
     ensures { result ≡ spaced (Accepted sites) room }
 {
     let count = 4 * (sites + 1);

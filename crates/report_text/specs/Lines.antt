@@ -3,30 +3,30 @@ use Rattle.std.specs.Prelude.{ℕ, suc, ◌+◌, ◌*◌, ◌-◌, ◌/◌, ◌%
 use Rattle.std.proofs.Common.{sym, ap, ◌∙◌, arith, add-zero, length-append, length-drop, length-set, drop_of_length-le, drop-cons}
 use Rattle.std.proofs.lemmas.List.Edits.{sets}
 use Rattle.std.proofs.Math.Seq.{length-sets}
-use Rattle.report_text.specs.Text.{digit, decimalText, endedText, lineText, reportText}
+use Rattle.report_text.specs.Text.{digit, decimal_text, ended_text, line_text, report_text}
 use Rattle.laws.specs.Stores.{Puts, sets_more, set_first}
-use Rattle.report_text.specs.Decimal.{decimal-one, decimal-more, length_digits, decimal-short}
+use Rattle.report_text.specs.Decimal.{decimal_one, decimal_more, length_digits, decimal_short}
 
 -- one digit more, before those that are stored
-pub digit-stored : (out whole : List ℕ) (at rest i : ℕ) → 10 ≤ rest → i ≡ at + length (decimalText rest) → sets out at (decimalText rest) ≡ whole
-    → sets (set out (i - 1) (digit (rest % 10))) at (decimalText (rest / 10)) ≡ whole
-digit-stored out whole at rest i h e w =
-    let k : i - 1 ≡ at + length (decimalText (rest / 10)) = omega (arith, length_digits rest h) in
-    rw k (set_first out at (decimalText (rest / 10)) (digit (rest % 10)) ∙ ap (sets out at) (sym (decimal-more rest h)) ∙ w)
+pub digit_stored : (out whole : List ℕ) (at rest i : ℕ) → 10 ≤ rest → i ≡ at + length (decimal_text rest) → sets out at (decimal_text rest) ≡ whole
+    → sets (set out (i - 1) (digit (rest % 10))) at (decimal_text (rest / 10)) ≡ whole
+digit_stored out whole at rest i h e w =
+    let k : i - 1 ≡ at + length (decimal_text (rest / 10)) = omega (arith, length_digits rest h) in
+    rw k (set_first out at (decimal_text (rest / 10)) (digit (rest % 10)) ∙ ap (sets out at) (sym (decimal_more rest h)) ∙ w)
 
 -- the first digit, stored last
-pub last_stored : (out whole : List ℕ) (at rest : ℕ) → rest < 10 → sets out at (decimalText rest) ≡ whole → set out at (digit rest) ≡ whole
-last_stored out whole at rest h w = ap (sets out at) (sym (decimal-one rest h)) ∙ w
+pub last_stored : (out whole : List ℕ) (at rest : ℕ) → rest < 10 → sets out at (decimal_text rest) ≡ whole → set out at (digit rest) ≡ whole
+last_stored out whole at rest h w = ap (sets out at) (sym (decimal_one rest h)) ∙ w
 
 -- a number's digits, then the byte that ends it
-pub ended-stored : (before after : List ℕ) (at n end last : ℕ) → n < 2 ^ 64 → end ≡ at + length (decimalText n) → after ≡ sets before at (decimalText n)
-    → Puts before at (endedText n last) (end + 1) (set after end last) × (end + 1 ≤ at + 21)
-ended-stored before after at n end last h e w = (
+pub ended_stored : (before after : List ℕ) (at n end last : ℕ) → n < 2 ^ 64 → end ≡ at + length (decimal_text n) → after ≡ sets before at (decimal_text n)
+    → Puts before at (ended_text n last) (end + 1) (set after end last) × (end + 1 ≤ at + 21)
+ended_stored before after at n end last h e w = (
   record {
-    place_is = omega (arith, length-append (decimalText n) (last ∷ []));
-    stored = rw (w, e) (sets_more before at (decimalText n) (last ∷ []));
+    place_is = omega (arith, length-append (decimal_text n) (last ∷ []));
+    stored = rw (w, e) (sets_more before at (decimal_text n) (last ∷ []));
   },
-  omega (arith, decimal-short n h),
+  omega (arith, decimal_short n h),
 )
 
 -- the lines that are left when some are written
@@ -34,14 +34,14 @@ pub record LinesLeft (numbers before : List ℕ) (i at : ℕ) (now : List ℕ) :
   pub inside : i ≤ length numbers
   pub near : at ≤ 21 * i
   pub same : length now ≡ length before
-  pub ends : at + length (reportText (drop i numbers)) ≡ length (reportText numbers)
-  pub left : sets now at (reportText (drop i numbers)) ≡ sets before 0 (reportText numbers)
+  pub ends : at + length (report_text (drop i numbers)) ≡ length (report_text numbers)
+  pub left : sets now at (report_text (drop i numbers)) ≡ sets before 0 (report_text numbers)
 
-four-on : (numbers : List ℕ) (i : ℕ) → i + 4 ≤ length numbers
-    → reportText (drop i numbers)
-    ≡ lineText (get_or numbers i 0) (get_or numbers (i + 1) 0) (get_or numbers (i + 2) 0) (get_or numbers (i + 3) 0) ++ reportText (drop (i + 4) numbers)
-unfolding reportText
-four-on numbers i h =
+four_on : (numbers : List ℕ) (i : ℕ) → i + 4 ≤ length numbers
+    → report_text (drop i numbers)
+    ≡ line_text (get_or numbers i 0) (get_or numbers (i + 1) 0) (get_or numbers (i + 2) 0) (get_or numbers (i + 3) 0) ++ report_text (drop (i + 4) numbers)
+unfolding report_text
+four_on numbers i h =
     let one : i + 1 ≡ suc i = omega arith in
     let two : i + 2 ≡ suc (suc i) = omega arith in
     let three : i + 3 ≡ suc (suc (suc i)) = omega arith in
@@ -60,33 +60,33 @@ four-on numbers i h =
 pub lines_start : (numbers before : List ℕ) → LinesLeft numbers before 0 0 before
 lines_start numbers before = record { inside = omega arith; near = omega arith; same = refl; ends = omega arith; left = refl }
 
-pub lines-on : (numbers before now after : List ℕ) (i at place : ℕ) → LinesLeft numbers before i at now → i + 4 ≤ length numbers
-    → Puts now at (lineText (get_or numbers i 0) (get_or numbers (i + 1) 0) (get_or numbers (i + 2) 0) (get_or numbers (i + 3) 0)) place after × (place ≤ at + 84)
+pub lines_on : (numbers before now after : List ℕ) (i at place : ℕ) → LinesLeft numbers before i at now → i + 4 ≤ length numbers
+    → Puts now at (line_text (get_or numbers i 0) (get_or numbers (i + 1) 0) (get_or numbers (i + 2) 0) (get_or numbers (i + 3) 0)) place after × (place ≤ at + 84)
     → LinesLeft numbers before (i + 4) place after
-lines-on numbers before now after i at place k h p =
-    let line = lineText (get_or numbers i 0) (get_or numbers (i + 1) 0) (get_or numbers (i + 2) 0) (get_or numbers (i + 3) 0) in
-    let rest = reportText (drop (i + 4) numbers) in
+lines_on numbers before now after i at place k h p =
+    let line = line_text (get_or numbers i 0) (get_or numbers (i + 1) 0) (get_or numbers (i + 2) 0) (get_or numbers (i + 3) 0) in
+    let rest = report_text (drop (i + 4) numbers) in
     record {
       inside = h;
       near = omega (arith, k.near, p.1);
       same = rw p.0.stored (length-sets now at line ∙ k.same);
-      ends = omega (arith, p.0.place_is, ap length (four-on numbers i h), length-append line rest, k.ends);
-      left = rw (p.0.stored, p.0.place_is) (sets_more now at line rest ∙ ap (sets now at) (sym (four-on numbers i h)) ∙ k.left);
+      ends = omega (arith, p.0.place_is, ap length (four_on numbers i h), length-append line rest, k.ends);
+      left = rw (p.0.stored, p.0.place_is) (sets_more now at line rest ∙ ap (sets now at) (sym (four_on numbers i h)) ∙ k.left);
     }
 
 -- fewer than four numbers are no line
-few-left : (numbers : List ℕ) → length numbers < 4 → reportText numbers ≡ []
-unfolding reportText
-few-left [] h = refl
-few-left (a ∷ []) h = refl
-few-left (a ∷ b ∷ []) h = refl
-few-left (a ∷ b ∷ c ∷ []) h = refl
-few-left (a ∷ b ∷ c ∷ d ∷ numbers) h = absurd (omega arith)
+few_left : (numbers : List ℕ) → length numbers < 4 → report_text numbers ≡ []
+unfolding report_text
+few_left [] h = refl
+few_left (a ∷ []) h = refl
+few_left (a ∷ b ∷ []) h = refl
+few_left (a ∷ b ∷ c ∷ []) h = refl
+few_left (a ∷ b ∷ c ∷ d ∷ numbers) h = absurd (omega arith)
 
 pub lines_end : (numbers before now : List ℕ) (i at : ℕ) → LinesLeft numbers before i at now → length numbers < i + 4
-    → Puts before 0 (reportText numbers) at now
+    → Puts before 0 (report_text numbers) at now
 lines_end numbers before now i at k h =
-    let e = few-left (drop i numbers) (omega (arith, length-drop i numbers, k.inside)) in
+    let e = few_left (drop i numbers) (omega (arith, length-drop i numbers, k.inside)) in
     record {
       place_is = omega (arith, k.ends, ap length e);
       stored = sym (ap (sets now at) e) ∙ k.left;
@@ -98,8 +98,8 @@ pub record BytesLeft (bytes before : List ℕ) (at i : ℕ) (now : List ℕ) : T
   pub same : length now ≡ length before
   pub left : sets now (at + i) (drop i bytes) ≡ sets before at bytes
 
-pub bytes-start : (bytes before : List ℕ) (at : ℕ) → BytesLeft bytes before at 0 before
-bytes-start bytes before at = record { inside = omega arith; same = refl; left = rw (add-zero at) refl }
+pub bytes_start : (bytes before : List ℕ) (at : ℕ) → BytesLeft bytes before at 0 before
+bytes_start bytes before at = record { inside = omega arith; same = refl; left = rw (add-zero at) refl }
 
 pub bytes_on : (bytes before now : List ℕ) (at i : ℕ) → BytesLeft bytes before at i now → i < length bytes
     → BytesLeft bytes before at (i + 1) (set now (at + i) (get_or bytes i 0))
@@ -112,8 +112,8 @@ bytes_on bytes before now at i k h =
       left = rw (one, on) (ap (sets now (at + i)) (sym (drop-cons bytes i 0 h)) ∙ k.left);
     }
 
-pub bytes-end : (bytes before now : List ℕ) (at i : ℕ) → BytesLeft bytes before at i now → length bytes ≤ i → Puts before at bytes (at + i) now
-bytes-end bytes before now at i k h = record {
+pub bytes_end : (bytes before now : List ℕ) (at i : ℕ) → BytesLeft bytes before at i now → length bytes ≤ i → Puts before at bytes (at + i) now
+bytes_end bytes before now at i k h = record {
   place_is = omega (arith, k.inside);
   stored = sym (ap (sets now (at + i)) (drop_of_length-le bytes h)) ∙ k.left;
 }

@@ -1,12 +1,12 @@
 // The text of a report and of a refusal, written into a lent buffer. Each function answers the place after what it wrote.
 ghost use Rattle.std.specs.Prelude.{◌≡◌, ◌+◌, ◌*◌, ◌≤◌, length};
 ghost use Rattle.std.proofs.lemmas.List.Edits.{sets};
-ghost use Rattle.report_text.specs.Text.{decimalText, endedText, lineText, reportText, refusalText};
+ghost use Rattle.report_text.specs.Text.{decimal_text, ended_text, line_text, report_text, refusal_text};
 ghost use Rattle.laws.specs.Stores.{Puts};
 
 // How many digits a number has.
 fn digit_count(n: u64) -> usize
-    ensures { result ≡ length (decimalText n) }
+    ensures { result ≡ length (decimal_text n) }
 {
     let mut rest = n;
     let mut count = 1;
@@ -19,8 +19,8 @@ fn digit_count(n: u64) -> usize
 
 // Stores the digits of a number before a place, the last first.
 fn put_digits(n: u64, out: &mut [u8], at: usize, end: usize)
-    requires { (end ≡ at + length (decimalText n)) × (end ≤ length out.old) }
-    ensures { out.new ≡ sets out.old at (decimalText n) }
+    requires { (end ≡ at + length (decimal_text n)) × (end ≤ length out.old) }
+    ensures { out.new ≡ sets out.old at (decimal_text n) }
 {
     let mut rest = n;
     let mut i = end;
@@ -35,7 +35,7 @@ fn put_digits(n: u64, out: &mut [u8], at: usize, end: usize)
 // A number and the byte that ends it.
 fn put_ended(n: u64, last: u8, out: &mut [u8], at: usize) -> usize
     requires { at + 21 ≤ length out.old }
-    ensures { Puts out.old at (endedText n last) result out.new × (result ≤ at + 21) }
+    ensures { Puts out.old at (ended_text n last) result out.new × (result ≤ at + 21) }
 {
     let end = at + digit_count(n);
     put_digits(n, out, at, end);
@@ -46,7 +46,7 @@ fn put_ended(n: u64, last: u8, out: &mut [u8], at: usize) -> usize
 // Four numbers as a line.
 fn put_line(a: u64, b: u64, c: u64, d: u64, out: &mut [u8], at: usize) -> usize
     requires { at + 84 ≤ length out.old }
-    ensures { Puts out.old at (lineText a b c d) result out.new × (result ≤ at + 84) }
+    ensures { Puts out.old at (line_text a b c d) result out.new × (result ≤ at + 84) }
 {
     let first = put_ended(a, b' ', out, at);
     let second = put_ended(b, b' ', out, first);
@@ -57,7 +57,7 @@ fn put_line(a: u64, b: u64, c: u64, d: u64, out: &mut [u8], at: usize) -> usize
 // The lines of a report from the start of a buffer: a number takes at most 20 bytes and the one that ends it.
 pub fn put_report(numbers: &[u64], out: &mut [u8]) -> usize
     requires { 21 * length numbers.now ≤ length out.old }
-    ensures { Puts out.old 0 (reportText numbers.now) result out.new × (result ≤ length out.old) }
+    ensures { Puts out.old 0 (report_text numbers.now) result out.new × (result ≤ length out.old) }
 {
     let mut at = 0;
     let mut i = 0;
@@ -91,7 +91,7 @@ fn put_bytes(bytes: &[u8], out: &mut [u8], at: usize) -> usize
 // The line of a refusal from the start of a buffer.
 pub fn put_refusal(number: u8, place: usize, out: &mut [u8]) -> usize
     requires { 64 ≤ length out.old }
-    ensures { Puts out.old 0 (refusalText number place) result out.new × (result ≤ length out.old) }
+    ensures { Puts out.old 0 (refusal_text number place) result out.new × (result ≤ length out.old) }
 {
     let first = put_bytes(b"refused ", out, 0);
     let second = put_ended(number as u64, b' ', out, first);

@@ -9,36 +9,36 @@ use Rattle.std.proofs.Math.Seq.{length-take-le, take-add, take_at, drop_at, drop
 use Rattle.std.proofs.lemmas.List.{drop-append-le, take-append-le}
 use Rattle.site.specs.declared.values.Slot.{Slot}
 use Rattle.site.specs.declared.values.Slot.TheVariants.{Absent, Number}
-use Rattle.site.specs.Rules.{mostYears, yearsKnown, laterYears, traffic, allows}
-use Rattle.site.specs.Yearly.{laterSlots, laterOf, laterMinor}
-use Rattle.site.specs.Record.{word, yearlyBit, fieldMap, gathered, laterRead, laterAllowed}
-use Rattle.site.specs.Writing.{laterBytes, laterFits}
+use Rattle.site.specs.Rules.{most_years, years_known, later_years, traffic, allows}
+use Rattle.site.specs.Yearly.{later_slots, later_from_slots, later_minor}
+use Rattle.site.specs.Record.{word, yearly_bit, field_map, gathered, later_read, later_allowed}
+use Rattle.site.specs.Writing.{later_bytes, later_fits}
 use Rattle.laws.specs.Truth.{and_left, and_right}
-use Rattle.site.specs.Digits.{Bytes, bytes-append, two_bytes, bytes-of-word}
+use Rattle.site.specs.Digits.{Bytes, bytes_append, two_bytes_lem, bytes_of_word}
 
 -- years within their limits
-pub years-within : (years : ℕ) → yearsKnown years ≡ true → (1 ≤ years) × (years ≤ mostYears)
-years-within years e = (leb-true 1 years (and_left (leb 1 years) _ e), leb-true years mostYears (and_right (leb 1 years) _ e))
+pub years_within : (years : ℕ) → years_known years ≡ true → (1 ≤ years) × (years ≤ most_years)
+years_within years e = (leb-true 1 years (and_left (leb 1 years) _ e), leb-true years most_years (and_right (leb 1 years) _ e))
 
 -- BIT 15 and the map of the fields
-pub bit-most : (map : ℕ) → yearlyBit map ≤ 1
-bit-most map = omega arith
+pub bit_most : (map : ℕ) → yearly_bit map ≤ 1
+bit_most map = omega arith
 
-pub whole-map : (map : ℕ) → fieldMap map + 32768 * yearlyBit map ≡ map
-whole-map map = omega arith
+pub whole_map : (map : ℕ) → field_map map + 32768 * yearly_bit map ≡ map
+whole_map map = omega arith
 
 -- of a map whose fields have the bits below 15
 module _ (map : ℕ) (small : map < 32768) where
-  pub bit-of-whole : (yearly : Bool) → yearlyBit (map + cond yearly 32768 0) ≡ cond yearly 1 0
-  bit-of-whole true = omega arith
-  bit-of-whole false = omega arith
+  pub bit_of_whole : (yearly : Bool) → yearly_bit (map + cond yearly 32768 0) ≡ cond yearly 1 0
+  bit_of_whole true = omega arith
+  bit_of_whole false = omega arith
 
-  pub fields-of-whole : (yearly : Bool) → fieldMap (map + cond yearly 32768 0) ≡ map
-  fields-of-whole true = omega arith
-  fields-of-whole false = omega arith
+  pub fields_of_whole : (yearly : Bool) → field_map (map + cond yearly 32768 0) ≡ map
+  fields_of_whole true = omega arith
+  fields_of_whole false = omega arith
 
-pub minor-most : (kind later : ℕ) → laterMinor kind later ≤ later
-minor-most kind later = by (eqb kind 0)
+pub minor_most_lem : (kind later : ℕ) → later_minor kind later ≤ later
+minor_most_lem kind later = by (eqb kind 0)
   where
     by : (b : Bool) → cond b 0 later ≤ later
     by true = omega arith
@@ -55,21 +55,21 @@ same_word s t h =
 pub past : (n : ℕ) (a t r : List ℕ) → length a ≡ 2 → length t ≡ 2 * n → drop (2 + 2 * n) (a ++ (t ++ r)) ≡ r
 past n a t r la lt = sym (drop-drop (2 * n) 2 (a ++ (t ++ r))) ∙ ap (drop (2 * n)) (drop_at a (t ++ r) 2 la) ∙ drop_at t r (2 * n) lt
 
-past-both : (n m : ℕ) (s : List ℕ) → drop (4 + 2 * n + 2 * m) s ≡ drop (2 + 2 * m) (drop (2 + 2 * n) s)
-past-both n m s =
+past_both : (n m : ℕ) (s : List ℕ) → drop (4 + 2 * n + 2 * m) s ≡ drop (2 + 2 * m) (drop (2 + 2 * n) s)
+past_both n m s =
     let e : 4 + 2 * n + 2 * m ≡ 2 + 2 * n + (2 + 2 * m) = omega arith in
     ap (λ (k : ℕ). drop k s) e ∙ sym (drop-drop (2 + 2 * m) (2 + 2 * n) s)
 
-pub gathered-spread : (n m : ℕ) (a t b u r : List ℕ) → length a ≡ 2 → length t ≡ 2 * n → length b ≡ 2 → length u ≡ 2 * m
+pub gathered_spread : (n m : ℕ) (a t b u r : List ℕ) → length a ≡ 2 → length t ≡ 2 * n → length b ≡ 2 → length u ≡ 2 * m
     → gathered n m (a ++ (t ++ (b ++ (u ++ r)))) ≡ a ++ (b ++ r)
-gathered-spread n m a t b u r la lt lb lu =
+gathered_spread n m a t b u r la lt lb lu =
     let first = past n a t (b ++ (u ++ r)) la lt in
-    let second = past-both n m (a ++ (t ++ (b ++ (u ++ r)))) ∙ ap (drop (2 + 2 * m)) first ∙ past m b u r lb lu in
+    let second = past_both n m (a ++ (t ++ (b ++ (u ++ r)))) ∙ ap (drop (2 + 2 * m)) first ∙ past m b u r lb lu in
     rw (take_at a (t ++ (b ++ (u ++ r))) 2 la, second, first, take_at b (u ++ r) 2 lb)
 
 -- what follows the fields follows them gathered
-pub gathered-append : (n m : ℕ) (s t : List ℕ) → 4 + 2 * n + 2 * m ≤ length s → gathered n m (s ++ t) ≡ gathered n m s ++ t
-gathered-append n m s t h =
+pub gathered_append : (n m : ℕ) (s t : List ℕ) → 4 + 2 * n + 2 * m ≤ length s → gathered n m (s ++ t) ≡ gathered n m s ++ t
+gathered_append n m s t h =
     let a : 2 ≤ length s = omega arith in
     let b : 2 + 2 * n ≤ length s = omega arith in
     let c : 2 ≤ length (drop (2 + 2 * n) s) = omega (arith, length-drop (2 + 2 * n) s) in
@@ -82,8 +82,8 @@ gathered-append n m s t h =
       append_assoc,
     )
 
-pub length-gathered : (n m : ℕ) (s : List ℕ) → 4 + 2 * n + 2 * m ≤ length s → length (gathered n m s) + (2 * n + 2 * m) ≡ length s
-length-gathered n m s h =
+pub length_gathered : (n m : ℕ) (s : List ℕ) → 4 + 2 * n + 2 * m ≤ length s → length (gathered n m s) + (2 * n + 2 * m) ≡ length s
+length_gathered n m s h =
     let a = length-append (take 2 s) (take 2 (drop (2 + 2 * n) s) ++ drop (4 + 2 * n + 2 * m) s) in
     let b = length-append (take 2 (drop (2 + 2 * n) s)) (drop (4 + 2 * n + 2 * m) s) in
     omega (
@@ -95,21 +95,21 @@ length-gathered n m s h =
       length-drop (4 + 2 * n + 2 * m) s,
     )
 
-take-bytes : (n : ℕ) (s : List ℕ) → Bytes s → (i : ℕ) → get_or (take n s) i 0 < 256
-take-bytes zero s bytes i = omega arith
-take-bytes (suc n) [] bytes i = omega arith
-take-bytes (suc n) (x ∷ s) bytes zero = bytes 0
-take-bytes (suc n) (x ∷ s) bytes (suc i) = take-bytes n s (λ j. bytes (suc j)) i
+take_bytes : (n : ℕ) (s : List ℕ) → Bytes s → (i : ℕ) → get_or (take n s) i 0 < 256
+take_bytes zero s bytes i = omega arith
+take_bytes (suc n) [] bytes i = omega arith
+take_bytes (suc n) (x ∷ s) bytes zero = bytes 0
+take_bytes (suc n) (x ∷ s) bytes (suc i) = take_bytes n s (λ j. bytes (suc j)) i
 
-pub gathered-bytes : (n m : ℕ) (s : List ℕ) → Bytes s → Bytes (gathered n m s)
-gathered-bytes n m s bytes =
-    bytes-append (take 2 s) (take 2 (drop (2 + 2 * n) s) ++ drop (4 + 2 * n + 2 * m) s) (take-bytes 2 s bytes)
-    (bytes-append (take 2 (drop (2 + 2 * n) s)) (drop (4 + 2 * n + 2 * m) s)
-    (take-bytes 2 (drop (2 + 2 * n) s) (λ i. rw get_or-drop (bytes (2 + 2 * n + i)))) (λ i. rw get_or-drop (bytes (4 + 2 * n + 2 * m + i))))
+pub gathered_bytes : (n m : ℕ) (s : List ℕ) → Bytes s → Bytes (gathered n m s)
+gathered_bytes n m s bytes =
+    bytes_append (take 2 s) (take 2 (drop (2 + 2 * n) s) ++ drop (4 + 2 * n + 2 * m) s) (take_bytes 2 s bytes)
+    (bytes_append (take 2 (drop (2 + 2 * n) s)) (drop (4 + 2 * n + 2 * m) s)
+    (take_bytes 2 (drop (2 + 2 * n) s) (λ i. rw get_or-drop (bytes (2 + 2 * n + i)))) (λ i. rw get_or-drop (bytes (4 + 2 * n + 2 * m + i))))
 
 -- a number of the fields, gathered and not
-number-taken : (s t : List ℕ) → 2 ≤ length s → word (take 2 s ++ t) ≡ word s
-number-taken s t h =
+number_taken : (s t : List ℕ) → 2 ≤ length s → word (take 2 s ++ t) ≡ word s
+number_taken s t h =
     let a : 0 < 2 = omega arith in
     let b : 1 < 2 = omega arith in
     same_word (take 2 s) t (omega (arith, length-take-le 2 s h)) ∙ rw (get_or-take 2 s 0 0 a, get_or-take 2 s 1 0 b) refl
@@ -118,39 +118,39 @@ module _ (n m : ℕ) (s : List ℕ) (h : 4 + 2 * n + 2 * m ≤ length s) where
   first_two : length (take 2 s) ≡ 2
   first_two = length-take-le 2 s (omega arith)
 
-  second-two : length (take 2 (drop (2 + 2 * n) s)) ≡ 2
-  second-two = length-take-le 2 (drop (2 + 2 * n) s) (omega (arith, length-drop (2 + 2 * n) s))
+  second_two : length (take 2 (drop (2 + 2 * n) s)) ≡ 2
+  second_two = length-take-le 2 (drop (2 + 2 * n) s) (omega (arith, length-drop (2 + 2 * n) s))
 
-  pub gathered-first : word (gathered n m s) ≡ word s
-  gathered-first = number-taken s _ (omega arith)
+  pub gathered_first : word (gathered n m s) ≡ word s
+  gathered_first = number_taken s _ (omega arith)
 
-  pub gathered-second : word (drop 2 (gathered n m s)) ≡ word (drop (2 + 2 * n) s)
-  gathered-second =
-      ap word (drop_at (take 2 s) _ 2 first_two) ∙ number-taken (drop (2 + 2 * n) s) _ (omega (arith, length-drop (2 + 2 * n) s))
+  pub gathered_second : word (drop 2 (gathered n m s)) ≡ word (drop (2 + 2 * n) s)
+  gathered_second =
+      ap word (drop_at (take 2 s) _ 2 first_two) ∙ number_taken (drop (2 + 2 * n) s) _ (omega (arith, length-drop (2 + 2 * n) s))
 
-  pub gathered-rest : (p : ℕ) → drop (4 + p) (gathered n m s) ≡ drop (4 + p + (2 * n + 2 * m)) s
-  gathered-rest p =
+  pub gathered_rest : (p : ℕ) → drop (4 + p) (gathered n m s) ≡ drop (4 + p + (2 * n + 2 * m)) s
+  gathered_rest p =
       let e : 4 + p ≡ 2 + (2 + p) = omega arith in
       let f : 4 + p + (2 * n + 2 * m) ≡ 4 + 2 * n + 2 * m + p = omega arith in
       let rest = drop (4 + 2 * n + 2 * m) s in
       ap (λ (k : ℕ). drop k (gathered n m s)) e ∙ sym (drop-drop (2 + p) 2 (gathered n m s)) ∙ ap (drop (2 + p)) (drop_at (take 2 s) _ 2 first_two)
-      ∙ sym (drop-drop p 2 (take 2 (drop (2 + 2 * n) s) ++ rest)) ∙ ap (drop p) (drop_at (take 2 (drop (2 + 2 * n) s)) rest 2 second-two)
+      ∙ sym (drop-drop p 2 (take 2 (drop (2 + 2 * n) s) ++ rest)) ∙ ap (drop p) (drop_at (take 2 (drop (2 + 2 * n) s)) rest 2 second_two)
       ∙ drop-drop p (4 + 2 * n + 2 * m) s ∙ ap (λ (k : ℕ). drop k s) (sym f)
 
 -- where the number after so many stands, by the fields with the later values between them
-abbrev pub placeAfter : (later minor count : ℕ) → ℕ
-placeAfter later minor zero = 0
-placeAfter later minor (suc zero) = 2 + 2 * later
-placeAfter later minor (suc (suc count)) = 2 * suc (suc count) + 2 * (later + minor)
+abbrev pub place_after : (later minor count : ℕ) → ℕ
+place_after later minor zero = 0
+place_after later minor (suc zero) = 2 + 2 * later
+place_after later minor (suc (suc count)) = 2 * suc (suc count) + 2 * (later + minor)
 
-pub gathered-word : (n m : ℕ) (s : List ℕ) → 4 + 2 * n + 2 * m ≤ length s → (count : ℕ)
-    → word (drop (placeAfter n m count) s) ≡ word (drop (2 * count) (gathered n m s))
-gathered-word n m s h zero = sym (gathered-first n m s h)
-gathered-word n m s h (suc zero) = sym (gathered-second n m s h)
-gathered-word n m s h (suc (suc count)) =
+pub gathered_word : (n m : ℕ) (s : List ℕ) → 4 + 2 * n + 2 * m ≤ length s → (count : ℕ)
+    → word (drop (place_after n m count) s) ≡ word (drop (2 * count) (gathered n m s))
+gathered_word n m s h zero = sym (gathered_first n m s h)
+gathered_word n m s h (suc zero) = sym (gathered_second n m s h)
+gathered_word n m s h (suc (suc count)) =
     let e : 2 * suc (suc count) ≡ 4 + 2 * count = omega arith in
     let f : 2 * suc (suc count) + 2 * (n + m) ≡ 4 + 2 * count + (2 * n + 2 * m) = omega arith in
-    ap word (ap (λ (k : ℕ). drop k s) f ∙ sym (gathered-rest n m s h (2 * count)) ∙ ap (λ (k : ℕ). drop k (gathered n m s)) (sym e))
+    ap word (ap (λ (k : ℕ). drop k s) f ∙ sym (gathered_rest n m s h (2 * count)) ∙ ap (λ (k : ℕ). drop k (gathered n m s)) (sym e))
 
 -- and the fields that are gathered, with what was between them put back, are what they were gathered from
 take_past : (p q : List ℕ) (k n : ℕ) → length p ≡ k → take (k + n) (p ++ q) ≡ p ++ take n q
@@ -161,11 +161,11 @@ module _ (n m w : ℕ) (s a b r : List ℕ) (la : length a ≡ 2) (lb : length b
   first_part : List ℕ
   first_part = take 2 s
 
-  second-part : List ℕ
-  second-part = take 2 (drop (2 + 2 * n) s)
+  second_part : List ℕ
+  second_part = take 2 (drop (2 + 2 * n) s)
 
-  parts : a ++ (b ++ r) ≡ first_part ++ (second-part ++ take w (drop (4 + 2 * n + 2 * m) s))
-  unfolding first_part second-part
+  parts : a ++ (b ++ r) ≡ first_part ++ (second_part ++ take w (drop (4 + 2 * n + 2 * m) s))
+  unfolding first_part second_part
   parts =
       let e : 4 + w ≡ 2 + (2 + w) = omega arith in
       let rest = drop (4 + 2 * n + 2 * m) s in
@@ -174,34 +174,34 @@ module _ (n m w : ℕ) (s a b r : List ℕ) (la : length a ≡ 2) (lb : length b
       is ∙ ap (λ (k : ℕ). take k (gathered n m s)) e ∙ take_past (take 2 s) (take 2 (drop (2 + 2 * n) s) ++ rest) 2 (2 + w) lf
       ∙ ap (λ (l : List ℕ). take 2 s ++ l) (take_past (take 2 (drop (2 + 2 * n) s)) rest 2 w ls)
 
-  a-is : a ≡ take 2 s
+  a_is : a ≡ take 2 s
   unfolding first_part
-  a-is = sym (take_at a (b ++ r) 2 la) ∙ ap (take 2) parts ∙ take_at (take 2 s) _ 2 (length-take-le 2 s (omega arith))
+  a_is = sym (take_at a (b ++ r) 2 la) ∙ ap (take 2) parts ∙ take_at (take 2 s) _ 2 (length-take-le 2 s (omega arith))
 
-  after-a : b ++ r ≡ second-part ++ take w (drop (4 + 2 * n + 2 * m) s)
+  after_a : b ++ r ≡ second_part ++ take w (drop (4 + 2 * n + 2 * m) s)
   unfolding first_part
-  after-a = sym (drop_at a (b ++ r) 2 la) ∙ ap (drop 2) parts ∙ drop_at (take 2 s) _ 2 (length-take-le 2 s (omega arith))
+  after_a = sym (drop_at a (b ++ r) 2 la) ∙ ap (drop 2) parts ∙ drop_at (take 2 s) _ 2 (length-take-le 2 s (omega arith))
 
-  second-long : length second-part ≡ 2
-  unfolding second-part
-  second-long = length-take-le 2 (drop (2 + 2 * n) s) (omega (arith, length-drop (2 + 2 * n) s))
+  second_long : length second_part ≡ 2
+  unfolding second_part
+  second_long = length-take-le 2 (drop (2 + 2 * n) s) (omega (arith, length-drop (2 + 2 * n) s))
 
-  b-is : b ≡ second-part
-  b-is = sym (take_at b r 2 lb) ∙ ap (take 2) after-a ∙ take_at second-part _ 2 second-long
+  b_is : b ≡ second_part
+  b_is = sym (take_at b r 2 lb) ∙ ap (take 2) after_a ∙ take_at second_part _ 2 second_long
 
-  r-is : r ≡ take w (drop (4 + 2 * n + 2 * m) s)
-  r-is = sym (drop_at b r 2 lb) ∙ ap (drop 2) after-a ∙ drop_at second-part _ 2 second-long
+  r_is : r ≡ take w (drop (4 + 2 * n + 2 * m) s)
+  r_is = sym (drop_at b r 2 lb) ∙ ap (drop 2) after_a ∙ drop_at second_part _ 2 second_long
 
-  pub spread-again : a ++ (take (2 * n) (drop 2 s) ++ (b ++ (take (2 * m) (drop (4 + 2 * n) s) ++ r))) ≡ take (4 + 2 * n + 2 * m + w) s
-  unfolding second-part
-  spread-again =
+  pub spread_again : a ++ (take (2 * n) (drop 2 s) ++ (b ++ (take (2 * m) (drop (4 + 2 * n) s) ++ r))) ≡ take (4 + 2 * n + 2 * m + w) s
+  unfolding second_part
+  spread_again =
       let e : 4 + 2 * n + 2 * m + w ≡ 2 + (2 * n + (2 + (2 * m + w))) = omega arith in
       let f : 2 + 2 * n + 2 ≡ 4 + 2 * n = omega arith in
       let g : 2 + 2 * n + 2 + 2 * m ≡ 4 + 2 * n + 2 * m = omega arith in
       rw (
-        a-is,
-        b-is,
-        r-is,
+        a_is,
+        b_is,
+        r_is,
         e,
         take-add 2 (2 * n + (2 + (2 * m + w))) s,
         take-add (2 * n) (2 + (2 * m + w)) (drop 2 s),
@@ -216,50 +216,50 @@ module _ (n m w : ℕ) (s a b r : List ℕ) (la : length a ≡ 2) (lb : length b
 
 -- WHAT IS WRITTEN IS READ BACK: just so many years, each within the range
 pub record LaterReadBack (k n : ℕ) (slots : List Slot) (t : List ℕ) : Type 0 where
-  pub values : laterRead k n (laterBytes slots ++ t) ≡ slots
-  pub right : laterAllowed n (laterBytes slots ++ t) ≡ true
-  pub long : length (laterBytes slots) ≡ 2 * n
+  pub values : later_read k n (later_bytes slots ++ t) ≡ slots
+  pub right : later_allowed n (later_bytes slots ++ t) ≡ true
+  pub long : length (later_bytes slots) ≡ 2 * n
 
-pub later-read-back : (k n : ℕ) (slots : List Slot) (t : List ℕ) → length slots ≡ k → laterFits n slots ≡ true → LaterReadBack k n slots t
-unfolding laterRead laterAllowed laterBytes laterFits
-later-read-back zero zero [] t l f = record { values = refl; right = refl; long = refl }
-later-read-back zero (suc n) [] t l f = absurd (omega (arith, eqb-true (suc n) 0 f))
-later-read-back (suc k) n [] t l f = absurd (omega arith)
-later-read-back zero n (slot ∷ slots) t l f = absurd (omega arith)
-later-read-back (suc k) zero (Absent ∷ slots) t l f =
-    let later = later-read-back k zero slots t (omega arith) (and_right true _ f) in
+pub later_read_back : (k n : ℕ) (slots : List Slot) (t : List ℕ) → length slots ≡ k → later_fits n slots ≡ true → LaterReadBack k n slots t
+unfolding later_read later_allowed later_bytes later_fits
+later_read_back zero zero [] t l f = record { values = refl; right = refl; long = refl }
+later_read_back zero (suc n) [] t l f = absurd (omega (arith, eqb-true (suc n) 0 f))
+later_read_back (suc k) n [] t l f = absurd (omega arith)
+later_read_back zero n (slot ∷ slots) t l f = absurd (omega arith)
+later_read_back (suc k) zero (Absent ∷ slots) t l f =
+    let later = later_read_back k zero slots t (omega arith) (and_right true _ f) in
     record { values = ap (λ (x : List Slot). Absent ∷ x) later.values; right = refl; long = later.long }
-later-read-back (suc k) zero (Number value ∷ slots) t l f = absurd (true≢false (sym f))
-later-read-back (suc k) (suc n) (Absent ∷ slots) t l f = absurd (true≢false (sym f))
-later-read-back (suc k) (suc n) (Number value ∷ slots) t l f =
-    let later = later-read-back k n slots t (omega arith) (and_right (allows traffic value) _ f) in
+later_read_back (suc k) zero (Number value ∷ slots) t l f = absurd (true≢false (sym f))
+later_read_back (suc k) (suc n) (Absent ∷ slots) t l f = absurd (true≢false (sym f))
+later_read_back (suc k) (suc n) (Number value ∷ slots) t l f =
+    let later = later_read_back k n slots t (omega arith) (and_right (allows traffic value) _ f) in
     record {
-      values = rw (two_bytes value) (ap (λ (x : List Slot). Number value ∷ x) later.values);
-      right = rw (two_bytes value, and_left (allows traffic value) _ f) later.right;
+      values = rw (two_bytes_lem value) (ap (λ (x : List Slot). Number value ∷ x) later.values);
+      right = rw (two_bytes_lem value, and_left (allows traffic value) _ f) later.right;
       long = omega (arith, later.long);
     }
 
 -- AND WHAT IS READ IS WRITTEN AGAIN
 pub record LaterRewritten (k n : ℕ) (s : List ℕ) : Type 0 where
-  pub fit : laterFits n (laterRead k n s) ≡ true
-  pub count : length (laterRead k n s) ≡ k
-  pub bytes : Bytes s → laterBytes (laterRead k n s) ≡ take (2 * n) s
+  pub fit : later_fits n (later_read k n s) ≡ true
+  pub count : length (later_read k n s) ≡ k
+  pub bytes : Bytes s → later_bytes (later_read k n s) ≡ take (2 * n) s
 
-pub later-rewritten : (k n : ℕ) (s : List ℕ) → n ≤ k → 2 * n ≤ length s → laterAllowed n s ≡ true → LaterRewritten k n s
-unfolding laterRead laterAllowed laterBytes laterFits
-later-rewritten zero zero s h l a = record { fit = refl; count = refl; bytes = λ b. refl }
-later-rewritten zero (suc n) s h l a = absurd (omega arith)
-later-rewritten (suc k) zero s h l a =
-    let later = later-rewritten k zero s (omega arith) l a in
+pub later_rewritten : (k n : ℕ) (s : List ℕ) → n ≤ k → 2 * n ≤ length s → later_allowed n s ≡ true → LaterRewritten k n s
+unfolding later_read later_allowed later_bytes later_fits
+later_rewritten zero zero s h l a = record { fit = refl; count = refl; bytes = λ b. refl }
+later_rewritten zero (suc n) s h l a = absurd (omega arith)
+later_rewritten (suc k) zero s h l a =
+    let later = later_rewritten k zero s (omega arith) l a in
     record { fit = later.fit; count = ap suc later.count; bytes = later.bytes }
-later-rewritten (suc k) (suc n) s h l a =
-    let later = later-rewritten k n (drop 2 s) (omega arith) (omega (arith, length-drop 2 s)) (and_right (allows traffic (word s)) _ a) in
+later_rewritten (suc k) (suc n) s h l a =
+    let later = later_rewritten k n (drop 2 s) (omega arith) (omega (arith, length-drop 2 s)) (and_right (allows traffic (word s)) _ a) in
     record {
       fit = rw (and_left (allows traffic (word s)) _ a) later.fit;
       count = ap suc later.count;
       bytes = λ b.
           let e : 2 * suc n ≡ 2 + 2 * n = omega arith in
-          rw (e, take-add 2 (2 * n) s, ← bytes-of-word s b (omega arith), later.bytes (λ i. rw get_or-drop (b (2 + i))));
+          rw (e, take-add 2 (2 * n) s, ← bytes_of_word s b (omega arith), later.bytes (λ i. rw get_or-drop (b (2 + i))));
     }
 
 -- slots taken one by one from a place are those that stand there
@@ -267,56 +267,56 @@ unfoldable pub firsts : ℕ → ℕ → List Slot → List Slot
 firsts zero i slots = []
 firsts (suc n) i slots = get_or slots i Absent ∷ firsts n (suc i) slots
 
-pub firsts-drop : (n i : ℕ) (slots : List Slot) → length slots ≡ i + n → firsts n i slots ≡ drop i slots
+pub firsts_drop : (n i : ℕ) (slots : List Slot) → length slots ≡ i + n → firsts n i slots ≡ drop i slots
 unfolding firsts
-firsts-drop zero i slots e = let h : length slots ≤ i = omega arith in sym (drop_of_length-le slots h)
-firsts-drop (suc n) i slots e =
+firsts_drop zero i slots e = let h : length slots ≤ i = omega arith in sym (drop_of_length-le slots h)
+firsts_drop (suc n) i slots e =
     let h : i < length slots = omega arith in
-    ap (λ (l : List Slot). get_or slots i Absent ∷ l) (firsts-drop n (suc i) slots (omega arith)) ∙ sym (drop-cons slots i Absent h)
+    ap (λ (l : List Slot). get_or slots i Absent ∷ l) (firsts_drop n (suc i) slots (omega arith)) ∙ sym (drop-cons slots i Absent h)
 
 -- the years of a site are the slots that they were made of
-pub later-slots-of : (slots : List Slot) → length slots ≡ laterYears → laterSlots (laterOf slots) ≡ slots
+pub later_slots_of : (slots : List Slot) → length slots ≡ later_years → later_slots (later_from_slots slots) ≡ slots
 unfolding firsts
-later-slots-of slots e = firsts-drop laterYears 0 slots (e ∙ omega arith)
+later_slots_of slots e = firsts_drop later_years 0 slots (e ∙ omega arith)
 
 -- nothing past them bears on them
 pub record LaterAlike (k n : ℕ) (s t : List ℕ) : Type 0 where
-  pub values : laterRead k n (s ++ t) ≡ laterRead k n s
-  pub right : laterAllowed n (s ++ t) ≡ laterAllowed n s
+  pub values : later_read k n (s ++ t) ≡ later_read k n s
+  pub right : later_allowed n (s ++ t) ≡ later_allowed n s
 
-pub later-alike : (k n : ℕ) (s t : List ℕ) → 2 * n ≤ length s → LaterAlike k n s t
-unfolding laterRead laterAllowed
-later-alike zero zero s t h = record { values = refl; right = refl }
-later-alike (suc k) zero s t h = record { values = ap (λ (x : List Slot). Absent ∷ x) (later-alike k zero s t h).values; right = refl }
-later-alike zero (suc n) s t h =
-    let later = later-alike zero n (drop 2 s) t (omega (arith, length-drop 2 s)) in
+pub later_alike : (k n : ℕ) (s t : List ℕ) → 2 * n ≤ length s → LaterAlike k n s t
+unfolding later_read later_allowed
+later_alike zero zero s t h = record { values = refl; right = refl }
+later_alike (suc k) zero s t h = record { values = ap (λ (x : List Slot). Absent ∷ x) (later_alike k zero s t h).values; right = refl }
+later_alike zero (suc n) s t h =
+    let later = later_alike zero n (drop 2 s) t (omega (arith, length-drop 2 s)) in
     record { values = refl; right = rw (same_word s t (omega arith), drop-append-le 2 s t (omega arith), later.right) }
-later-alike (suc k) (suc n) s t h =
-    let later = later-alike k n (drop 2 s) t (omega (arith, length-drop 2 s)) in
+later_alike (suc k) (suc n) s t h =
+    let later = later_alike k n (drop 2 s) t (omega (arith, length-drop 2 s)) in
     let w = same_word s t (omega arith) in
     let d = drop-append-le 2 s t (omega arith) in
     record { values = rw (w, d, later.values); right = rw (w, d, later.right) }
 
 -- a value by its year
-pub later-given : (k n : ℕ) (s : List ℕ) → n ≤ k → (i : ℕ) → i < n → get_or (laterRead k n s) i Absent ≡ Number (word (drop (2 * i) s))
-unfolding laterRead
-later-given zero n s h i l = absurd (omega arith)
-later-given (suc k) zero s h i l = absurd (omega arith)
-later-given (suc k) (suc n) s h zero l = refl
-later-given (suc k) (suc n) s h (suc i) l =
+pub later_given_lem : (k n : ℕ) (s : List ℕ) → n ≤ k → (i : ℕ) → i < n → get_or (later_read k n s) i Absent ≡ Number (word (drop (2 * i) s))
+unfolding later_read
+later_given_lem zero n s h i l = absurd (omega arith)
+later_given_lem (suc k) zero s h i l = absurd (omega arith)
+later_given_lem (suc k) (suc n) s h zero l = refl
+later_given_lem (suc k) (suc n) s h (suc i) l =
     let e : 2 * suc i ≡ 2 + 2 * i = omega arith in
-    later-given k n (drop 2 s) (omega arith) i (omega arith) ∙ rw (e, drop-drop (2 * i) 2 s) refl
+    later_given_lem k n (drop 2 s) (omega arith) i (omega arith) ∙ rw (e, drop-drop (2 * i) 2 s) refl
 
-pub later-absent : (k n : ℕ) (s : List ℕ) (i : ℕ) → n ≤ i → get_or (laterRead k n s) i Absent ≡ Absent
-unfolding laterRead
-later-absent zero n s i l = refl
-later-absent (suc k) zero s zero l = refl
-later-absent (suc k) zero s (suc i) l = later-absent k zero s i (omega arith)
-later-absent (suc k) (suc n) s zero l = absurd (omega arith)
-later-absent (suc k) (suc n) s (suc i) l = later-absent k n (drop 2 s) i (omega arith)
+pub later_absent : (k n : ℕ) (s : List ℕ) (i : ℕ) → n ≤ i → get_or (later_read k n s) i Absent ≡ Absent
+unfolding later_read
+later_absent zero n s i l = refl
+later_absent (suc k) zero s zero l = refl
+later_absent (suc k) zero s (suc i) l = later_absent k zero s i (omega arith)
+later_absent (suc k) (suc n) s zero l = absurd (omega arith)
+later_absent (suc k) (suc n) s (suc i) l = later_absent k n (drop 2 s) i (omega arith)
 
-pub allowed_at : (n : ℕ) (s : List ℕ) → laterAllowed n s ≡ true → (i : ℕ) → i < n → allows traffic (word (drop (2 * i) s)) ≡ true
-unfolding laterAllowed
+pub allowed_at : (n : ℕ) (s : List ℕ) → later_allowed n s ≡ true → (i : ℕ) → i < n → allows traffic (word (drop (2 * i) s)) ≡ true
+unfolding later_allowed
 allowed_at zero s e i h = absurd (omega arith)
 allowed_at (suc n) s e zero h = and_left (allows traffic (word s)) _ e
 allowed_at (suc n) s e (suc i) h =
@@ -329,13 +329,13 @@ pub record Outside (n : ℕ) (s : List ℕ) : Type 0 where
   pub below : at < n
   pub outside : allows traffic (word (drop (2 * at) s)) ≡ false
 
-pub some-outside : (n : ℕ) (s : List ℕ) → laterAllowed n s ≡ false → Outside n s
-unfolding laterAllowed
-some-outside zero s e = absurd (true≢false e)
-some-outside (suc n) s e = by (allows traffic (word s)) refl e (some-outside n (drop 2 s))
+pub some_outside : (n : ℕ) (s : List ℕ) → later_allowed n s ≡ false → Outside n s
+unfolding later_allowed
+some_outside zero s e = absurd (true≢false e)
+some_outside (suc n) s e = by (allows traffic (word s)) refl e (some_outside n (drop 2 s))
   where
-    by : (b : Bool) → allows traffic (word s) ≡ b → (b && laterAllowed n (drop 2 s)) ≡ false
-        → (laterAllowed n (drop 2 s) ≡ false → Outside n (drop 2 s)) → Outside (suc n) s
+    by : (b : Bool) → allows traffic (word s) ≡ b → (b && later_allowed n (drop 2 s)) ≡ false
+        → (later_allowed n (drop 2 s) ≡ false → Outside n (drop 2 s)) → Outside (suc n) s
     by false q f later = record { at = 0; below = omega arith; outside = q }
     by true q f later =
         let o = later f in

@@ -1,7 +1,7 @@
 -- To be believed, since contracts of public calls cite it: Rules, Yearly, Answers, Record and Writing, document 01's bits by number (Fields), a
--- site's numbers (`number`, `segmentOf` and `crossing_of` of Numbers), and what the public calls promise (Promises, with `RecordCause` of
--- RecordCauses and what stands before it there, `HeadPresent` of Accepted, `mapMatched` of Curve, and `RecordLength` of Theorems). Contracts of
--- inner steps cite `bitCount` of Tested, `Parts` of Accepted, `placeAfter` of LaterLaws, the sizes of Numbers and `longest` of Theorems too.
+-- site's numbers (`number`, `segment_of` and `crossing_of` of Numbers), and what the public calls promise (Promises, with `RecordCause` of
+-- RecordCauses and what stands before it there, `HeadPresent` of Accepted, `map_matched` of Curve, and `RecordLength` of Theorems). Contracts of
+-- inner steps cite `bit_count` of Tested, `Parts` of Accepted, `place_after` of LaterLaws, the sizes of Numbers and `longest` of Theorems too.
 -- Everything else is a law about these; what more a law speaks of, as `Bytes` of Digits or `WrongLater` of Ranges, is defined before it.
 pub mod Rules
 pub mod Yearly

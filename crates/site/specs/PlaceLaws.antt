@@ -7,97 +7,97 @@ use native.Mathlib.Omega.{arith}
 use Rattle.std.proofs.Math.ListN.{drop}
 use Rattle.std.proofs.Math.Seq.{drop-drop}
 use Rattle.std.proofs.lemmas.Bool.{not-false}
-use Rattle.site.specs.Yearly.{laterMinor}
-use Rattle.site.specs.Record.{word, misses, words, kindIn, fieldMapIn, rulesIn, laterIn, laterMinorIn, fieldsIn, laterAt, laterMinorAt, lengthIn}
-use Rattle.site.specs.Fields.{mapBits, bit_at, standing, laterTold, numbersOf, numbersBelow, place_of, value_at, number_at, fieldsEnd}
+use Rattle.site.specs.Yearly.{later_minor}
+use Rattle.site.specs.Record.{word, misses, words, kind_in, field_map_in, rules_in, later_in, later_minor_in, fields_in, later_at, later_minor_at, length_in}
+use Rattle.site.specs.Fields.{map_bits, bit_at, standing, later_told, numbers_of, numbers_below, place_of, value_at, number_at, fields_end}
 use Rattle.laws.specs.Truth.{and_left, and_right, or_left}
-use Rattle.site.specs.LaterLaws.{gathered-first, gathered-second, gathered-rest}
+use Rattle.site.specs.LaterLaws.{gathered_first, gathered_second, gathered_rest}
 use Rattle.site.specs.Accepted.{MapPasses}
-use Rattle.site.specs.BitLaws.{later-told, minor-told, word_at}
-use Rattle.site.specs.Curve.{mapMatched, misses-by-bits}
+use Rattle.site.specs.BitLaws.{later_told_lem, minor_told, word_at}
+use Rattle.site.specs.Curve.{map_matched, misses_by_bits}
 
 -- "Bits 0 and 1 always stand"
 pub record BothStand (map : ℕ) : Type 0 where
   pub zeroth : map % 2 ≡ 1
   pub first : map / 2 % 2 ≡ 1
 
-pub matched-both : (kind map : ℕ) → mapMatched kind map ≡ true → BothStand map
-matched-both zero map e =
+pub matched_both : (kind map : ℕ) → map_matched kind map ≡ true → BothStand map
+matched_both zero map e =
     record {
       zeroth = eqb-true (map % 2) 1 (and_left (bit_at 0 map) _ e);
       first = eqb-true (map / 2 % 2) 1 (and_left (bit_at 1 map) _ (and_right (bit_at 0 map) _ e));
     }
-matched-both (suc kind) map e =
+matched_both (suc kind) map e =
     record { zeroth = eqb-true (map % 2) 1 (and_left (bit_at 0 map) _ e); first = eqb-true (map / 2 % 2) 1 (and_right (bit_at 0 map) _ e) }
 
-pub passes-both : (edition years : ℕ) (s : List ℕ) → MapPasses edition years s → BothStand (fieldMapIn s)
-passes-both edition years s p =
-    let m = or_left (misses (rulesIn edition s) (fieldMapIn s)) _ p.miss in
-    matched-both (kindIn s) (fieldMapIn s) (not-false (mapMatched (kindIn s) (fieldMapIn s)) (sym (misses-by-bits edition (kindIn s) (fieldMapIn s) p.head.known) ∙ m))
+pub passes_both : (edition years : ℕ) (s : List ℕ) → MapPasses edition years s → BothStand (field_map_in s)
+passes_both edition years s p =
+    let m = or_left (misses (rules_in edition s) (field_map_in s)) _ p.miss in
+    matched_both (kind_in s) (field_map_in s) (not-false (map_matched (kind_in s) (field_map_in s)) (sym (misses_by_bits edition (kind_in s) (field_map_in s) p.head.known) ∙ m))
 
 -- one number each: the bits that stand
-below-ones : (b map : ℕ) → numbersBelow (λ c. 1) b map ≡ standing b map
-unfolding numbersBelow standing
-below-ones zero map = refl
-below-ones (suc b) map = omega (arith, below-ones b (map / 2))
+below_ones : (b map : ℕ) → numbers_below (λ c. 1) b map ≡ standing b map
+unfolding numbers_below standing
+below_ones zero map = refl
+below_ones (suc b) map = omega (arith, below_ones b (map / 2))
 
 -- past the two first bits, all later values stand before a number
 module _ (kind later map : ℕ) (both : BothStand map) where
-  pub below_one : numbersBelow (numbersOf kind later) 1 map ≡ 1 + later
-  unfolding numbersBelow
+  pub below_one : numbers_below (numbers_of kind later) 1 map ≡ 1 + later
+  unfolding numbers_below
   below_one = rw both.zeroth (omega arith)
 
-  pub below_more : (b : ℕ) → numbersBelow (numbersOf kind later) (suc (suc b)) map ≡ standing (suc (suc b)) map + (later + laterMinor kind later)
-  unfolding numbersBelow standing
-  below_more b = rw (both.zeroth, both.first) (omega (arith, below-ones b (map / 2 / 2)))
+  pub below_more : (b : ℕ) → numbers_below (numbers_of kind later) (suc (suc b)) map ≡ standing (suc (suc b)) map + (later + later_minor kind later)
+  unfolding numbers_below standing
+  below_more b = rw (both.zeroth, both.first) (omega (arith, below_ones b (map / 2 / 2)))
 
-  pub two-stand : (b : ℕ) → 2 ≤ standing (suc (suc b)) map
+  pub two_stand : (b : ℕ) → 2 ≤ standing (suc (suc b)) map
   unfolding standing
-  two-stand b = omega (arith, both.zeroth, both.first)
+  two_stand b = omega (arith, both.zeroth, both.first)
 
 -- THE NUMBER OF A BIT among the gathered fields is that of its place
-module _ (years : ℕ) (s : List ℕ) (both : BothStand (fieldMapIn s)) (between : 4 + 2 * laterIn years s + 2 * laterMinorIn years s ≤ length (drop 3 s)) where
-  pub number_of : (b : ℕ) → word_at b (fieldMapIn s) (fieldsIn years s) ≡ number_at years b s
-  unfolding numbersBelow standing
-  number_of zero = gathered-first (laterIn years s) (laterMinorIn years s) (drop 3 s) between
+module _ (years : ℕ) (s : List ℕ) (both : BothStand (field_map_in s)) (between : 4 + 2 * later_in years s + 2 * later_minor_in years s ≤ length (drop 3 s)) where
+  pub number_of : (b : ℕ) → word_at b (field_map_in s) (fields_in years s) ≡ number_at years b s
+  unfolding numbers_below standing
+  number_of zero = gathered_first (later_in years s) (later_minor_in years s) (drop 3 s) between
   number_of (suc zero) =
-      let n = laterIn years s in
-      let one = below_one (kindIn s) (laterTold years s) (fieldMapIn s) both in
-      let e : 2 * (fieldMapIn s % 2 + 0) ≡ 2 = omega (arith, both.zeroth) in
-      let f : place_of years 1 s + 2 * 0 ≡ 3 + (2 + 2 * n) = omega (arith, one, later-told years s) in
-      rw e (gathered-second n (laterMinorIn years s) (drop 3 s) between ∙ ap word (drop-drop (2 + 2 * n) 3 s ∙ ap (λ (k : ℕ). drop k s) (sym f)))
+      let n = later_in years s in
+      let one = below_one (kind_in s) (later_told years s) (field_map_in s) both in
+      let e : 2 * (field_map_in s % 2 + 0) ≡ 2 = omega (arith, both.zeroth) in
+      let f : place_of years 1 s + 2 * 0 ≡ 3 + (2 + 2 * n) = omega (arith, one, later_told_lem years s) in
+      rw e (gathered_second n (later_minor_in years s) (drop 3 s) between ∙ ap word (drop-drop (2 + 2 * n) 3 s ∙ ap (λ (k : ℕ). drop k s) (sym f)))
   number_of (suc (suc b)) =
-      let told = laterTold years s in
-      let two = two-stand (kindIn s) told (fieldMapIn s) both b in
-      let more = below_more (kindIn s) told (fieldMapIn s) both b in
-      at (2 * standing (suc (suc b)) (fieldMapIn s)) (omega arith) (omega (arith, more, later-told years s, minor-told years s))
+      let told = later_told years s in
+      let two = two_stand (kind_in s) told (field_map_in s) both b in
+      let more = below_more (kind_in s) told (field_map_in s) both b in
+      at (2 * standing (suc (suc b)) (field_map_in s)) (omega arith) (omega (arith, more, later_told_lem years s, minor_told years s))
     where
-      at : (p : ℕ) → 4 ≤ p → place_of years (suc (suc b)) s + 2 * 0 ≡ 3 + (p + (2 * laterIn years s + 2 * laterMinorIn years s))
-          → word (drop p (fieldsIn years s)) ≡ number_at years (suc (suc b)) s
+      at : (p : ℕ) → 4 ≤ p → place_of years (suc (suc b)) s + 2 * 0 ≡ 3 + (p + (2 * later_in years s + 2 * later_minor_in years s))
+          → word (drop p (fields_in years s)) ≡ number_at years (suc (suc b)) s
       at (suc (suc (suc (suc p)))) h e =
           let f : suc (suc (suc (suc p))) ≡ 4 + p = omega arith in
-          let g : 4 + p + (2 * laterIn years s + 2 * laterMinorIn years s) ≡ suc (suc (suc (suc p))) + (2 * laterIn years s + 2 * laterMinorIn years s) = omega arith in
-          ap word (ap (λ (k : ℕ). drop k (fieldsIn years s)) f ∙ gathered-rest (laterIn years s) (laterMinorIn years s) (drop 3 s) between p
-          ∙ drop-drop (4 + p + (2 * laterIn years s + 2 * laterMinorIn years s)) 3 s ∙ ap (λ (k : ℕ). drop k s) (ap (λ (k : ℕ). 3 + k) g ∙ sym e))
+          let g : 4 + p + (2 * later_in years s + 2 * later_minor_in years s) ≡ suc (suc (suc (suc p))) + (2 * later_in years s + 2 * later_minor_in years s) = omega arith in
+          ap word (ap (λ (k : ℕ). drop k (fields_in years s)) f ∙ gathered_rest (later_in years s) (later_minor_in years s) (drop 3 s) between p
+          ∙ drop-drop (4 + p + (2 * later_in years s + 2 * later_minor_in years s)) 3 s ∙ ap (λ (k : ℕ). drop k s) (ap (λ (k : ℕ). 3 + k) g ∙ sym e))
       at zero h e = absurd (omega arith)
       at (suc zero) h e = absurd (omega arith)
       at (suc (suc zero)) h e = absurd (omega arith)
       at (suc (suc (suc zero))) h e = absurd (omega arith)
 
 -- the later values of the two first bits
-pub later_of : (years : ℕ) (s : List ℕ) (i : ℕ) → word (drop (2 * i) (laterAt s)) ≡ value_at years 0 (suc i) s
-unfolding numbersBelow
+pub later_of : (years : ℕ) (s : List ℕ) (i : ℕ) → word (drop (2 * i) (later_at s)) ≡ value_at years 0 (suc i) s
+unfolding numbers_below
 later_of years s i =
     let e : 3 + 2 * 0 + 2 * suc i ≡ 5 + 2 * i = omega arith in
     ap word (drop-drop (2 * i) 5 s ∙ ap (λ (k : ℕ). drop k s) (sym e))
 
-pub minor-of : (years : ℕ) (s : List ℕ) → BothStand (fieldMapIn s) → (i : ℕ) → word (drop (2 * i) (laterMinorAt years s)) ≡ value_at years 1 (suc i) s
-minor-of years s both i =
-    let e : place_of years 1 s + 2 * suc i ≡ 7 + 2 * laterIn years s + 2 * i = omega (arith, below_one (kindIn s) (laterTold years s) (fieldMapIn s) both, later-told years s) in
-    ap word (drop-drop (2 * i) (7 + 2 * laterIn years s) s ∙ ap (λ (k : ℕ). drop k s) (sym e))
+pub minor_of : (years : ℕ) (s : List ℕ) → BothStand (field_map_in s) → (i : ℕ) → word (drop (2 * i) (later_minor_at years s)) ≡ value_at years 1 (suc i) s
+minor_of years s both i =
+    let e : place_of years 1 s + 2 * suc i ≡ 7 + 2 * later_in years s + 2 * i = omega (arith, below_one (kind_in s) (later_told years s) (field_map_in s) both, later_told_lem years s) in
+    ap word (drop-drop (2 * i) (7 + 2 * later_in years s) s ∙ ap (λ (k : ℕ). drop k s) (sym e))
 
 -- where the fields end
-pub end_of : (edition years : ℕ) (s : List ℕ) → BothStand (fieldMapIn s) → words (rulesIn edition s) (fieldMapIn s) ≡ standing mapBits (fieldMapIn s)
-    → lengthIn edition years s ≡ fieldsEnd years s
+pub end_of : (edition years : ℕ) (s : List ℕ) → BothStand (field_map_in s) → words (rules_in edition s) (field_map_in s) ≡ standing map_bits (field_map_in s)
+    → length_in edition years s ≡ fields_end years s
 end_of edition years s both e =
-    omega (arith, below_more (kindIn s) (laterTold years s) (fieldMapIn s) both 13, later-told years s, minor-told years s)
+    omega (arith, below_more (kind_in s) (later_told years s) (field_map_in s) both 13, later_told_lem years s, minor_told years s)

@@ -13,36 +13,36 @@ abbrev pub traffic : Rule
 traffic = Needed 1 20000
 
 -- "length L in thousandths of a mile, 1 to 20,000"
-abbrev pub segmentLength : Rule
-segmentLength = Needed 1 20000
+abbrev pub segment_length : Rule
+segment_length = Needed 1 20000
 
 -- "observed crashes O over the Y years, 0 to 500"; "Without bit 2 there is no history; a standing 0 is a history of none"
 abbrev pub observed : Rule
 observed = Optional 0 500
 
 -- "lane feet 8 to 14 (default 12)"
-abbrev pub laneWidth : Rule
-laneWidth = Default 8 14 12
+abbrev pub lane_width : Rule
+lane_width = Default 8 14 12
 
 -- "shoulder feet 0 to 10 (6)"
-abbrev pub shoulderWidth : Rule
-shoulderWidth = Default 0 10 6
+abbrev pub shoulder_width : Rule
+shoulder_width = Default 0 10 6
 
 -- "shoulder type, 0 paved, 1 gravel, 2 composite, 3 turf (0)"
-abbrev pub shoulderType : Rule
-shoulderType = Default 0 3 0
+abbrev pub shoulder_type : Rule
+shoulder_type = Default 0 3 0
 
 -- "curve length Lc, thousandths of a mile, 1 to 20,000"
-abbrev pub curveLength : Rule
-curveLength = Needed 1 20000
+abbrev pub curve_length : Rule
+curve_length = Needed 1 20000
 
 -- "radius R in feet, 100 to 30,000"
 abbrev pub radius : Rule
 radius = Needed 100 30000
 
 -- "curve ends with a spiral, 0 to 2 (0)"
-abbrev pub spiralEnds : Rule
-spiralEnds = Default 0 2 0
+abbrev pub spiral_ends : Rule
+spiral_ends = Default 0 2 0
 
 -- "superelevation deficiency D in thousandths, 0 to 100 (0)"
 abbrev pub deficiency : Rule
@@ -56,33 +56,33 @@ grade = Default 0 12 0
 abbrev pub driveways : Rule
 driveways = Default 0 50 5
 
--- "two-way left-turn lane, 0 or 1 (0)"
-abbrev pub twoWayLane : Rule
-twoWayLane = Default 0 1 0
+-- "two_way left_turn lane, 0 or 1 (0)"
+abbrev pub two_way_lane : Rule
+two_way_lane = Default 0 1 0
 
 -- "passing: 1 passing lane, 2 short four-lane section (0 none)"
 abbrev pub passing : Rule
 passing = Default 0 2 0
 
 -- "roadside hazard rating RHR, 1 to 7 (3)"
-abbrev pub hazardRating : Rule
-hazardRating = Default 1 7 3
+abbrev pub hazard_rating : Rule
+hazard_rating = Default 1 7 3
 
 -- "skew degrees 0 to 60 (0), kinds 1 and 2"
 abbrev pub skew : Rule
 skew = Default 0 60 0
 
--- "major-road left-turn lanes (0); right-turn lanes (0), each up to 1 at 3ST and 2 elsewhere"
-abbrev pub turnLanes : ℕ → Rule
-turnLanes most = Default 0 most 0
+-- "major-road left_turn lanes (0); right_turn lanes (0), each up to 1 at 3ST and 2 elsewhere"
+abbrev pub turn_lanes : ℕ → Rule
+turn_lanes most = Default 0 most 0
 
 -- document 02, request 6: "Bit 6 of a crossing gets 6 in edition 2": the editions whose stop crossings have it
-abbrev pub hasSight : (edition : ℕ) → Bool
-hasSight edition = leb edition 1
+abbrev pub has_sight : (edition : ℕ) → Bool
+has_sight edition = leb edition 1
 
 -- "quadrants with limited sight (0), up to 2 at 3ST and 4 at 4ST", where the edition has the bit
-abbrev pub limitedSight : (sight : Bool) (most : ℕ) → Rule
-limitedSight sight most = cond sight (Default 0 most 0) Lacking
+abbrev pub limited_sight : (sight : Bool) (most : ℕ) → Rule
+limited_sight sight most = cond sight (Default 0 most 0) Lacking
 
 -- The fields in the order of a site's slots, which is the rising order of the bits of each kind. A foreign field takes no
 -- bit, so that bit 3 of a segment is the lane width and bit 3 of a crossing the skew.
@@ -90,28 +90,28 @@ limitedSight sight most = cond sight (Default 0 most 0) Lacking
 abbrev pub segment : List Entry
 segment =
     Always traffic
-    ∷ Always segmentLength
+    ∷ Always segment_length
     ∷ Always Foreign
     ∷ Always observed
-    ∷ Always laneWidth
-    ∷ Always shoulderWidth
-    ∷ Always shoulderType
-    ∷ OnCurve curveLength
+    ∷ Always lane_width
+    ∷ Always shoulder_width
+    ∷ Always shoulder_type
+    ∷ OnCurve curve_length
     ∷ OnCurve radius
-    ∷ OnCurve spiralEnds
+    ∷ OnCurve spiral_ends
     ∷ OnCurve deficiency
     ∷ Always grade
     ∷ Always driveways
-    ∷ Always twoWayLane
+    ∷ Always two_way_lane
     ∷ Always passing
-    ∷ Always hazardRating
+    ∷ Always hazard_rating
     ∷ Always Foreign
     ∷ Always Foreign
     ∷ Always Foreign
     ∷ Always Foreign
     ∷ []
 
--- a crossing's skew, left-turn lanes, right-turn lanes and limited sight after what all crossings have
+-- a crossing's skew, left_turn lanes, right_turn lanes and limited sight after what all crossings have
 abbrev pub crossing : Rule → Rule → Rule → Rule → List Entry
 crossing angle left right sight =
     Always traffic
@@ -140,47 +140,47 @@ crossing angle left right sight =
 abbrev pub table : (sight : Bool) → List (List Entry)
 table sight =
     segment
-    ∷ crossing skew (turnLanes 1) (turnLanes 1) (limitedSight sight 2)
-    ∷ crossing skew (turnLanes 2) (turnLanes 2) (limitedSight sight 4)
-    ∷ crossing Lacking (turnLanes 2) (turnLanes 2) Lacking
+    ∷ crossing skew (turn_lanes 1) (turn_lanes 1) (limited_sight sight 2)
+    ∷ crossing skew (turn_lanes 2) (turn_lanes 2) (limited_sight sight 4)
+    ∷ crossing Lacking (turn_lanes 2) (turn_lanes 2) Lacking
     ∷ []
 
 -- the rules of a kind, one for each slot of a site, and in an edition
-abbrev pub entriesBy : (sight : Bool) (kind : ℕ) → List Entry
-entriesBy sight kind = get_or (table sight) kind []
+abbrev pub entries_by : (sight : Bool) (kind : ℕ) → List Entry
+entries_by sight kind = get_or (table sight) kind []
 
-unfoldable pub entriesOf : (edition kind : ℕ) → List Entry
-entriesOf edition kind = entriesBy (hasSight edition) kind
+unfoldable pub entries_of : (edition kind : ℕ) → List Entry
+entries_of edition kind = entries_by (has_sight edition) kind
 
 -- "kind above 3"
-abbrev pub lastKind : ℕ
-lastKind = 3
+abbrev pub last_kind : ℕ
+last_kind = 3
 
 -- what a site has: traffic, length, minor traffic and so on
-abbrev pub slotCount : ℕ
-slotCount = 20
+abbrev pub slot_count : ℕ
+slot_count = 20
 
 -- a value lies from low to high
 abbrev pub inside : ℕ → ℕ → ℕ → Bool
 inside low high value = leb low value && leb value high
 
 -- "edition, 1", and document 02, request 6: "3 now means neither 1 nor 2"
-abbrev pub lastEdition : ℕ
-lastEdition = 2
+abbrev pub last_edition : ℕ
+last_edition = 2
 
-abbrev pub editionKnown : ℕ → Bool
-editionKnown edition = inside 1 lastEdition edition
+abbrev pub edition_known : ℕ → Bool
+edition_known edition = inside 1 last_edition edition
 
 -- "years Y, 1 to 10"
-abbrev pub mostYears : ℕ
-mostYears = 10
+abbrev pub most_years : ℕ
+most_years = 10
 
-abbrev pub yearsKnown : ℕ → Bool
-yearsKnown years = inside 1 mostYears years
+abbrev pub years_known : ℕ → Bool
+years_known years = inside 1 most_years years
 
 -- years two to ten
-abbrev pub laterYears : ℕ
-laterYears = 9
+abbrev pub later_years : ℕ
+later_years = 9
 
 -- a number that the rule takes
 abbrev pub allows : Rule → ℕ → Bool
@@ -191,12 +191,12 @@ allows (Optional low high) value = inside low high value
 allows (Default low high usual) value = inside low high value
 
 -- what a field that does not stand is read as: "Any other absent field has its default"
-abbrev pub absentOf : Rule → Slot
-absentOf Foreign = Absent
-absentOf Lacking = Absent
-absentOf (Needed low high) = Absent
-absentOf (Optional low high) = Absent
-absentOf (Default low high usual) = Number usual
+abbrev pub absent_of : Rule → Slot
+absent_of Foreign = Absent
+absent_of Lacking = Absent
+absent_of (Needed low high) = Absent
+absent_of (Optional low high) = Absent
+absent_of (Default low high usual) = Number usual
 
 -- "needed bit absent": the field always stands
 abbrev pub needed : Rule → Bool
@@ -223,14 +223,14 @@ bits (Optional low high) = 1
 bits (Default low high usual) = 1
 
 -- the rule of a field on a curve
-abbrev pub ruleOf : Entry → Rule
-ruleOf (Always rule) = rule
-ruleOf (OnCurve rule) = rule
+abbrev pub rule_of : Entry → Rule
+rule_of (Always rule) = rule
+rule_of (OnCurve rule) = rule
 
 -- the field belongs to the curve
-abbrev pub onCurve : Entry → Bool
-onCurve (Always rule) = false
-onCurve (OnCurve rule) = true
+abbrev pub on_curve : Entry → Bool
+on_curve (Always rule) = false
+on_curve (OnCurve rule) = true
 
 -- "without them the road is straight": a straight road lacks the fields of a curve
 abbrev pub settled : Bool → Entry → Rule

@@ -9,9 +9,9 @@ use Rattle.site.specs.declared.values.Site.{Site}
 use Rattle.site.specs.declared.values.Measure.{Measure}
 use Rattle.site.specs.declared.values.Measure.TheVariants.{Length, OutsideRange}
 use Rattle.site.specs.declared.values.WriteAnswer.{WriteAnswer}
-use Rattle.site.specs.Rules.{entriesOf, lastKind, editionKnown, yearsKnown, traffic, allows, absentOf, needed, bits, onCurve, settle, absent, holds}
-use Rattle.site.specs.Yearly.{laterSlots, yearly, laterGiven, laterMinor}
-use Rattle.site.specs.Answers.{wroteAnswer}
+use Rattle.site.specs.Rules.{entries_of, last_kind, edition_known, years_known, traffic, allows, absent_of, needed, bits, on_curve, settle, absent, holds}
+use Rattle.site.specs.Yearly.{later_slots, yearly, later_given, later_minor}
+use Rattle.site.specs.Answers.{wrote_answer}
 use Rattle.laws.specs.Lent.{laid}
 
 -- the slots of a site, in the order of the rules
@@ -40,17 +40,17 @@ slots_of site =
     ∷ []
 
 -- a site has a curve where a slot of the curve holds a number: with half a curve, a needed slot of it is absent
-unfoldable pub curveHeld : List Entry → List Slot → Bool
-curveHeld [] slots = false
-curveHeld (entry ∷ entries) [] = false
-curveHeld (entry ∷ entries) (slot ∷ slots) = (onCurve entry && not (absent slot)) || curveHeld entries slots
+unfoldable pub curve_held : List Entry → List Slot → Bool
+curve_held [] slots = false
+curve_held (entry ∷ entries) [] = false
+curve_held (entry ∷ entries) (slot ∷ slots) = (on_curve entry && not (absent slot)) || curve_held entries slots
 
-abbrev pub rulesHeld : (edition kind : ℕ) → List Slot → List Rule
-rulesHeld edition kind slots = settle (curveHeld (entriesOf edition kind) slots) (entriesOf edition kind)
+abbrev pub rules_held : (edition kind : ℕ) → List Slot → List Rule
+rules_held edition kind slots = settle (curve_held (entries_of edition kind) slots) (entries_of edition kind)
 
 -- a slot is within its rule: a number that the rule takes, or absent where the reader can leave it so
 abbrev pub fits : Rule → Slot → Bool
-fits rule Absent = not (needed rule) && absent (absentOf rule)
+fits rule Absent = not (needed rule) && absent (absent_of rule)
 fits rule (Number value) = allows rule value
 
 unfoldable pub all_fit : List Rule → List Slot → Bool
@@ -59,104 +59,104 @@ all_fit (rule ∷ rules) [] = false
 all_fit (rule ∷ rules) (slot ∷ slots) = fits rule slot && all_fit rules slots
 
 -- "drops defaults": the bit of a slot, 0 where it is absent or its rule's default
-abbrev pub slotBit : Rule → Slot → ℕ
-slotBit rule Absent = 0
-slotBit rule (Number value) = cond (holds (absentOf rule) value) 0 (bits rule)
+abbrev pub slot_bit : Rule → Slot → ℕ
+slot_bit rule Absent = 0
+slot_bit rule (Number value) = cond (holds (absent_of rule) value) 0 (bits rule)
 
-unfoldable pub mapOf : List Rule → List Slot → ℕ
-mapOf [] slots = 0
-mapOf (rule ∷ rules) [] = 0
-mapOf (rule ∷ rules) (slot ∷ slots) = slotBit rule slot + (1 + bits rule) * mapOf rules slots
+unfoldable pub map_of : List Rule → List Slot → ℕ
+map_of [] slots = 0
+map_of (rule ∷ rules) [] = 0
+map_of (rule ∷ rules) (slot ∷ slots) = slot_bit rule slot + (1 + bits rule) * map_of rules slots
 
 -- "Two-byte numbers are unsigned, high byte first"
-abbrev pub twoBytes : ℕ → List ℕ
-twoBytes value = value / 256 ∷ value % 256 ∷ []
+abbrev pub two_bytes : ℕ → List ℕ
+two_bytes value = value / 256 ∷ value % 256 ∷ []
 
 -- "two bytes for each bit that stands, in rising order"
-abbrev pub slotBytes : Slot → List ℕ
-slotBytes Absent = []
-slotBytes (Number value) = twoBytes value
+abbrev pub slot_bytes : Slot → List ℕ
+slot_bytes Absent = []
+slot_bytes (Number value) = two_bytes value
 
-abbrev pub fieldBytes : Rule → Slot → List ℕ
-fieldBytes rule slot = cond (eqb (slotBit rule slot) 1) (slotBytes slot) []
+abbrev pub field_bytes : Rule → Slot → List ℕ
+field_bytes rule slot = cond (eqb (slot_bit rule slot) 1) (slot_bytes slot) []
 
 unfoldable pub bytes_of : List Rule → List Slot → List ℕ
 bytes_of [] slots = []
 bytes_of (rule ∷ rules) [] = []
-bytes_of (rule ∷ rules) (slot ∷ slots) = fieldBytes rule slot ++ bytes_of rules slots
+bytes_of (rule ∷ rules) (slot ∷ slots) = field_bytes rule slot ++ bytes_of rules slots
 
 -- document 02, request 4: the later values, year by year
-unfoldable pub laterBytes : List Slot → List ℕ
-laterBytes [] = []
-laterBytes (slot ∷ slots) = slotBytes slot ++ laterBytes slots
+unfoldable pub later_bytes : List Slot → List ℕ
+later_bytes [] = []
+later_bytes (slot ∷ slots) = slot_bytes slot ++ later_bytes slots
 
 -- "each traffic field is followed by Y − 1 more values": the fields of traffic, length and minor traffic and of all others, with the
 -- later values of traffic and of minor traffic after each
-unfoldable pub spreadBytes : List Rule → List Slot → (traffic minor : List ℕ) → List ℕ
-spreadBytes rules slots traffic minor =
-    fieldBytes (get_or rules 0 Foreign) (get_or slots 0 Absent)
+unfoldable pub spread_bytes : List Rule → List Slot → (traffic minor : List ℕ) → List ℕ
+spread_bytes rules slots traffic minor =
+    field_bytes (get_or rules 0 Foreign) (get_or slots 0 Absent)
     ++ (traffic
-    ++ (fieldBytes (get_or rules 1 Foreign) (get_or slots 1 Absent)
-    ++ (fieldBytes (get_or rules 2 Foreign) (get_or slots 2 Absent)
+    ++ (field_bytes (get_or rules 1 Foreign) (get_or slots 1 Absent)
+    ++ (field_bytes (get_or rules 2 Foreign) (get_or slots 2 Absent)
     ++ (minor
     ++ bytes_of (drop 3 rules) (drop 3 slots)))))
 
 -- "A record is a kind byte, a two-byte bit map, then two bytes for each bit that stands", and bit 15 where there are later values
-unfoldable pub recordBy : List Rule → (kind : ℕ) → List Slot → (yearly : Bool) → (traffic minor : List Slot) → List ℕ
-recordBy rules kind slots yearly traffic minor =
-    kind ∷ (twoBytes (mapOf rules slots + cond yearly 32768 0) ++ spreadBytes rules slots (laterBytes traffic) (laterBytes minor))
+unfoldable pub record_by : List Rule → (kind : ℕ) → List Slot → (yearly : Bool) → (traffic minor : List Slot) → List ℕ
+record_by rules kind slots yearly traffic minor =
+    kind ∷ (two_bytes (map_of rules slots + cond yearly 32768 0) ++ spread_bytes rules slots (later_bytes traffic) (later_bytes minor))
 
-abbrev pub recordOf : (edition : ℕ) → Site → List ℕ
-recordOf edition site =
-    recordBy (rulesHeld edition site.kind (slots_of site)) site.kind (slots_of site)
-    (yearly site) (laterSlots site.later_traffic) (laterSlots site.later_minor)
+abbrev pub record_of : (edition : ℕ) → Site → List ℕ
+record_of edition site =
+    record_by (rules_held edition site.kind (slots_of site)) site.kind (slots_of site)
+    (yearly site) (later_slots site.later_traffic) (later_slots site.later_minor)
 
 -- "The site writer counts yearly values with Y = 1, or not Y − 1 of them for each traffic field, as outside the range": the first
 -- later years have a value, within the traffic's range, and the others hold no number
-unfoldable pub laterFits : ℕ → List Slot → Bool
-laterFits later [] = eqb later 0
-laterFits zero (slot ∷ slots) = absent slot && laterFits zero slots
-laterFits (suc later) (slot ∷ slots) = fits traffic slot && laterFits later slots
+unfoldable pub later_fits : ℕ → List Slot → Bool
+later_fits later [] = eqb later 0
+later_fits zero (slot ∷ slots) = absent slot && later_fits zero slots
+later_fits (suc later) (slot ∷ slots) = fits traffic slot && later_fits later slots
 
-abbrev pub laterSound : (years : ℕ) → Site → Bool
-laterSound years site =
-    laterFits (laterGiven years site) (laterSlots site.later_traffic)
-    && laterFits (laterMinor site.kind (laterGiven years site)) (laterSlots site.later_minor)
+abbrev pub later_sound : (years : ℕ) → Site → Bool
+later_sound years site =
+    later_fits (later_given years site) (later_slots site.later_traffic)
+    && later_fits (later_minor site.kind (later_given years site)) (later_slots site.later_minor)
 
 -- nothing of a site is outside its range: "a kind above 3, a value that the kind lacks, half a curve, or a spiral or D on a
 -- straight road counts as outside its range"
-unfoldable pub soundSite : (edition years : ℕ) → Site → Bool
-soundSite edition years site =
-    leb site.kind lastKind && (all_fit (rulesHeld edition site.kind (slots_of site)) (slots_of site) && laterSound years site)
+unfoldable pub sound_site : (edition years : ℕ) → Site → Bool
+sound_site edition years site =
+    leb site.kind last_kind && (all_fit (rules_held edition site.kind (slots_of site)) (slots_of site) && later_sound years site)
 
 -- nor are the edition and the years
 unfoldable pub sound : (edition years : ℕ) → Site → Bool
-sound edition years site = editionKnown edition && (yearsKnown years && soundSite edition years site)
+sound edition years site = edition_known edition && (years_known years && sound_site edition years site)
 
 -- a site that the writer takes, and a record can be read as, in a project of an edition and of so many years
 pub record Valid (edition years : ℕ) (site : Site) : Type 0 where
-  pub is-sound : sound edition years site ≡ true
+  pub is_sound : sound edition years site ≡ true
 
 -- what a site measures: the length of its record
-unfoldable pub measureOf : (edition years : ℕ) → Site → Measure
-measureOf edition years site = cond (sound edition years site) (Length (length (recordOf edition site))) OutsideRange
+unfoldable pub measure_of : (edition years : ℕ) → Site → Measure
+measure_of edition years site = cond (sound edition years site) (Length (length (record_of edition site))) OutsideRange
 
 -- an edition or years "outside its limits is 3 or 4 .., tried first"; then "It refuses only with 8, then 10": the writer's number where
 -- the buffer has so much room
-unfoldable pub writeRefusal : (edition years : ℕ) → Site → ℕ → ℕ
-writeRefusal edition years site room =
-    cond (editionKnown edition)
-    (cond (yearsKnown years) (cond (soundSite edition years site) (cond (leb (length (recordOf edition site)) room) 0 10) 8) 4)
+unfoldable pub write_refusal : (edition years : ℕ) → Site → ℕ → ℕ
+write_refusal edition years site room =
+    cond (edition_known edition)
+    (cond (years_known years) (cond (sound_site edition years site) (cond (leb (length (record_of edition site)) room) 0 10) 8) 4)
     3
 
 -- and of a site that is measured: the writer's where the buffer just suffices
-abbrev pub measureRefusal : (edition years : ℕ) → Site → ℕ
-measureRefusal edition years site = writeRefusal edition years site (length (recordOf edition site))
+abbrev pub measure_refusal : (edition years : ℕ) → Site → ℕ
+measure_refusal edition years site = write_refusal edition years site (length (record_of edition site))
 
 -- what the site writer answers
-unfoldable pub writeAnswer : (edition years : ℕ) → Site → ℕ → WriteAnswer
-writeAnswer edition years site room = wroteAnswer (writeRefusal edition years site room) (length (recordOf edition site))
+unfoldable pub write_answer : (edition years : ℕ) → Site → ℕ → WriteAnswer
+write_answer edition years site room = wrote_answer (write_refusal edition years site room) (length (record_of edition site))
 
 -- the buffer afterwards
-unfoldable pub writeInto : (edition years : ℕ) → Site → List ℕ → List ℕ
-writeInto edition years site before = cond (sound edition years site) (laid (recordOf edition site) before) before
+unfoldable pub write_into : (edition years : ℕ) → Site → List ℕ → List ℕ
+write_into edition years site before = cond (sound edition years site) (laid (record_of edition site) before) before

@@ -3,17 +3,17 @@ use Rattle.std.specs.Prelude.{◌≡◌, List, ℕ, ◌≤◌, length}
 use Rattle.std.proofs.Common.{sym}
 use Rattle.std.proofs.lemmas.List.Edits.{sets}
 use borrow.Author.Tests.{le-leb}
-use Rattle.laws.specs.Stores.{sets-laid}
+use Rattle.laws.specs.Stores.{sets_laid}
 use Rattle.site.specs.declared.values.Site.{Site}
 use Rattle.site.specs.declared.values.WriteAnswer.TheVariants.{Written}
-use Rattle.site.specs.Writing.{recordOf, Valid, writeAnswer, writeInto}
-use Rattle.site.specs.Theorems.{zero-exactly}
+use Rattle.site.specs.Writing.{record_of, Valid, write_answer, write_into}
+use Rattle.site.specs.Theorems.{zero_exactly}
 
-module _ {edition years : ℕ} {site : Site} (before : List ℕ) (v : Valid edition years site) (fits : length (recordOf edition site) ≤ length before) where
-  pub length-answered : writeAnswer edition years site (length before) ≡ Written (length (recordOf edition site))
-  unfolding writeAnswer
-  length-answered = rw ((zero-exactly edition years site (length before)).1 (v, fits))
+module _ {edition years : ℕ} {site : Site} (before : List ℕ) (v : Valid edition years site) (fits : length (record_of edition site) ≤ length before) where
+  pub length_answered : write_answer edition years site (length before) ≡ Written (length (record_of edition site))
+  unfolding write_answer
+  length_answered = rw ((zero_exactly edition years site (length before)).1 (v, fits))
 
-  pub record-written : writeInto edition years site before ≡ sets before 0 (recordOf edition site)
-  unfolding writeInto
-  record-written = rw (v.is-sound, le-leb (length (recordOf edition site)) (length before) fits) (sym (sets-laid (recordOf edition site) before fits))
+  pub record_written : write_into edition years site before ≡ sets before 0 (record_of edition site)
+  unfolding write_into
+  record_written = rw (v.is_sound, le-leb (length (record_of edition site)) (length before) fits) (sym (sets_laid (record_of edition site) before fits))

@@ -7,8 +7,8 @@ use Rattle.site.specs.declared.values.Site.{Site}
 use Rattle.site.specs.Rules.{absent}
 
 -- the slots of the later years, year by year, and the later years of a list of slots
-abbrev pub laterSlots : Later → List Slot
-laterSlots later =
+abbrev pub later_slots : Later → List Slot
+later_slots later =
     later.second
     ∷ later.third
     ∷ later.fourth
@@ -20,8 +20,8 @@ laterSlots later =
     ∷ later.tenth
     ∷ []
 
-abbrev pub laterOf : List Slot → Later
-laterOf slots =
+abbrev pub later_from_slots : List Slot → Later
+later_from_slots slots =
     record {
       second = get_or slots 0 Absent;
       third = get_or slots 1 Absent;
@@ -35,17 +35,17 @@ laterOf slots =
     }
 
 -- "a site holds no number for a year not given": no later year
-abbrev pub noLater : Later
-noLater = laterOf []
+abbrev pub no_later : Later
+no_later = later_from_slots []
 
 -- a site has a traffic for each year where it has one for the second: "for each traffic field" all of them are given, or none
 abbrev pub yearly : Site → Bool
 yearly site = not (absent site.later_traffic.second)
 
 -- how many later values follow the traffic of a site
-abbrev pub laterGiven : (years : ℕ) → Site → ℕ
-laterGiven years site = cond (yearly site) (years - 1) 0
+abbrev pub later_given : (years : ℕ) → Site → ℕ
+later_given years site = cond (yearly site) (years - 1) 0
 
 -- and the minor traffic, which a segment does not have
-abbrev pub laterMinor : (kind later : ℕ) → ℕ
-laterMinor kind later = cond (eqb kind 0) 0 later
+abbrev pub later_minor : (kind later : ℕ) → ℕ
+later_minor kind later = cond (eqb kind 0) 0 later

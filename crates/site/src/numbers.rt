@@ -1,6 +1,6 @@
 // The numbers of a site by its kind, as the model takes them.
 ghost use Rattle.std.specs.Prelude.{◌≡◌};
-ghost use Rattle.site.specs.Numbers.{segmentOf, crossing_of};
+ghost use Rattle.site.specs.Numbers.{segment_of, crossing_of};
 ghost use Rattle.site.specs.Numbers as numbers;
 
 use crate::rules::is_absent;
@@ -38,7 +38,7 @@ pub struct Segment {
 
 // The numbers of a site that is a segment, at a traffic; a straight road has no curve length.
 pub fn segment_of(site: Site, traffic: u64) -> Segment
-    ensures { result ≡ segmentOf traffic site }
+    ensures { result ≡ segment_of traffic site }
 {
     let length = site.length;
     let lane_width = site.lane_width;

@@ -1,9 +1,9 @@
 // The rules of each kind and field, in one table. Loops go by the rules of a kind and know no
 // field.
 ghost use Rattle.std.specs.Prelude.{◌≡◌, ◌≤◌, length, cond};
-ghost use Rattle.site.specs.Rules.{segment, crossing, entriesOf, lastKind, slotCount, inside, allows, absentOf};
-ghost use Rattle.site.specs.Rules.{needed, lacking, bits, ruleOf, onCurve, settled, settle, absent, holds, editionKnown, yearsKnown};
-ghost use Rattle.site.specs.Rules.{hasSight};
+ghost use Rattle.site.specs.Rules.{segment, crossing, entries_of, last_kind, slot_count, inside, allows, absent_of};
+ghost use Rattle.site.specs.Rules.{needed, lacking, bits, rule_of, on_curve, settled, settle, absent, holds, edition_known, years_known};
+ghost use Rattle.site.specs.Rules.{has_sight};
 ghost use Rattle.site.specs.declared.rules.Rule.TheVariants as rule;
 
 use crate::values::Slot;
@@ -137,15 +137,15 @@ fn crossing_entries(angle: Rule, left: Rule, right: Rule, sight: Rule) -> [Entry
 
 // A stop crossing's rule of limited sight, which edition 1 alone has.
 fn sight_rule(edition: u64, quadrants: Rule) -> Rule
-    ensures { result ≡ cond (hasSight edition) quadrants rule.Lacking }
+    ensures { result ≡ cond (has_sight edition) quadrants rule.Lacking }
 {
     if edition <= 1 { quadrants } else { Lacking }
 }
 
 // The table of rules in an edition: 0 segment, 1 3ST, 2 4ST, 3 4SG.
 pub fn entries_of(edition: u64, kind: u8) -> [Entry; SLOTS]
-    requires { kind ≤ lastKind }
-    ensures { result ≡ entriesOf edition kind }
+    requires { kind ≤ last_kind }
+    ensures { result ≡ entries_of edition kind }
 {
     match kind {
         0 => segment_entries(),
@@ -168,14 +168,14 @@ fn is_inside(low: u16, high: u16, value: u16) -> bool
 
 // Whether there is such an edition.
 pub fn is_edition_known(edition: u64) -> bool
-    ensures { result ≡ editionKnown edition }
+    ensures { result ≡ edition_known edition }
 {
     1 <= edition && edition <= LAST_EDITION
 }
 
 // Whether a project can have so many years.
 pub fn are_years_known(years: u64) -> bool
-    ensures { result ≡ yearsKnown years }
+    ensures { result ≡ years_known years }
 {
     1 <= years && years <= MOST_YEARS
 }
@@ -195,7 +195,7 @@ pub fn does_allow(rule: Rule, value: u16) -> bool
 
 // What a field that does not stand is read as.
 pub fn absent_of(rule: Rule) -> Slot
-    ensures { result ≡ absentOf rule }
+    ensures { result ≡ absent_of rule }
 {
     match rule {
         Rule::Foreign => Slot::Absent,
@@ -245,7 +245,7 @@ pub fn bits_of(rule: Rule) -> u16
 
 // The rule of a field on a curve.
 pub fn rule_of(entry: Entry) -> Rule
-    ensures { result ≡ ruleOf entry }
+    ensures { result ≡ rule_of entry }
 {
     match entry {
         Entry::Always(rule) => rule,
@@ -254,7 +254,7 @@ pub fn rule_of(entry: Entry) -> Rule
 }
 
 pub fn is_on_curve(entry: Entry) -> bool
-    ensures { result ≡ onCurve entry }
+    ensures { result ≡ on_curve entry }
 {
     match entry {
         Entry::Always(_) => false,
@@ -274,7 +274,7 @@ fn settled_rule(curved: bool, entry: Entry) -> Rule
 
 // The rules of a road with a curve, or of a straight one.
 pub fn settle_rules(curved: bool, entries: [Entry; SLOTS]) -> [Rule; SLOTS]
-    requires { length entries ≡ slotCount }
+    requires { length entries ≡ slot_count }
     ensures { result ≡ settle curved entries }
 {
     let none = Rule::Foreign;

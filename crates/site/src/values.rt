@@ -1,7 +1,7 @@
 // A site's values, what it is made of, and what the reader and the writer answer.
 ghost use Rattle.std.specs.Prelude.{◌≡◌, ◌≤◌};
-ghost use Rattle.site.specs.Yearly.{laterOf, laterSlots, yearly, laterMinor};
-ghost use Rattle.site.specs.Record.{siteOf};
+ghost use Rattle.site.specs.Yearly.{later_from_slots, later_slots, yearly, later_minor};
+ghost use Rattle.site.specs.Record.{site_of};
 ghost use Rattle.site.specs.Writing.{slots_of};
 
 use crate::rules::{LATER_YEARS, SLOTS, is_absent};
@@ -61,7 +61,7 @@ pub struct Site {
 
 // The later years of nine slots, year by year.
 pub fn later_of(slots: [Slot; LATER_YEARS]) -> Later
-    ensures { result ≡ laterOf slots }
+    ensures { result ≡ later_from_slots slots }
 {
     Later {
         second: slots[0],
@@ -78,7 +78,7 @@ pub fn later_of(slots: [Slot; LATER_YEARS]) -> Later
 
 // And their slots.
 pub fn later_slots(later: Later) -> [Slot; LATER_YEARS]
-    ensures { result ≡ laterSlots later }
+    ensures { result ≡ later_slots later }
 {
     let second = later.second;
     let third = later.third;
@@ -105,14 +105,14 @@ pub fn is_yearly(site: Site) -> bool
 
 // How many later values follow the minor traffic: as many as the traffic's; a segment has no minor traffic.
 pub fn minor_later(kind: u8, later: usize) -> usize
-    ensures { (result ≡ laterMinor kind later) × (result ≤ later) }
+    ensures { (result ≡ later_minor kind later) × (result ≤ later) }
 {
     if kind == 0 { 0 } else { later }
 }
 
 // A site of its kind, its slots and the later years of its traffics.
 pub fn site_of(kind: u8, slots: [Slot; SLOTS], traffic: Later, minor: Later) -> Site
-    ensures { result ≡ siteOf kind slots traffic minor }
+    ensures { result ≡ site_of kind slots traffic minor }
 {
     Site {
         kind,

@@ -1,9 +1,9 @@
 // What the reader, the writer and the header share of bytes: two-byte numbers, and how many a record's fields take by its map.
 ghost use Rattle.std.specs.Prelude.{◌≡◌, ◌+◌, ◌≤◌, ◌<◌, length, drop};
 ghost use Rattle.std.proofs.lemmas.List.Edits.{sets};
-ghost use Rattle.site.specs.Rules.{slotCount};
-ghost use Rattle.site.specs.Record.{word, bit_of, restOf, fieldWords, words};
-ghost use Rattle.site.specs.Writing.{twoBytes};
+ghost use Rattle.site.specs.Rules.{slot_count};
+ghost use Rattle.site.specs.Record.{word, bit_of, rest_of, field_words, words};
+ghost use Rattle.site.specs.Writing.{two_bytes};
 
 use crate::rules::{Rule, SLOTS, bits_of};
 
@@ -26,7 +26,7 @@ pub fn word_at(s: &[u8], at: usize) -> u16
 // Writes a two-byte number at a place.
 pub fn put_word(value: u16, buffer: &mut [u8], at: usize)
     requires { at + 2 ≤ length buffer.old }
-    ensures { buffer.new ≡ sets buffer.old at (twoBytes value) }
+    ensures { buffer.new ≡ sets buffer.old at (two_bytes value) }
 {
     buffer[at] = (value / 256) as u8;
     buffer[at + 1] = (value % 256) as u8;
@@ -41,22 +41,22 @@ pub fn bit_of(rule: Rule, map: u16) -> u16
 
 // What is left of the map after the next field.
 pub fn rest_of(rule: Rule, map: u16) -> u16
-    ensures { result ≡ restOf rule map }
+    ensures { result ≡ rest_of rule map }
 {
     map / (1 + bits_of(rule))
 }
 
 // How many two-byte numbers a field has in the record.
 pub fn field_words(rule: Rule, map: u16) -> usize
-    ensures { (result ≡ fieldWords rule map) × (result ≤ 1) }
+    ensures { (result ≡ field_words rule map) × (result ≤ 1) }
 {
     bit_of(rule, map) as usize
 }
 
 // How many two-byte numbers follow the map.
 pub fn count_words(rules: [Rule; SLOTS], map: u16) -> usize
-    requires { length rules ≡ slotCount }
-    ensures { (result ≡ words rules map) × (result ≤ slotCount) }
+    requires { length rules ≡ slot_count }
+    ensures { (result ≡ words rules map) × (result ≤ slot_count) }
 {
     let mut rest = map;
     let mut count = 0;

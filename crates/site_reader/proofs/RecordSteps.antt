@@ -8,20 +8,20 @@ use lib.ListN.{length, drop}
 use lib.Dec.{ltb, eqb}
 use Rattle.laws.specs.Truth.{passed}
 use Rattle.site.specs.declared.rules.Rule.{Rule}
-use Rattle.site.specs.Rules.{lastKind, laterYears}
-use Rattle.site.specs.Yearly.{laterOf, laterMinor}
-use Rattle.site.specs.Record.{lacks, misses, words, fieldsNumber, fieldsValues, siteOf, gathered, laterRead, laterAllowed, kindIn, fieldMapIn, laterIn, fieldsIn, lengthIn, siteIn}
-use Rattle.site.specs.Record.{rulesIn, allLaterAllowed, recordNumber}
-use Rattle.site.specs.Answers.{readAnswer}
-use Rattle.site.specs.Accepted.{Parts, words-least}
+use Rattle.site.specs.Rules.{last_kind, later_years}
+use Rattle.site.specs.Yearly.{later_from_slots, later_minor}
+use Rattle.site.specs.Record.{lacks, misses, words, fields_number, fields_values, site_of, gathered, later_read, later_allowed, kind_in, field_map_in, later_in, fields_in, length_in, site_in}
+use Rattle.site.specs.Record.{rules_in, all_later_allowed, record_number}
+use Rattle.site.specs.Answers.{read_answer}
+use Rattle.site.specs.Accepted.{Parts, words_least}
 
 module _ (edition years : ℕ) (s : List ℕ) (kind map yearly : ℕ) (rules : List Rule) (p : Parts s kind map yearly)
-    (are : rulesIn edition s ≡ rules) where
+    (are : rules_in edition s ≡ rules) where
   module _ (fault : ℕ) (is : fault ≡ cond (lacks rules map) 6 (cond (misses rules map) 7 0)) where
     -- the map's own number is the record's
-    pub map-tells : (fault ≡ 0 → ⊥) → recordNumber edition years s ≡ fault
-    unfolding recordNumber
-    map-tells refused = rw (are, p.map_is) (by (lacks rules map) (misses rules map) _ _ is)
+    pub map_tells : (fault ≡ 0 → ⊥) → record_number edition years s ≡ fault
+    unfolding record_number
+    map_tells refused = rw (are, p.map_is) (by (lacks rules map) (misses rules map) _ _ is)
       where
         by : (lack miss one : Bool) (rest : ℕ) → fault ≡ cond lack 6 (cond miss 7 0) → cond lack 6 (cond (miss || one) 7 rest) ≡ fault
         by true miss one rest e = sym e
@@ -29,42 +29,42 @@ module _ (edition years : ℕ) (s : List ℕ) (kind map yearly : ℕ) (rules : L
         by false false one rest e = absurd (refused e)
 
     -- or the map has none, and bit 15 is tried
-    lack-none : fault ≡ 0 → (lacks rules map ≡ false) × (misses rules map ≡ false)
-    lack-none none =
+    lack_none : fault ≡ 0 → (lacks rules map ≡ false) × (misses rules map ≡ false)
+    lack_none none =
         let lack = passed (lacks rules map) 5 (cond (misses rules map) 7 0) (sym is ∙ none) in
         (lack.0, (passed (misses rules map) 6 0 lack.1).0)
 
     -- then bits 0 and 1 stand
-    pub two-words : kind ≤ lastKind → fault ≡ 0 → 2 ≤ words rules map
-    two-words known none =
+    pub two_words : kind ≤ last_kind → fault ≡ 0 → 2 ≤ words rules map
+    two_words known none =
         rw (← are, ← p.map_is)
-        (words-least edition (kindIn s) (fieldMapIn s) (omega (arith, p.kind-is)) (rw (are, p.map_is) (lack-none none).1))
+        (words_least edition (kind_in s) (field_map_in s) (omega (arith, p.kind_is)) (rw (are, p.map_is) (lack_none none).1))
 
-    pub one-year-tells : fault ≡ 0 → (eqb yearly 1 && eqb years 1) ≡ true → recordNumber edition years s ≡ 7
-    unfolding recordNumber
-    one-year-tells none e = let l = lack-none none in rw (are, p.map_is, l.0, l.1, p.bit_is, e)
+    pub one_year_tells : fault ≡ 0 → (eqb yearly 1 && eqb years 1) ≡ true → record_number edition years s ≡ 7
+    unfolding record_number
+    one_year_tells none e = let l = lack_none none in rw (are, p.map_is, l.0, l.1, p.bit_is, e)
 
     -- then the fields' space
-    pub space-tells : fault ≡ 0 → (eqb yearly 1 && eqb years 1) ≡ false
-        → recordNumber edition years s ≡ cond (ltb (length s) (lengthIn edition years s)) 1 (cond (allLaterAllowed years s) (fieldsNumber rules map (fieldsIn years s)) 8)
-    unfolding recordNumber
-    space-tells none e = let l = lack-none none in rw (are, p.map_is, l.0, l.1, p.bit_is, e) refl
+    pub space_tells : fault ≡ 0 → (eqb yearly 1 && eqb years 1) ≡ false
+        → record_number edition years s ≡ cond (ltb (length s) (length_in edition years s)) 1 (cond (all_later_allowed years s) (fields_number rules map (fields_in years s)) 8)
+    unfolding record_number
+    space_tells none e = let l = lack_none none in rw (are, p.map_is, l.0, l.1, p.bit_is, e) refl
 
   -- and what is told of a record that has space for them
   abbrev later : ℕ
   later = yearly * (years - 1)
 
-  later-is : laterIn years s ≡ later
-  later-is = ap (λ (y : ℕ). y * (years - 1)) p.bit_is
+  later_is : later_in years s ≡ later
+  later_is = ap (λ (y : ℕ). y * (years - 1)) p.bit_is
 
-  pub length-told : lengthIn edition years s ≡ 3 + 2 * (words rules map + (later + laterMinor kind later))
-  length-told = rw (are, p.map_is, p.bit_is, p.kind-is) refl
+  pub length_told : length_in edition years s ≡ 3 + 2 * (words rules map + (later + later_minor kind later))
+  length_told = rw (are, p.map_is, p.bit_is, p.kind_is) refl
 
-  pub present-told : readAnswer
-      (cond (laterAllowed later (drop 5 s) && laterAllowed (laterMinor kind later) (drop (7 + 2 * later) s))
-      (fieldsNumber rules map (gathered later (laterMinor kind later) (drop 3 s))) 8)
-      (siteOf kind (fieldsValues rules map (gathered later (laterMinor kind later) (drop 3 s)))
-      (laterOf (laterRead laterYears later (drop 5 s))) (laterOf (laterRead laterYears (laterMinor kind later) (drop (7 + 2 * later) s))))
-      (3 + 2 * (words rules map + (later + laterMinor kind later)))
-      ≡ readAnswer (cond (allLaterAllowed years s) (fieldsNumber rules map (fieldsIn years s)) 8) (siteIn edition years s) (lengthIn edition years s)
-  present-told = rw (are, p.map_is, p.bit_is, p.kind-is) refl
+  pub present_told : read_answer
+      (cond (later_allowed later (drop 5 s) && later_allowed (later_minor kind later) (drop (7 + 2 * later) s))
+      (fields_number rules map (gathered later (later_minor kind later) (drop 3 s))) 8)
+      (site_of kind (fields_values rules map (gathered later (later_minor kind later) (drop 3 s)))
+      (later_from_slots (later_read later_years later (drop 5 s))) (later_from_slots (later_read later_years (later_minor kind later) (drop (7 + 2 * later) s))))
+      (3 + 2 * (words rules map + (later + later_minor kind later)))
+      ≡ read_answer (cond (all_later_allowed years s) (fields_number rules map (fields_in years s)) 8) (site_in edition years s) (length_in edition years s)
+  present_told = rw (are, p.map_is, p.bit_is, p.kind_is) refl

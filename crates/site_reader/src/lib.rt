@@ -1,13 +1,13 @@
 // The reader of one site's record.
 ghost use Rattle.std.specs.Prelude.{◌≡◌, ◌+◌, ◌-◌, ◌*◌, ◌≤◌, ◌<◌, true, cond, ◌&&◌, length, drop, eqb};
-ghost use Rattle.site.specs.Rules.{lastKind, slotCount, laterYears, yearsKnown};
-ghost use Rattle.site.specs.Answers.{readAnswer};
-ghost use Rattle.site.specs.Record.{stands, lackedBitStands, lacks, neededBitAbsent, misses, curveBitStands, curved, rulesRead};
-ghost use Rattle.site.specs.Record.{fieldWords, words, valueNumber, fieldNumber, fieldValue, fieldsNumber, fieldsValues, siteOf};
-ghost use Rattle.site.specs.Record.{yearlyBit, fieldMap, gathered, laterRead, laterAllowed};
-ghost use Rattle.site.specs.Record.{siteIn, lengthIn, recordNumber};
-ghost use Rattle.site.specs.Yearly.{laterOf, laterMinor};
-ghost use Rattle.site.specs.LaterLaws.{placeAfter};
+ghost use Rattle.site.specs.Rules.{last_kind, slot_count, later_years, years_known};
+ghost use Rattle.site.specs.Answers.{read_answer};
+ghost use Rattle.site.specs.Record.{stands, lacked_bit_stands, lacks, needed_bit_absent, misses, curve_bit_stands, curved, rules_read};
+ghost use Rattle.site.specs.Record.{field_words, words, value_number, field_number, field_value, fields_number, fields_values, site_of};
+ghost use Rattle.site.specs.Record.{yearly_bit, field_map, gathered, later_read, later_allowed};
+ghost use Rattle.site.specs.Record.{site_in, length_in, record_number};
+ghost use Rattle.site.specs.Yearly.{later_from_slots, later_minor};
+ghost use Rattle.site.specs.LaterLaws.{place_after};
 ghost use Rattle.site.specs.Accepted.{Parts};
 ghost use Rattle.site.specs.Promises.{ReadsSite};
 
@@ -23,7 +23,7 @@ fn does_stand(rule: Rule, map: u16) -> bool
 }
 
 fn lacked_bit_stands(rule: Rule, map: u16) -> bool
-    ensures { result ≡ lackedBitStands rule map }
+    ensures { result ≡ lacked_bit_stands rule map }
 {
     if rules::is_lacking(rule) {
         does_stand(rule, map)
@@ -34,7 +34,7 @@ fn lacked_bit_stands(rule: Rule, map: u16) -> bool
 
 // 7 where a needed bit is absent, or the number so far.
 fn number_after(number: u8, rule: Rule, map: u16) -> u8
-    ensures { result ≡ cond (neededBitAbsent rule map) 7 number }
+    ensures { result ≡ cond (needed_bit_absent rule map) 7 number }
 {
     if rules::is_needed(rule) {
         if does_stand(rule, map) { number } else { 7 }
@@ -44,7 +44,7 @@ fn number_after(number: u8, rule: Rule, map: u16) -> u8
 }
 
 fn curve_bit_stands(entry: Entry, map: u16) -> bool
-    ensures { result ≡ curveBitStands entry map }
+    ensures { result ≡ curve_bit_stands entry map }
 {
     if rules::is_on_curve(entry) {
         does_stand(rules::rule_of(entry), map)
@@ -55,7 +55,7 @@ fn curve_bit_stands(entry: Entry, map: u16) -> bool
 
 // Whether a bit of the curve stands.
 fn is_curved(entries: [Entry; SLOTS], map: u16) -> bool
-    requires { length entries ≡ slotCount }
+    requires { length entries ≡ slot_count }
     ensures { result ≡ curved entries map }
 {
     let mut rest = map;
@@ -73,7 +73,7 @@ fn is_curved(entries: [Entry; SLOTS], map: u16) -> bool
 
 // 6 where a bit stands that the kind lacks, else 7 where a needed bit is absent, or 0.
 fn map_number(rules: [Rule; SLOTS], map: u16) -> u8
-    requires { length rules ≡ slotCount }
+    requires { length rules ≡ slot_count }
     ensures { result ≡ cond (lacks rules map) 6 (cond (misses rules map) 7 0) }
 {
     let mut rest = map;
@@ -93,7 +93,7 @@ fn map_number(rules: [Rule; SLOTS], map: u16) -> u8
 
 // 8 or 9 for a value that stands, or 0.
 fn value_number(rule: Rule, value: u16) -> u8
-    ensures { result ≡ valueNumber rule value }
+    ensures { result ≡ value_number rule value }
 {
     if rules::does_allow(rule, value) {
         if rules::does_hold(rules::absent_of(rule), value) {
@@ -107,8 +107,8 @@ fn value_number(rule: Rule, value: u16) -> u8
 }
 
 fn field_number(rule: Rule, map: u16, s: &[u8], at: usize) -> u8
-    requires { at + 2 * fieldWords rule map ≤ length s.now }
-    ensures { result ≡ fieldNumber rule map (drop at s.now) }
+    requires { at + 2 * field_words rule map ≤ length s.now }
+    ensures { result ≡ field_number rule map (drop at s.now) }
 {
     if does_stand(rule, map) {
         value_number(rule, word_at(s, at))
@@ -118,8 +118,8 @@ fn field_number(rule: Rule, map: u16, s: &[u8], at: usize) -> u8
 }
 
 fn field_value(rule: Rule, map: u16, s: &[u8], at: usize) -> Slot
-    requires { at + 2 * fieldWords rule map ≤ length s.now }
-    ensures { result ≡ fieldValue rule map (drop at s.now) }
+    requires { at + 2 * field_words rule map ≤ length s.now }
+    ensures { result ≡ field_value rule map (drop at s.now) }
 {
     if does_stand(rule, map) {
         Slot::Number(word_at(s, at))
@@ -130,13 +130,13 @@ fn field_value(rule: Rule, map: u16, s: &[u8], at: usize) -> Slot
 
 // Bit 15 of a map, and the map of the fields without it.
 fn yearly_bit(map: u16) -> usize
-    ensures { (result ≡ yearlyBit map) × (result ≤ 1) }
+    ensures { (result ≡ yearly_bit map) × (result ≤ 1) }
 {
     if map < 32768 { 0 } else { 1 }
 }
 
 fn field_map(map: u16) -> u16
-    ensures { result ≡ fieldMap map }
+    ensures { result ≡ field_map map }
 {
     if map < 32768 { map } else { map - 32768 }
 }
@@ -144,7 +144,7 @@ fn field_map(map: u16) -> u16
 // Whether so many values from a place on are in the range of a traffic.
 fn are_later_allowed(later: usize, s: &[u8], at: usize) -> bool
     requires { at + 2 * later ≤ length s.now }
-    ensures { result ≡ laterAllowed later (drop at s.now) }
+    ensures { result ≡ later_allowed later (drop at s.now) }
 {
     let mut i = 0;
     while i < later {
@@ -158,8 +158,8 @@ fn are_later_allowed(later: usize, s: &[u8], at: usize) -> bool
 
 // So many later years from a place on; the years after them hold no number.
 fn later_at(later: usize, s: &[u8], at: usize) -> Later
-    requires { (later ≤ laterYears) × (at + 2 * later ≤ length s.now) }
-    ensures { result ≡ laterOf (laterRead laterYears later (drop at s.now)) }
+    requires { (later ≤ later_years) × (at + 2 * later ≤ length s.now) }
+    ensures { result ≡ later_from_slots (later_read later_years later (drop at s.now)) }
 {
     let none = Slot::Absent;
     let mut slots = [none; LATER_YEARS];
@@ -173,8 +173,8 @@ fn later_at(later: usize, s: &[u8], at: usize) -> Later
 
 // Where the next number of the fields stands behind the map, after so many: the later values stand behind the first two.
 fn place_of(count: usize, later: usize, minor: usize) -> usize
-    requires { (count ≤ slotCount) × (later ≤ laterYears) × (minor ≤ laterYears) }
-    ensures { (result ≡ placeAfter later minor count) × (result ≤ 2 * count + (2 * later + 2 * minor)) }
+    requires { (count ≤ slot_count) × (later ≤ later_years) × (minor ≤ later_years) }
+    ensures { (result ≡ place_after later minor count) × (result ≤ 2 * count + (2 * later + 2 * minor)) }
 {
     if count == 0 {
         0
@@ -197,10 +197,10 @@ fn read_values(
     traffic: Later,
     minor_traffic: Later,
 ) -> SiteAnswer
-    requires rules_len { (length rules ≡ slotCount) × (later ≤ laterYears) × (minor ≤ laterYears) }
+    requires rules_len { (length rules ≡ slot_count) × (later ≤ later_years) × (minor ≤ later_years) }
     requires minor_in_bounds { (4 + 2 * later + 2 * minor ≤ length s.now) × (2 * (words rules map + (later + minor)) ≤ length s.now) }
-    ensures { result ≡ readAnswer (fieldsNumber rules map (gathered later minor s.now))
-        (siteOf kind (fieldsValues rules map (gathered later minor s.now)) traffic minor_traffic)
+    ensures { result ≡ read_answer (fields_number rules map (gathered later minor s.now))
+        (site_of kind (fields_values rules map (gathered later minor s.now)) traffic minor_traffic)
         (3 + 2 * (words rules map + (later + minor))) }
 {
     let none = Slot::Absent;
@@ -228,15 +228,15 @@ fn read_values(
 
 // A record whose map is right and whose fields are all there: the later values are tried, then the fields one by one.
 fn read_present(kind: u8, rules: [Rule; SLOTS], map: u16, part: &[u8], later: usize) -> SiteAnswer
-    requires rules_len { (length rules ≡ slotCount) × (later ≤ laterYears) }
-    requires later_in_bounds { (7 + 2 * later + 2 * laterMinor kind later ≤ length part.now) × (3 + 2 * (words rules map + (later + laterMinor kind later)) ≤ length part.now) }
-    ensures { result ≡ readAnswer
-        (cond (laterAllowed later (drop 5 part.now) && laterAllowed (laterMinor kind later) (drop (7 + 2 * later) part.now))
-        (fieldsNumber rules map (gathered later (laterMinor kind later) (drop 3 part.now))) 8)
-        (siteOf kind (fieldsValues rules map (gathered later (laterMinor kind later) (drop 3 part.now)))
-        (laterOf (laterRead laterYears later (drop 5 part.now)))
-        (laterOf (laterRead laterYears (laterMinor kind later) (drop (7 + 2 * later) part.now))))
-        (3 + 2 * (words rules map + (later + laterMinor kind later))) }
+    requires rules_len { (length rules ≡ slot_count) × (later ≤ later_years) }
+    requires later_in_bounds { (7 + 2 * later + 2 * later_minor kind later ≤ length part.now) × (3 + 2 * (words rules map + (later + later_minor kind later)) ≤ length part.now) }
+    ensures { result ≡ read_answer
+        (cond (later_allowed later (drop 5 part.now) && later_allowed (later_minor kind later) (drop (7 + 2 * later) part.now))
+        (fields_number rules map (gathered later (later_minor kind later) (drop 3 part.now))) 8)
+        (site_of kind (fields_values rules map (gathered later (later_minor kind later) (drop 3 part.now)))
+        (later_from_slots (later_read later_years later (drop 5 part.now)))
+        (later_from_slots (later_read later_years (later_minor kind later) (drop (7 + 2 * later) part.now))))
+        (3 + 2 * (words rules map + (later + later_minor kind later))) }
 {
     let minor = values::minor_later(kind, later);
     let behind = 7 + 2 * later;
@@ -269,16 +269,16 @@ fn is_yearly_in_one(years: u64, yearly: usize) -> bool
 
 // How many later values follow the traffic.
 fn later_in(years: u64, yearly: usize) -> usize
-    requires { (yearsKnown years ≡ true) × (yearly ≤ 1) }
-    ensures { (result ≡ yearly * (years - 1)) × (result ≤ laterYears) }
+    requires { (years_known years ≡ true) × (yearly ≤ 1) }
+    ensures { (result ≡ yearly * (years - 1)) × (result ≤ later_years) }
 {
     if yearly == 0 { 0 } else { years as usize - 1 }
 }
 
 // The rules by which a kind and a map are read in an edition.
 fn rules_read(edition: u64, kind: u8, map: u16) -> [Rule; SLOTS]
-    requires { kind ≤ lastKind }
-    ensures { result ≡ rulesRead edition kind map }
+    requires { kind ≤ last_kind }
+    ensures { result ≡ rules_read edition kind map }
 {
     let entries = rules::entries_of(edition, kind);
     rules::settle_rules(is_curved(entries, map), entries)
@@ -293,9 +293,9 @@ fn read_record(
     yearly: usize,
     part: &[u8],
 ) -> SiteAnswer
-    requires { (yearsKnown years ≡ true) × (yearly ≤ 1) × (kind ≤ lastKind) × Parts part.now kind map yearly }
-    ensures { result ≡ readAnswer (recordNumber edition years part.now) (siteIn edition years part.now)
-        (lengthIn edition years part.now) }
+    requires { (years_known years ≡ true) × (yearly ≤ 1) × (kind ≤ last_kind) × Parts part.now kind map yearly }
+    ensures { result ≡ read_answer (record_number edition years part.now) (site_in edition years part.now)
+        (length_in edition years part.now) }
 {
     let rules = rules_read(edition, kind, map);
     let fault = map_number(rules, map);

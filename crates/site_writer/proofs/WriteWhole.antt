@@ -16,47 +16,47 @@ use Rattle.site.specs.declared.values.Measure.TheVariants.{Length, OutsideRange}
 use Rattle.site.specs.declared.values.WriteAnswer.TheVariants.{Written, Unwritten}
 use Rattle.site.specs.declared.rules.Rule.TheVariants.{Foreign}
 use Rattle.site.specs.declared.values.Slot.TheVariants.{Absent}
-use Rattle.site.specs.Rules.{lastKind, editionKnown, yearsKnown, laterYears, slotCount}
-use Rattle.site.specs.Yearly.{laterSlots, yearly, laterGiven, laterMinor}
+use Rattle.site.specs.Rules.{last_kind, edition_known, years_known, later_years, slot_count}
+use Rattle.site.specs.Yearly.{later_slots, yearly, later_given, later_minor}
 use Rattle.laws.specs.Truth.{and_left, and_right}
-use Rattle.site.specs.Writing.{slots_of, rulesHeld, all_fit, mapOf, twoBytes, fieldBytes, bytes_of, laterBytes, spreadBytes, recordBy, recordOf, laterFits, laterSound, soundSite}
-use Rattle.site.specs.Writing.{sound, Valid, measureOf}
-use Rattle.site.specs.Writing.{writeRefusal, writeAnswer, writeInto}
-use Rattle.site.specs.Tested.{bitCount, tested-rules}
-use Rattle.site.specs.WriteRead.{firstField, secondField, otherFields, bytes-parts}
-use Rattle.site.specs.LaterLaws.{later-read-back}
-use Rattle.site.specs.Theorems.{ten-exactly}
-use Rattle.site.specs.Written.{length-answered, record-written}
-use Rattle.site.specs.Promises.{MeasuresSite, measures-site, WritesSite, writes-site}
+use Rattle.site.specs.Writing.{slots_of, rules_held, all_fit, map_of, two_bytes, field_bytes, bytes_of, later_bytes, spread_bytes, record_by, record_of, later_fits, later_sound, sound_site}
+use Rattle.site.specs.Writing.{sound, Valid, measure_of}
+use Rattle.site.specs.Writing.{write_refusal, write_answer, write_into}
+use Rattle.site.specs.Tested.{bit_count, tested_rules}
+use Rattle.site.specs.WriteRead.{first_field, second_field, other_fields, bytes_parts}
+use Rattle.site.specs.LaterLaws.{later_read_back}
+use Rattle.site.specs.Theorems.{ten_exactly}
+use Rattle.site.specs.Written.{length_answered, record_written}
+use Rattle.site.specs.Promises.{MeasuresSite, measures_site, WritesSite, writes_site}
 
 -- an edition or years outside their limits, a kind above the last, or later years that are not right are outside their range
 module _ (edition years : ℕ) (site : Site) where
-  not-measured : sound edition years site ≡ false → MeasuresSite edition years site OutsideRange
-  unfolding measureOf
-  not-measured e = measures-site edition years site OutsideRange (rw e)
+  not_measured : sound edition years site ≡ false → MeasuresSite edition years site OutsideRange
+  unfolding measure_of
+  not_measured e = measures_site edition years site OutsideRange (rw e)
 
-  pub edition-outside : editionKnown edition ≡ false → MeasuresSite edition years site OutsideRange
+  pub edition_outside : edition_known edition ≡ false → MeasuresSite edition years site OutsideRange
   unfolding sound
-  edition-outside e = not-measured (rw e)
+  edition_outside e = not_measured (rw e)
 
-  pub years-outside : yearsKnown years ≡ false → MeasuresSite edition years site OutsideRange
+  pub years_outside : years_known years ≡ false → MeasuresSite edition years site OutsideRange
   unfolding sound
-  years-outside e = not-measured (rw e (and-false (editionKnown edition)))
+  years_outside e = not_measured (rw e (and-false (edition_known edition)))
 
-  pub kind-outside : lastKind < site.kind → MeasuresSite edition years site OutsideRange
-  unfolding sound soundSite
-  kind-outside h = not-measured (rw (lt-leb site.kind lastKind h) (by (editionKnown edition) (yearsKnown years)))
+  pub kind_outside : last_kind < site.kind → MeasuresSite edition years site OutsideRange
+  unfolding sound sound_site
+  kind_outside h = not_measured (rw (lt-leb site.kind last_kind h) (by (edition_known edition) (years_known years)))
     where
       by : (a b : Bool) → (a && (b && false)) ≡ false
       by true true = refl
       by true false = refl
       by false b = refl
 
-  pub later-outside : laterSound years site ≡ false → MeasuresSite edition years site OutsideRange
-  unfolding sound soundSite
-  later-outside e =
-      not-measured
-      (rw e (by (editionKnown edition) (yearsKnown years) (leb site.kind lastKind) (all_fit (rulesHeld edition site.kind (slots_of site)) (slots_of site))))
+  pub later_outside : later_sound years site ≡ false → MeasuresSite edition years site OutsideRange
+  unfolding sound sound_site
+  later_outside e =
+      not_measured
+      (rw e (by (edition_known edition) (years_known years) (leb site.kind last_kind) (all_fit (rules_held edition site.kind (slots_of site)) (slots_of site))))
     where
       by : (a b c d : Bool) → (a && (b && (c && (d && false)))) ≡ false
       by true true true true = refl
@@ -67,80 +67,80 @@ module _ (edition years : ℕ) (site : Site) where
 
 -- of any other the slots are found, and the rules that they are held to
 pub record Found (edition : ℕ) (site : Site) (slots : List Slot) (rules : List Rule) : Type 0 where
-  pub kind-known : site.kind ≤ lastKind
-  pub slots-are : slots ≡ slots_of site
-  pub rules-are : rules ≡ rulesHeld edition site.kind slots
+  pub kind_known : site.kind ≤ last_kind
+  pub slots_are : slots ≡ slots_of site
+  pub rules_are : rules ≡ rules_held edition site.kind slots
 
-pub found : (edition : ℕ) (site : Site) (slots : List Slot) (rules : List Rule) → site.kind ≤ lastKind → slots ≡ slots_of site
-    → rules ≡ rulesHeld edition site.kind slots
+pub found : (edition : ℕ) (site : Site) (slots : List Slot) (rules : List Rule) → site.kind ≤ last_kind → slots ≡ slots_of site
+    → rules ≡ rules_held edition site.kind slots
     → Found edition site slots rules
-found edition site slots rules k s r = record { kind-known = k; slots-are = s; rules-are = r }
+found edition site slots rules k s r = record { kind_known = k; slots_are = s; rules_are = r }
 
 module _ {edition : ℕ} {site : Site} {slots : List Slot} {rules : List Rule} (f : Found edition site slots rules) where
-  pub bits-few : bitCount rules ≤ 15
-  bits-few = rw f.rules-are (tested-rules edition _ _ f.kind-known).few
+  pub bits_few : bit_count rules ≤ 15
+  bits_few = rw f.rules_are (tested_rules edition _ _ f.kind_known).few
 
-  rules-count : length rules ≡ slotCount
-  rules-count = rw f.rules-are (tested-rules edition _ _ f.kind-known).count
+  rules_count : length rules ≡ slot_count
+  rules_count = rw f.rules_are (tested_rules edition _ _ f.kind_known).count
 
-  slots-count : length slots ≡ slotCount
-  slots-count = ap length f.slots-are
+  slots_count : length slots ≡ slot_count
+  slots_count = ap length f.slots_are
 
-  record_is : recordOf edition site
-      ≡ recordBy rules site.kind slots (yearly site) (laterSlots site.later_traffic) (laterSlots site.later_minor)
-  record_is = rw (f.rules-are, f.slots-are) refl
+  record_is : record_of edition site
+      ≡ record_by rules site.kind slots (yearly site) (later_slots site.later_traffic) (later_slots site.later_minor)
+  record_is = rw (f.rules_are, f.slots_are) refl
 
-  pub spread-long : length (recordOf edition site)
-      ≡ 3 + length (spreadBytes rules slots (laterBytes (laterSlots site.later_traffic)) (laterBytes (laterSlots site.later_minor)))
-  unfolding recordBy
-  spread-long = omega (arith, ap length record_is)
+  pub spread_long : length (record_of edition site)
+      ≡ 3 + length (spread_bytes rules slots (later_bytes (later_slots site.later_traffic)) (later_bytes (later_slots site.later_minor)))
+  unfolding record_by
+  spread_long = omega (arith, ap length record_is)
 
   -- kind and map, and the fields behind them, are its record
-  pub all-put : (before : List ℕ) {head after : List ℕ} (map : ℕ) {place : ℕ} → map ≡ mapOf rules slots + cond (yearly site) 32768 0
-      → head ≡ sets before 0 (site.kind ∷ twoBytes map)
-      → Puts head 3 (spreadBytes rules slots (laterBytes (laterSlots site.later_traffic)) (laterBytes (laterSlots site.later_minor))) place after
-      → (place ≡ length (recordOf edition site)) × (after ≡ sets before 0 (recordOf edition site))
-  unfolding recordBy
-  all-put before map m h p =
-      let spread = spreadBytes rules slots (laterBytes (laterSlots site.later_traffic)) (laterBytes (laterSlots site.later_minor)) in
-      let is = record_is ∙ ap (λ (x : ℕ). site.kind ∷ (twoBytes x ++ spread)) (sym m) in
-      (omega (arith, p.place_is, ap length is), p.stored ∙ rw h (sets_more before 0 (site.kind ∷ twoBytes map) spread) ∙ ap (sets before 0) (sym is))
+  pub all_put : (before : List ℕ) {head after : List ℕ} (map : ℕ) {place : ℕ} → map ≡ map_of rules slots + cond (yearly site) 32768 0
+      → head ≡ sets before 0 (site.kind ∷ two_bytes map)
+      → Puts head 3 (spread_bytes rules slots (later_bytes (later_slots site.later_traffic)) (later_bytes (later_slots site.later_minor))) place after
+      → (place ≡ length (record_of edition site)) × (after ≡ sets before 0 (record_of edition site))
+  unfolding record_by
+  all_put before map m h p =
+      let spread = spread_bytes rules slots (later_bytes (later_slots site.later_traffic)) (later_bytes (later_slots site.later_minor)) in
+      let is = record_is ∙ ap (λ (x : ℕ). site.kind ∷ (two_bytes x ++ spread)) (sym m) in
+      (omega (arith, p.place_is, ap length is), p.stored ∙ rw h (sets_more before 0 (site.kind ∷ two_bytes map) spread) ∙ ap (sets before 0) (sym is))
 
   -- where its later years are right, its record has their bytes and those of its slots
-  module _ (years : ℕ) (later : laterSound years site ≡ true) where
+  module _ (years : ℕ) (later : later_sound years site ≡ true) where
     abbrev given : ℕ
-    given = laterGiven years site
+    given = later_given years site
 
     abbrev traffic : List ℕ
-    traffic = laterBytes (laterSlots site.later_traffic)
+    traffic = later_bytes (later_slots site.later_traffic)
 
     abbrev minor : List ℕ
-    minor = laterBytes (laterSlots site.later_minor)
+    minor = later_bytes (later_slots site.later_minor)
 
-    traffic-long : length traffic ≡ 2 * given
-    traffic-long = (later-read-back laterYears given (laterSlots site.later_traffic) [] refl (and_left (laterFits given (laterSlots site.later_traffic)) _ later)).long
+    traffic_long : length traffic ≡ 2 * given
+    traffic_long = (later_read_back later_years given (later_slots site.later_traffic) [] refl (and_left (later_fits given (later_slots site.later_traffic)) _ later)).long
 
-    minor-long : length minor ≡ 2 * laterMinor site.kind given
-    minor-long =
-        (later-read-back laterYears (laterMinor site.kind given) (laterSlots site.later_minor) [] refl
-        (and_right (laterFits given (laterSlots site.later_traffic)) _ later)).long
+    minor_long : length minor ≡ 2 * later_minor site.kind given
+    minor_long =
+        (later_read_back later_years (later_minor site.kind given) (later_slots site.later_minor) [] refl
+        (and_right (later_fits given (later_slots site.later_traffic)) _ later)).long
 
-    record-long : length (recordOf edition site) ≡ 3 + 2 * (given + laterMinor site.kind given) + length (bytes_of rules slots)
-    unfolding recordBy spreadBytes
-    record-long =
-        let first = firstField rules slots in
-        let one = fieldBytes (get_or rules 1 Foreign) (get_or slots 1 Absent) in
-        let two = fieldBytes (get_or rules 2 Foreign) (get_or slots 2 Absent) in
-        let rest = otherFields rules slots in
+    record_long : length (record_of edition site) ≡ 3 + 2 * (given + later_minor site.kind given) + length (bytes_of rules slots)
+    unfolding record_by spread_bytes
+    record_long =
+        let first = first_field rules slots in
+        let one = field_bytes (get_or rules 1 Foreign) (get_or slots 1 Absent) in
+        let two = field_bytes (get_or rules 2 Foreign) (get_or slots 2 Absent) in
+        let rest = other_fields rules slots in
         omega (
           arith,
-          traffic-long,
-          minor-long,
-          ap length (bytes-parts rules slots rules-count slots-count),
-          ap (λ (x : List Slot). length (spreadBytes (rulesHeld edition site.kind x) x traffic minor)) f.slots-are,
-          ap (λ (x : List Rule). length (spreadBytes x slots traffic minor)) f.rules-are,
-          length-append first (secondField rules slots ++ rest),
-          length-append (secondField rules slots) rest,
+          traffic_long,
+          minor_long,
+          ap length (bytes_parts rules slots rules_count slots_count),
+          ap (λ (x : List Slot). length (spread_bytes (rules_held edition site.kind x) x traffic minor)) f.slots_are,
+          ap (λ (x : List Rule). length (spread_bytes x slots traffic minor)) f.rules_are,
+          length-append first (second_field rules slots ++ rest),
+          length-append (second_field rules slots) rest,
           length-append one two,
           length-append first (traffic ++ (one ++ (two ++ (minor ++ rest)))),
           length-append traffic (one ++ (two ++ (minor ++ rest))),
@@ -150,39 +150,39 @@ module _ {edition : ℕ} {site : Site} {slots : List Slot} {rules : List Rule} (
         )
 
     -- and their measure is the site's
-    module _ (kept : editionKnown edition ≡ true) (known : yearsKnown years ≡ true) where
-      slots-tell : sound edition years site ≡ all_fit rules slots
-      unfolding sound soundSite
-      slots-tell = rw (kept, known, f.rules-are, f.slots-are, le-leb site.kind lastKind f.kind-known, later) (and-true _)
+    module _ (kept : edition_known edition ≡ true) (known : years_known years ≡ true) where
+      slots_tell : sound edition years site ≡ all_fit rules slots
+      unfolding sound sound_site
+      slots_tell = rw (kept, known, f.rules_are, f.slots_are, le-leb site.kind last_kind f.kind_known, later) (and-true _)
 
-      pub measured-by : measureOf edition years site
-          ≡ cond (all_fit rules slots) (Length (3 + 2 * (given + laterMinor site.kind given) + length (bytes_of rules slots))) OutsideRange
-      unfolding measureOf
-      measured-by = rw (slots-tell, record-long)
+      pub measured_by : measure_of edition years site
+          ≡ cond (all_fit rules slots) (Length (3 + 2 * (given + later_minor site.kind given) + length (bytes_of rules slots))) OutsideRange
+      unfolding measure_of
+      measured_by = rw (slots_tell, record_long)
 
 -- the writer's answers
 module _ (edition years : ℕ) (site : Site) (before : List ℕ) where
-  pub edition-refused : editionKnown edition ≡ false → WritesSite edition years site before before (Unwritten 3)
-  unfolding writeRefusal writeAnswer writeInto sound
-  edition-refused e = writes-site edition years site before before (Unwritten 3) (rw e) (rw e)
+  pub edition_refused : edition_known edition ≡ false → WritesSite edition years site before before (Unwritten 3)
+  unfolding write_refusal write_answer write_into sound
+  edition_refused e = writes_site edition years site before before (Unwritten 3) (rw e) (rw e)
 
-  pub years-refused : editionKnown edition ≡ true → yearsKnown years ≡ false → WritesSite edition years site before before (Unwritten 4)
-  unfolding writeRefusal writeAnswer writeInto sound
-  years-refused x e = writes-site edition years site before before (Unwritten 4) (rw (x, e)) (rw (x, e))
+  pub years_refused : edition_known edition ≡ true → years_known years ≡ false → WritesSite edition years site before before (Unwritten 4)
+  unfolding write_refusal write_answer write_into sound
+  years_refused x e = writes_site edition years site before before (Unwritten 4) (rw (x, e)) (rw (x, e))
 
-  pub outside : editionKnown edition ≡ true → yearsKnown years ≡ true → sound edition years site ≡ false
+  pub outside : edition_known edition ≡ true → years_known years ≡ true → sound edition years site ≡ false
       → WritesSite edition years site before before (Unwritten 8)
-  unfolding writeRefusal writeAnswer writeInto sound
+  unfolding write_refusal write_answer write_into sound
   outside x y e =
-      let f : soundSite edition years site ≡ false = rw (x, y) at e in
-      writes-site edition years site before before (Unwritten 8) (rw (x, y, f)) (rw (x, y, f))
+      let f : sound_site edition years site ≡ false = rw (x, y) at e in
+      writes_site edition years site before before (Unwritten 8) (rw (x, y, f)) (rw (x, y, f))
 
-  pub room-refused : Valid edition years site → length before < length (recordOf edition site) → WritesSite edition years site before before (Unwritten 10)
-  unfolding writeAnswer writeInto
-  room-refused v h =
-      let l = lt-leb (length (recordOf edition site)) (length before) h in
-      writes-site edition years site before before (Unwritten 10) (rw ((ten-exactly edition years site (length before)).1 (v, h))) (rw (v.is-sound, l))
+  pub room_refused : Valid edition years site → length before < length (record_of edition site) → WritesSite edition years site before before (Unwritten 10)
+  unfolding write_answer write_into
+  room_refused v h =
+      let l = lt-leb (length (record_of edition site)) (length before) h in
+      writes_site edition years site before before (Unwritten 10) (rw ((ten_exactly edition years site (length before)).1 (v, h))) (rw (v.is_sound, l))
 
-  pub all-written : Valid edition years site → length (recordOf edition site) ≤ length before
-      → WritesSite edition years site before (sets before 0 (recordOf edition site)) (Written (length (recordOf edition site)))
-  all-written v h = writes-site edition years site before _ _ (sym (length-answered before v h)) (sym (record-written before v h))
+  pub all_written : Valid edition years site → length (record_of edition site) ≤ length before
+      → WritesSite edition years site before (sets before 0 (record_of edition site)) (Written (length (record_of edition site)))
+  all_written v h = writes_site edition years site before _ _ (sym (length_answered before v h)) (sym (record_written before v h))

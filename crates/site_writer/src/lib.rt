@@ -2,12 +2,12 @@
 ghost use Rattle.std.specs.Prelude.{◌≡◌, ◌+◌, ◌*◌, ◌≤◌, ◌<◌, length, drop, true, cond, ◌&&◌, not, ◌∷◌};
 ghost use Rattle.std.proofs.lemmas.List.Edits.{sets};
 ghost use Rattle.site.specs.declared.values.Measure.TheVariants.{Length, OutsideRange};
-ghost use Rattle.site.specs.Rules.{lastKind, slotCount, laterYears, yearsKnown, traffic, bits, onCurve, absent};
-ghost use Rattle.site.specs.Yearly.{laterGiven};
+ghost use Rattle.site.specs.Rules.{last_kind, slot_count, later_years, years_known, traffic, bits, on_curve, absent};
+ghost use Rattle.site.specs.Yearly.{later_given};
 ghost use Rattle.laws.specs.Stores.{Puts};
-ghost use Rattle.site.specs.Writing.{curveHeld, rulesHeld, fits, all_fit, slotBit, mapOf, twoBytes, slotBytes, fieldBytes, bytes_of};
-ghost use Rattle.site.specs.Writing.{laterBytes, spreadBytes, recordOf, laterFits, laterSound, sound, Valid};
-ghost use Rattle.site.specs.Tested.{bitCount};
+ghost use Rattle.site.specs.Writing.{curve_held, rules_held, fits, all_fit, slot_bit, map_of, two_bytes, slot_bytes, field_bytes, bytes_of};
+ghost use Rattle.site.specs.Writing.{later_bytes, spread_bytes, record_of, later_fits, later_sound, sound, Valid};
+ghost use Rattle.site.specs.Tested.{bit_count};
 ghost use Rattle.site.specs.Promises.{MeasuresSite, WritesSite};
 
 use site::rules::{Entry, LAST_KIND, LATER_YEARS, Rule, SLOTS};
@@ -16,7 +16,7 @@ use site::words::put_word;
 use site::{rules, values};
 
 fn is_held(entry: Entry, slot: Slot) -> bool
-    ensures { result ≡ (onCurve entry && not (absent slot)) }
+    ensures { result ≡ (on_curve entry && not (absent slot)) }
 {
     if rules::is_on_curve(entry) {
         !rules::is_absent(slot)
@@ -27,8 +27,8 @@ fn is_held(entry: Entry, slot: Slot) -> bool
 
 // Whether a slot of the curve holds a number.
 fn holds_curve(entries: [Entry; SLOTS], slots: [Slot; SLOTS]) -> bool
-    requires { (length entries ≡ slotCount) × (length slots ≡ slotCount) }
-    ensures { result ≡ curveHeld entries slots }
+    requires { (length entries ≡ slot_count) × (length slots ≡ slot_count) }
+    ensures { result ≡ curve_held entries slots }
 {
     let mut i = 0;
     while i < SLOTS {
@@ -42,8 +42,8 @@ fn holds_curve(entries: [Entry; SLOTS], slots: [Slot; SLOTS]) -> bool
 
 // The rules by which a site is written in an edition.
 fn rules_held(edition: u64, kind: u8, slots: [Slot; SLOTS]) -> [Rule; SLOTS]
-    requires { (kind ≤ lastKind) × (length slots ≡ slotCount) }
-    ensures { result ≡ rulesHeld edition kind slots }
+    requires { (kind ≤ last_kind) × (length slots ≡ slot_count) }
+    ensures { result ≡ rules_held edition kind slots }
 {
     let entries = rules::entries_of(edition, kind);
     rules::settle_rules(holds_curve(entries, slots), entries)
@@ -67,7 +67,7 @@ fn does_fit(rule: Rule, slot: Slot) -> bool
 
 // The bit of a slot: 0 where it is absent or its rule's default.
 fn slot_bit(rule: Rule, slot: Slot) -> u16
-    ensures { result ≡ slotBit rule slot }
+    ensures { result ≡ slot_bit rule slot }
 {
     match slot {
         Slot::Absent => 0,
@@ -84,14 +84,14 @@ fn slot_bit(rule: Rule, slot: Slot) -> u16
 // The bit of a slot before the bits of the slots after it.
 fn map_with(rule: Rule, slot: Slot, later: u16) -> u16
     requires { later < 32768 }
-    ensures { result ≡ slotBit rule slot + (1 + bits rule) * later }
+    ensures { result ≡ slot_bit rule slot + (1 + bits rule) * later }
 {
     slot_bit(rule, slot) + (1 + rules::bits_of(rule)) * later
 }
 
 fn map_of(rules: [Rule; SLOTS], slots: [Slot; SLOTS]) -> u16
-    requires { (length rules ≡ slotCount) × (length slots ≡ slotCount) × (bitCount rules ≤ 15) }
-    ensures { result ≡ mapOf rules slots }
+    requires { (length rules ≡ slot_count) × (length slots ≡ slot_count) × (bit_count rules ≤ 15) }
+    ensures { result ≡ map_of rules slots }
 {
     let mut map = 0;
     let mut i = SLOTS;
@@ -104,8 +104,8 @@ fn map_of(rules: [Rule; SLOTS], slots: [Slot; SLOTS]) -> u16
 
 // Writes a slot's number at a place, where it holds one, and answers the place after it.
 fn put_slot(slot: Slot, buffer: &mut [u8], at: usize) -> usize
-    requires { at + length (slotBytes slot) ≤ length buffer.old }
-    ensures { Puts buffer.old at (slotBytes slot) result buffer.new }
+    requires { at + length (slot_bytes slot) ≤ length buffer.old }
+    ensures { Puts buffer.old at (slot_bytes slot) result buffer.new }
 {
     match slot {
         Slot::Absent => at,
@@ -118,8 +118,8 @@ fn put_slot(slot: Slot, buffer: &mut [u8], at: usize) -> usize
 
 // Writes a field at a place, where its bit stands, and answers the place after it.
 fn put_field(rule: Rule, slot: Slot, buffer: &mut [u8], at: usize) -> usize
-    requires { at + length (fieldBytes rule slot) ≤ length buffer.old }
-    ensures { Puts buffer.old at (fieldBytes rule slot) result buffer.new }
+    requires { at + length (field_bytes rule slot) ≤ length buffer.old }
+    ensures { Puts buffer.old at (field_bytes rule slot) result buffer.new }
 {
     if slot_bit(rule, slot) == 1 {
         put_slot(slot, buffer, at)
@@ -130,8 +130,8 @@ fn put_field(rule: Rule, slot: Slot, buffer: &mut [u8], at: usize) -> usize
 
 // Writes the later values of a traffic at a place, and answers the place after them.
 fn put_later(later: usize, slots: [Slot; LATER_YEARS], buffer: &mut [u8], at: usize) -> usize
-    requires { (later ≤ laterYears) × (length slots ≡ laterYears) × (laterFits later slots ≡ true) × (at + length (laterBytes slots) ≤ length buffer.old) }
-    ensures { Puts buffer.old at (laterBytes slots) result buffer.new }
+    requires { (later ≤ later_years) × (length slots ≡ later_years) × (later_fits later slots ≡ true) × (at + length (later_bytes slots) ≤ length buffer.old) }
+    ensures { Puts buffer.old at (later_bytes slots) result buffer.new }
 {
     let mut place = at;
     let mut i = 0;
@@ -144,7 +144,7 @@ fn put_later(later: usize, slots: [Slot; LATER_YEARS], buffer: &mut [u8], at: us
 
 // Writes the fields of the slots after the minor traffic at a place, in rising order, and answers the place after them.
 fn put_fields(rules: [Rule; SLOTS], slots: [Slot; SLOTS], buffer: &mut [u8], at: usize) -> usize
-    requires { (length rules ≡ slotCount) × (length slots ≡ slotCount) × (at + length (bytes_of (drop 3 rules) (drop 3 slots)) ≤ length buffer.old) }
+    requires { (length rules ≡ slot_count) × (length slots ≡ slot_count) × (at + length (bytes_of (drop 3 rules) (drop 3 slots)) ≤ length buffer.old) }
     ensures { Puts buffer.old at (bytes_of (drop 3 rules) (drop 3 slots)) result buffer.new }
 {
     let mut place = at;
@@ -166,10 +166,10 @@ fn put_spread(
     minor: [Slot; LATER_YEARS],
     buffer: &mut [u8],
 ) -> usize
-    requires rules_len { (length rules ≡ slotCount) × (length slots ≡ slotCount) × (later ≤ laterYears) × (length traffic ≡ laterYears) × (laterFits later traffic ≡ true) }
-    requires minor_later_le_later_years { (minor_later ≤ laterYears) × (length minor ≡ laterYears) × (laterFits minor_later minor ≡ true) }
-    requires minor_in_bounds { 3 + length (spreadBytes rules slots (laterBytes traffic) (laterBytes minor)) ≤ length buffer.old }
-    ensures { Puts buffer.old 3 (spreadBytes rules slots (laterBytes traffic) (laterBytes minor)) result buffer.new }
+    requires rules_len { (length rules ≡ slot_count) × (length slots ≡ slot_count) × (later ≤ later_years) × (length traffic ≡ later_years) × (later_fits later traffic ≡ true) }
+    requires minor_later_le_later_years { (minor_later ≤ later_years) × (length minor ≡ later_years) × (later_fits minor_later minor ≡ true) }
+    requires minor_in_bounds { 3 + length (spread_bytes rules slots (later_bytes traffic) (later_bytes minor)) ≤ length buffer.old }
+    ensures { Puts buffer.old 3 (spread_bytes rules slots (later_bytes traffic) (later_bytes minor)) result buffer.new }
 {
     let after_traffic = put_field(rules[0], slots[0], buffer, 3);
     let after_later = put_later(later, traffic, buffer, after_traffic);
@@ -181,14 +181,14 @@ fn put_spread(
 
 // How many bytes a slot takes in the record.
 fn field_length(rule: Rule, slot: Slot) -> usize
-    ensures { (result ≡ length (fieldBytes rule slot)) × (result ≤ 2) }
+    ensures { (result ≡ length (field_bytes rule slot)) × (result ≤ 2) }
 {
     2 * slot_bit(rule, slot) as usize
 }
 
 // The length of the record with so many bytes more for later values, where every slot is within its rule.
 fn measure_slots(rules: [Rule; SLOTS], slots: [Slot; SLOTS], more: usize) -> Measure
-    requires { (length rules ≡ slotCount) × (length slots ≡ slotCount) × (more ≤ 4 * laterYears) }
+    requires { (length rules ≡ slot_count) × (length slots ≡ slot_count) × (more ≤ 4 * later_years) }
     ensures { result ≡ cond (all_fit rules slots) (Length (3 + more + length (bytes_of rules slots))) OutsideRange }
 {
     let mut n = 3 + more;
@@ -216,8 +216,8 @@ fn is_later_right(given: bool, slot: Slot) -> bool
 
 // Whether just so many later years are given.
 fn does_later_fit(later: usize, slots: [Slot; LATER_YEARS]) -> bool
-    requires { (later ≤ laterYears) × (length slots ≡ laterYears) }
-    ensures { result ≡ laterFits later slots }
+    requires { (later ≤ later_years) × (length slots ≡ later_years) }
+    ensures { result ≡ later_fits later slots }
 {
     let mut i = 0;
     while i < LATER_YEARS {
@@ -231,8 +231,8 @@ fn does_later_fit(later: usize, slots: [Slot; LATER_YEARS]) -> bool
 
 // How many later values follow the traffic of a site.
 fn later_given(years: u64, site: Site) -> usize
-    requires { yearsKnown years ≡ true }
-    ensures { (result ≡ laterGiven years site) × (result ≤ laterYears) }
+    requires { years_known years ≡ true }
+    ensures { (result ≡ later_given years site) × (result ≤ later_years) }
 {
     if values::is_yearly(site) {
         years as usize - 1
@@ -243,8 +243,8 @@ fn later_given(years: u64, site: Site) -> usize
 
 // Whether the later years of both traffics are those of the project, or none.
 fn is_later_sound(years: u64, site: Site) -> bool
-    requires { yearsKnown years ≡ true }
-    ensures { result ≡ laterSound years site }
+    requires { years_known years ≡ true }
+    ensures { result ≡ later_sound years site }
 {
     let later = later_given(years, site);
     let traffic = site.later_traffic;
@@ -302,7 +302,7 @@ fn bit_of_years(yearly: bool) -> u16
 // Writes the kind and the map of a record.
 fn put_head(kind: u8, map: u16, buffer: &mut [u8])
     requires { 3 ≤ length buffer.old }
-    ensures { buffer.new ≡ sets buffer.old 0 (kind ∷ twoBytes map) }
+    ensures { buffer.new ≡ sets buffer.old 0 (kind ∷ two_bytes map) }
 {
     buffer[0] = kind;
     put_word(map, buffer, 1);
@@ -310,8 +310,8 @@ fn put_head(kind: u8, map: u16, buffer: &mut [u8])
 
 // Writes the record of a valid site from the start of a buffer that has space for it, and answers its length.
 pub fn put_record(edition: u64, years: u64, site: Site, buffer: &mut [u8]) -> usize
-    requires { Valid edition years site × (length (recordOf edition site) ≤ length buffer.old) }
-    ensures { (result ≡ length (recordOf edition site)) × (buffer.new ≡ sets buffer.old 0 (recordOf edition site)) }
+    requires { Valid edition years site × (length (record_of edition site) ≤ length buffer.old) }
+    ensures { (result ≡ length (record_of edition site)) × (buffer.new ≡ sets buffer.old 0 (record_of edition site)) }
 {
     let kind = site.kind;
     let traffic = site.later_traffic;

@@ -5,7 +5,7 @@ use native.Mathlib.Omega.{arith}
 use lib.ListN.{length}
 use lib.Seq.{sets}
 use borrow.Author.Tests.{lt-leb, le-leb}
-use Rattle.laws.specs.Stores.{sets-laid}
+use Rattle.laws.specs.Stores.{sets_laid}
 use Rattle.unit.specs.Lent.{LendsValues}
 
 module _ (run : List ℕ) (number : ℕ) where
@@ -13,10 +13,10 @@ module _ (run : List ℕ) (number : ℕ) where
   refused = let l = le-leb 0 (length run) (omega arith) in record { number_is = rw l; run_is = rw l }
 
   module _ (values : List ℕ) where
-    pub no-space : length run < length values → LendsValues number values run run 10
-    no-space h = let l = lt-leb (length values) (length run) h in record { number_is = rw l; run_is = rw l }
+    pub no_space : length run < length values → LendsValues number values run run 10
+    no_space h = let l = lt-leb (length values) (length run) h in record { number_is = rw l; run_is = rw l }
 
     pub lent : length values ≤ length run → LendsValues number values run (sets run 0 values) number
     lent h =
         let l = le-leb (length values) (length run) h in
-        record { number_is = rw l; run_is = rw l (sets-laid values run h) }
+        record { number_is = rw l; run_is = rw l (sets_laid values run h) }

@@ -8,57 +8,57 @@ use lib.ListN.{length}
 use lib.Dec.{leb}
 use borrow.Author.Tests.{le-leb}
 use Rattle.site.specs.declared.values.Site.{Site}
-use Rattle.site.specs.Rules.{editionKnown}
+use Rattle.site.specs.Rules.{edition_known}
 use Rattle.site.specs.Writing.{sound}
 use Rattle.header.specs.declared.Header.{Header}
-use Rattle.header.specs.Header.{inLimits}
-use Rattle.model.specs.Coefficients.{coefficientsOf}
+use Rattle.header.specs.Header.{in_limits}
+use Rattle.model.specs.Coefficients.{coefficients_of}
 use Rattle.line.specs.declared.LineAnswer.{LineAnswer}
 use Rattle.line.specs.declared.LineAnswer.TheVariants.{Made, EditionUnknown, OutsideLimits, OutsideRange}
-use Rattle.line.specs.Line.{siteLine, lineAnswer, lineNumber}
+use Rattle.line.specs.Line.{site_line, line_answer, line_number}
 use Rattle.line.specs.Stands.{LineStands, AnswerStands}
-use Rattle.unit.specs.Lent.{numberWithin, zero-lent}
-use Rattle.unit.specs.SiteNumbers.{siteFrom}
+use Rattle.unit.specs.Lent.{number_within, zero_lent}
+use Rattle.unit.specs.SiteNumbers.{site_from}
 use Rattle.report.specs.Demand.{line_at}
-use Rattle.unit.specs.LineNumbers.{lineValues, lineOrder, LendsLine, LinesNumbers}
+use Rattle.unit.specs.LineNumbers.{line_values, line_order, LendsLine, LinesNumbers}
 
 module _ (header : Header) (site : Site) where
   -- an answer that stands, lent with the number 0
-  lent-stands : (before afterwards : List ℕ) (answer : LineAnswer) → AnswerStands (coefficientsOf header.edition) header site answer
-      → LendsLine answer before afterwards 0 → LineStands (coefficientsOf header.edition) header site (line_at afterwards 0)
-  lent-stands before afterwards EditionUnknown s l = absurd (omega (arith, (zero-lent l).0))
-  lent-stands before afterwards OutsideLimits s l = absurd (omega (arith, (zero-lent l).0))
-  lent-stands before afterwards OutsideRange s l = absurd (omega (arith, (zero-lent l).0))
-  lent-stands before afterwards (Made line) s l = rw (zero-lent l).2 s
+  lent_stands : (before afterwards : List ℕ) (answer : LineAnswer) → AnswerStands (coefficients_of header.edition) header site answer
+      → LendsLine answer before afterwards 0 → LineStands (coefficients_of header.edition) header site (line_at afterwards 0)
+  lent_stands before afterwards EditionUnknown s l = absurd (omega (arith, (zero_lent l).0))
+  lent_stands before afterwards OutsideLimits s l = absurd (omega (arith, (zero_lent l).0))
+  lent_stands before afterwards OutsideRange s l = absurd (omega (arith, (zero_lent l).0))
+  lent_stands before afterwards (Made line) s l = rw (zero_lent l).2 s
 
   -- the number of an answer's call, case by case
-  lent-order : (room : ℕ)
-      → let answer = lineAnswer (coefficientsOf header.edition) header site in
-      numberWithin (lineNumber answer) (lineValues answer) room ≡ lineOrder header site room
-  unfolding lineAnswer lineOrder
-  lent-order room = by (editionKnown header.edition) (inLimits header) (sound header.edition header.years site)
+  lent_order : (room : ℕ)
+      → let answer = line_answer (coefficients_of header.edition) header site in
+      number_within (line_number answer) (line_values answer) room ≡ line_order header site room
+  unfolding line_answer line_order
+  lent_order room = by (edition_known header.edition) (in_limits header) (sound header.edition header.years site)
     where
       none : (number : ℕ) → cond (leb 0 room) number 10 ≡ number
       none number = rw (le-leb 0 room (omega arith)) refl
 
       answer : Bool → Bool → Bool → LineAnswer
-      answer x a b = cond x (cond a (cond b (Made (siteLine (coefficientsOf header.edition) header site)) OutsideRange) OutsideLimits) EditionUnknown
+      answer x a b = cond x (cond a (cond b (Made (site_line (coefficients_of header.edition) header site)) OutsideRange) OutsideLimits) EditionUnknown
 
-      by : (x a b : Bool) → numberWithin (lineNumber (answer x a b)) (lineValues (answer x a b)) room
+      by : (x a b : Bool) → number_within (line_number (answer x a b)) (line_values (answer x a b)) room
           ≡ cond x (cond a (cond b (cond (leb 4 room) 0 10) 8) 4) 3
       by true true true = refl
       by true true false = none 8
       by true false b = none 4
       by false a b = none 3
 
-pub lined : (header : Header) (numbers before afterwards : List ℕ) (number : ℕ) (site : Site) → site ≡ siteFrom numbers → (answer : LineAnswer)
-    → answer ≡ lineAnswer (coefficientsOf header.edition) header site → AnswerStands (coefficientsOf header.edition) header site answer
+pub lined : (header : Header) (numbers before afterwards : List ℕ) (number : ℕ) (site : Site) → site ≡ site_from numbers → (answer : LineAnswer)
+    → answer ≡ line_answer (coefficients_of header.edition) header site → AnswerStands (coefficients_of header.edition) header site answer
     → LendsLine answer before afterwards number
     → LinesNumbers header numbers before afterwards number
 lined header numbers before afterwards number site es answer ea s l =
-    let lends : LendsLine (lineAnswer (coefficientsOf header.edition) header site) before afterwards number = rw ea at l in
+    let lends : LendsLine (line_answer (coefficients_of header.edition) header site) before afterwards number = rw ea at l in
     record {
       lends = rw es at lends;
-      in_order = rw (← es) (lends.number_is ∙ lent-order header site (length before));
-      stands = λ z. rw (← es) (lent-stands header site before afterwards answer s (rw z at l));
+      in_order = rw (← es) (lends.number_is ∙ lent_order header site (length before));
+      stands = λ z. rw (← es) (lent_stands header site before afterwards answer s (rw z at l));
     }

@@ -5,98 +5,98 @@ use Rattle.std.proofs.Math.Path.{ap}
 use Rattle.std.proofs.Common.{sym, ◌∙◌}
 use mathlib.Core.List.{List, ◌++◌, map}
 use borrow.Author.Tests.{le-leb}
-use Rattle.laws.specs.Lent.{laidOver}
+use Rattle.laws.specs.Lent.{laid_over}
 use Rattle.site.specs.declared.values.Site.{Site}
 use Rattle.site.specs.Digits.{Bytes}
 use Rattle.header.specs.declared.Header.{Header}
-use Rattle.header.specs.Header.{headerIn, countIn}
-use Rattle.model.specs.Coefficients.{coefficientsOf}
+use Rattle.header.specs.Header.{header_in, count_in}
+use Rattle.model.specs.Coefficients.{coefficients_of}
 use Rattle.line.specs.declared.Line.{Line}
-use Rattle.line.specs.Line.{siteLine}
+use Rattle.line.specs.Line.{site_line}
 use Rattle.project.specs.declared.ScanAnswer.TheVariants.{Accepted}
-use Rattle.project.specs.File.{scanFile, sites_in}
-use Rattle.project.specs.Causes.{reportLength}
-use Rattle.project.specs.Acceptance.{no-cause-exactly}
+use Rattle.project.specs.File.{scan_file, sites_in}
+use Rattle.project.specs.Causes.{report_length}
+use Rattle.project.specs.Acceptance.{no_cause_exactly}
 use Rattle.report.specs.declared.ProjectAnswer.TheVariants.{Reported}
-use Rattle.report.specs.Report.{projectAnswer, answerNumber, answerValue, reportNumbers, linesIn, reportAfter}
+use Rattle.report.specs.Report.{project_answer, answer_number, answer_value, report_numbers, lines_in, report_after}
 use Rattle.project_writer.specs.declared.course.FileAnswer.TheVariants.{Written}
-use Rattle.project_writer.specs.ProjectFile.{fileAnswer, fileNumber, fileValue, bufferAfter}
+use Rattle.project_writer.specs.ProjectFile.{file_answer, file_number, file_value, buffer_after}
 use Rattle.project_writer.specs.Promise.{WritesProject}
-use Rattle.project_writer.specs.Exactly.{writable-sound}
-use Rattle.project_writer.specs.Theorems.{buffer-accepted, accepted-writable, accepted-written}
+use Rattle.project_writer.specs.Exactly.{writable_sound}
+use Rattle.project_writer.specs.Theorems.{buffer_accepted, accepted_writable, accepted_written}
 use Rattle.unit.specs.ProjectNumbers.{ReadsProject}
-use Rattle.unit.specs.FileNumbers.{sitesGiven, WritesFile, zero-filed}
-use Rattle.unit.specs.Given.{sitesRun, given-again}
+use Rattle.unit.specs.FileNumbers.{sites_given, WritesFile, zero_filed}
+use Rattle.unit.specs.Given.{sites_run, given_again}
 
 -- the lines of a header's values and a list of sites
 abbrev pub lines_of : Header → List Site → List Line
-lines_of header sites = map (siteLine (coefficientsOf header.edition) header) sites
+lines_of header sites = map (site_line (coefficients_of header.edition) header) sites
 
 -- WHAT IS WRITTEN IS REPORTED: "accepted by the reader, where its report has space, with the same sites in the same order"
 pub record ReportedBack (header : Header) (sites : List Site) (bytes : List ℕ) (room : ℕ) : Type 0 where
-  pub answer-is : projectAnswer bytes room ≡ Reported (reportLength (length sites))
-  pub header_is : headerIn bytes ≡ header
-  pub sites-are : sites_in bytes ≡ sites
-  pub lines_are : linesIn bytes ≡ lines_of header sites
+  pub answer_is : project_answer bytes room ≡ Reported (report_length (length sites))
+  pub header_is : header_in bytes ≡ header
+  pub sites_are : sites_in bytes ≡ sites
+  pub lines_are : lines_in bytes ≡ lines_of header sites
 
 module _ {header : Header} {sites : List Site} {before afterwards : List ℕ} {n : ℕ} where
-  pub written-reported : WritesProject header sites before afterwards (Written n) → (room : ℕ) → reportLength (length sites) ≤ room
+  pub written_reported : WritesProject header sites before afterwards (Written n) → (room : ℕ) → report_length (length sites) ≤ room
       → ReportedBack header sites (take n afterwards) room
-  unfolding projectAnswer
-  written-reported w room space =
-      rw w.buffer-is
-      (let back = buffer-accepted header sites before n (sym w.answer-is) in
+  unfolding project_answer
+  written_reported w room space =
+      rw w.buffer_is
+      (let back = buffer_accepted header sites before n (sym w.answer_is) in
       let edition = ap (λ (h : Header). h.edition) back.header_is in
       record {
-        answer-is = rw (back.accepted, le-leb (reportLength (length sites)) room space);
+        answer_is = rw (back.accepted, le-leb (report_length (length sites)) room space);
         header_is = back.header_is;
-        sites-are = back.sites-are;
-        lines_are = rw (back.header_is, edition, back.sites-are);
+        sites_are = back.sites_are;
+        lines_are = rw (back.header_is, edition, back.sites_are);
       })
 
 -- at the calls: the reader takes the bytes that the writer left, and makes the report of the sites that were given
 pub record FileReadBack (header : Header) (numbers before report : List ℕ) (value number : ℕ) : Type 0 where
   pub number_is : number ≡ 0
-  pub value-is : value ≡ reportLength (length (sitesGiven numbers))
-  pub report-is : report ≡ laidOver (reportNumbers (lines_of header (sitesGiven numbers))) before
+  pub value_is : value ≡ report_length (length (sites_given numbers))
+  pub report_is : report ≡ laid_over (report_numbers (lines_of header (sites_given numbers))) before
 
 module _ {header : Header} {numbers buffer bytes : List ℕ} {n : ℕ} where
-  pub written-file-read : WritesFile header numbers buffer bytes n 0
-      → {before report : List ℕ} {value number : ℕ} → reportLength (length (sitesGiven numbers)) ≤ length before
+  pub written_file_read : WritesFile header numbers buffer bytes n 0
+      → {before report : List ℕ} {value number : ℕ} → report_length (length (sites_given numbers)) ≤ length before
       → ReadsProject (take n bytes) before report value number → FileReadBack header numbers before report value number
-  unfolding reportAfter
-  written-file-read w {before} space r =
-      let back = written-reported (zero-filed w) (length before) space in
+  unfolding report_after
+  written_file_read w {before} space r =
+      let back = written_reported (zero_filed w) (length before) space in
       record {
-        number_is = r.number_is ∙ ap answerNumber back.answer-is;
-        value-is = r.value-is ∙ ap answerValue back.answer-is;
-        report-is =
-            r.report-is ∙ rw back.answer-is (ap (λ (lines : List Line). laidOver (reportNumbers lines) before) back.lines_are);
+        number_is = r.number_is ∙ ap answer_number back.answer_is;
+        value_is = r.value_is ∙ ap answer_value back.answer_is;
+        report_is =
+            r.report_is ∙ rw back.answer_is (ap (λ (lines : List Line). laid_over (report_numbers lines) before) back.lines_are);
       }
 
 -- WHAT IS READ IS WRITTEN BACK: "each accepted file is reproduced from its header and sites"
 pub record FileWrittenBack (file before afterwards : List ℕ) (value number : ℕ) : Type 0 where
   pub number_is : number ≡ 0
-  pub value-is : value ≡ length file
-  pub buffer-is : afterwards ≡ file ++ drop (length file) before
+  pub value_is : value ≡ length file
+  pub buffer_is : afterwards ≡ file ++ drop (length file) before
 
 module _ {file run report : List ℕ} {count : ℕ} (r : ReadsProject file run report count 0) where
-  accepted : scanFile file ≡ Accepted (countIn file)
-  accepted = ((no-cause-exactly file (length run) (countIn file)).1 ((r.reported refl).no-cause, refl)).0
+  accepted : scan_file file ≡ Accepted (count_in file)
+  accepted = ((no_cause_exactly file (length run) (count_in file)).1 ((r.reported refl).no_cause, refl)).0
 
-  pub read-file-written : Bytes file → {numbers before afterwards : List ℕ} {value number : ℕ} → sitesGiven numbers ≡ sites_in file
-      → length file ≤ length before → WritesFile (headerIn file) numbers before afterwards value number
+  pub read_file_written : Bytes file → {numbers before afterwards : List ℕ} {value number : ℕ} → sites_given numbers ≡ sites_in file
+      → length file ≤ length before → WritesFile (header_in file) numbers before afterwards value number
       → FileWrittenBack file before afterwards value number
-  read-file-written bytes {numbers} {before} given space w =
-      let back = accepted-written file bytes (countIn file) before accepted space in
-      let answer : fileAnswer (headerIn file) (sitesGiven numbers) (length before) ≡ Written (length file) = rw given back.0 in
-      let left : bufferAfter (headerIn file) (sitesGiven numbers) before ≡ file ++ drop (length file) before = rw given back.1 in
+  read_file_written bytes {numbers} {before} given space w =
+      let back = accepted_written file bytes (count_in file) before accepted space in
+      let answer : file_answer (header_in file) (sites_given numbers) (length before) ≡ Written (length file) = rw given back.0 in
+      let left : buffer_after (header_in file) (sites_given numbers) before ≡ file ++ drop (length file) before = rw given back.1 in
       record {
-        number_is = w.number_is ∙ ap fileNumber answer;
-        value-is = w.value-is ∙ ap fileValue answer;
-        buffer-is = w.buffer-is ∙ left;
+        number_is = w.number_is ∙ ap file_number answer;
+        value_is = w.value_is ∙ ap file_value answer;
+        buffer_is = w.buffer_is ∙ left;
       }
 
   -- and there are numbers that give its sites
-  pub file-given : sitesGiven (sitesRun (sites_in file)) ≡ sites_in file
-  file-given = given-again _ _ (sites_in file) (writable-sound (headerIn file) (sites_in file) (accepted-writable file (countIn file) accepted))
+  pub file_given : sites_given (sites_run (sites_in file)) ≡ sites_in file
+  file_given = given_again _ _ (sites_in file) (writable_sound (header_in file) (sites_in file) (accepted_writable file (count_in file) accepted))

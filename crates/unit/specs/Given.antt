@@ -6,72 +6,72 @@ use Prim.Native.Nat.{ℕ, zero, suc, ◌+◌, ◌*◌, ◌<◌}
 use native.Mathlib.Omega.{arith}
 use Rattle.std.proofs.Math.ListN.{length, length-append}
 use Rattle.std.proofs.Math.Seq.{drop-append-add}
-use Rattle.laws.specs.Quotient.{quotient-up, rounded-up-is, quotient-up-zero}
+use Rattle.laws.specs.Quotient.{quotient_up_lem, rounded_up_is, quotient_up_zero}
 use Rattle.site.specs.declared.values.Site.{Site}
-use Rattle.project_writer.specs.ProjectFile.{soundSites}
+use Rattle.project_writer.specs.ProjectFile.{sound_sites}
 use Rattle.project_writer.specs.Sound.{all_sound}
-use Rattle.unit.specs.SiteNumbers.{siteRun, siteFrom, siteNumbers}
-use Rattle.unit.specs.FileNumbers.{siteCount, givenFrom, sitesGiven}
-use Rattle.unit.specs.Coding.{site-read}
+use Rattle.unit.specs.SiteNumbers.{site_run, site_from, site_numbers}
+use Rattle.unit.specs.FileNumbers.{site_count, given_from, sites_given}
+use Rattle.unit.specs.Coding.{site_read}
 
 module _ (numbers : List ℕ) where
-  from-count : (left i : ℕ) → length (givenFrom left i numbers) ≡ left
-  unfolding givenFrom
-  from-count zero i = refl
-  from-count (suc left) i = ap suc (from-count left (suc i))
+  from_count : (left i : ℕ) → length (given_from left i numbers) ≡ left
+  unfolding given_from
+  from_count zero i = refl
+  from_count (suc left) i = ap suc (from_count left (suc i))
 
-  from_at : (left i j : ℕ) (d : Site) → j < left → get_or (givenFrom left i numbers) j d ≡ siteFrom (drop (siteNumbers * (i + j)) numbers)
-  unfolding givenFrom
+  from_at : (left i j : ℕ) (d : Site) → j < left → get_or (given_from left i numbers) j d ≡ site_from (drop (site_numbers * (i + j)) numbers)
+  unfolding given_from
   from_at zero i j d h = absurd (omega arith)
-  from_at (suc left) i zero d h = let at : siteNumbers * i ≡ siteNumbers * (i + 0) = omega arith in ap (λ (k : ℕ). siteFrom (drop k numbers)) at
+  from_at (suc left) i zero d h = let at : site_numbers * i ≡ site_numbers * (i + 0) = omega arith in ap (λ (k : ℕ). site_from (drop k numbers)) at
   from_at (suc left) i (suc j) d h =
-      let at : siteNumbers * (suc i + j) ≡ siteNumbers * (i + suc j) = omega arith in
-      from_at left (suc i) j d (omega arith) ∙ ap (λ (k : ℕ). siteFrom (drop k numbers)) at
+      let at : site_numbers * (suc i + j) ≡ site_numbers * (i + suc j) = omega arith in
+      from_at left (suc i) j d (omega arith) ∙ ap (λ (k : ℕ). site_from (drop k numbers)) at
 
   -- HOW MANY, and each at its place, which the numbers have
-  pub given-count : length (sitesGiven numbers) ≡ siteCount (length numbers)
-  unfolding sitesGiven
-  given-count = from-count (siteCount (length numbers)) 0
+  pub given_count : length (sites_given numbers) ≡ site_count (length numbers)
+  unfolding sites_given
+  given_count = from_count (site_count (length numbers)) 0
 
-  module _ (i : ℕ) (h : i < siteCount (length numbers)) where
-    pub given-at : (d : Site) → get_or (sitesGiven numbers) i d ≡ siteFrom (drop (siteNumbers * i) numbers)
-    unfolding sitesGiven
-    given-at d =
-        let at : siteNumbers * (0 + i) ≡ siteNumbers * i = omega arith in
-        from_at (siteCount (length numbers)) 0 i d h ∙ ap (λ (k : ℕ). siteFrom (drop k numbers)) at
+  module _ (i : ℕ) (h : i < site_count (length numbers)) where
+    pub given_at : (d : Site) → get_or (sites_given numbers) i d ≡ site_from (drop (site_numbers * i) numbers)
+    unfolding sites_given
+    given_at d =
+        let at : site_numbers * (0 + i) ≡ site_numbers * i = omega arith in
+        from_at (site_count (length numbers)) 0 i d h ∙ ap (λ (k : ℕ). site_from (drop k numbers)) at
 
-    pub given-within : siteNumbers * i < length numbers
-    given-within = omega (arith, (quotient-up (length numbers) siteNumbers (omega arith)).near)
+    pub given_within : site_numbers * i < length numbers
+    given_within = omega (arith, (quotient_up_lem (length numbers) site_numbers (omega arith)).near)
 
 -- ONE BEHIND THE OTHER: the site that a run starts with, and those behind its numbers
-count-more : (n : ℕ) → siteCount (siteNumbers + n) ≡ suc (siteCount n)
-count-more n =
-    let up = quotient-up n siteNumbers (omega arith) in
-    sym (rounded-up-is (omega arith) (record { above = omega arith; near = omega arith }))
+count_more : (n : ℕ) → site_count (site_numbers + n) ≡ suc (site_count n)
+count_more n =
+    let up = quotient_up_lem n site_numbers (omega arith) in
+    sym (rounded_up_is (omega arith) (record { above = omega arith; near = omega arith }))
 
-module _ (run rest : List ℕ) (h : length run ≡ siteNumbers) where
-  behind : (left i : ℕ) → givenFrom left (suc i) (run ++ rest) ≡ givenFrom left i rest
-  unfolding givenFrom
+module _ (run rest : List ℕ) (h : length run ≡ site_numbers) where
+  behind : (left i : ℕ) → given_from left (suc i) (run ++ rest) ≡ given_from left i rest
+  unfolding given_from
   behind zero i = refl
   behind (suc left) i =
-      let at : siteNumbers * suc i ≡ length run + siteNumbers * i = omega arith in
-      rw (at, drop-append-add run rest (siteNumbers * i), behind left (suc i))
+      let at : site_numbers * suc i ≡ length run + site_numbers * i = omega arith in
+      rw (at, drop-append-add run rest (site_numbers * i), behind left (suc i))
 
-  pub given-more : sitesGiven (run ++ rest) ≡ siteFrom (run ++ rest) ∷ sitesGiven rest
-  unfolding sitesGiven givenFrom
-  given-more =
-      let count : length (run ++ rest) ≡ siteNumbers + length rest = omega (arith, length-append run rest) in
-      rw (count, count-more (length rest), behind (siteCount (length rest)) 0)
+  pub given_more : sites_given (run ++ rest) ≡ site_from (run ++ rest) ∷ sites_given rest
+  unfolding sites_given given_from
+  given_more =
+      let count : length (run ++ rest) ≡ site_numbers + length rest = omega (arith, length-append run rest) in
+      rw (count, count_more (length rest), behind (site_count (length rest)) 0)
 
 -- EVERY LIST OF VALID SITES CAN BE GIVEN, by the run of each, which `crash_site_read` leaves
-unfoldable pub sitesRun : List Site → List ℕ
-sitesRun [] = []
-sitesRun (site ∷ sites) = siteRun site ++ sitesRun sites
+unfoldable pub sites_run : List Site → List ℕ
+sites_run [] = []
+sites_run (site ∷ sites) = site_run site ++ sites_run sites
 
-pub given-again : (edition years : ℕ) (sites : List Site) → soundSites edition years sites ≡ length sites → sitesGiven (sitesRun sites) ≡ sites
-unfolding sitesRun sitesGiven givenFrom
-given-again edition years [] e = rw (quotient-up-zero siteNumbers (omega arith))
-given-again edition years (site ∷ sites) e =
+pub given_again : (edition years : ℕ) (sites : List Site) → sound_sites edition years sites ≡ length sites → sites_given (sites_run sites) ≡ sites
+unfolding sites_run sites_given given_from
+given_again edition years [] e = rw (quotient_up_zero site_numbers (omega arith))
+given_again edition years (site ∷ sites) e =
     let all = all_sound edition years site sites e in
-    let rest = sitesRun sites in
-    given-more (siteRun site) rest refl ∙ rw (site-read edition years site rest all.0, given-again edition years sites all.1)
+    let rest = sites_run sites in
+    given_more (site_run site) rest refl ∙ rw (site_read edition years site rest all.0, given_again edition years sites all.1)

@@ -6,22 +6,22 @@ use Rattle.site.specs.declared.values.Slot.TheVariants.{Absent, Number}
 use Rattle.site.specs.declared.values.Site.{Site}
 use Rattle.site.specs.declared.values.SiteAnswer.{SiteAnswer}
 use Rattle.site.specs.declared.values.SiteAnswer.TheVariants.{Read, Refused}
-use Rattle.site.specs.Rules.{slotCount, laterYears}
-use Rattle.site.specs.Yearly.{laterSlots, laterOf}
-use Rattle.site.specs.Answers.{readNumber, writeNumber, writeLength}
-use Rattle.site.specs.Record.{siteOf, readSite}
-use Rattle.site.specs.Writing.{slots_of, writeAnswer, writeInto}
+use Rattle.site.specs.Rules.{slot_count, later_years}
+use Rattle.site.specs.Yearly.{later_slots, later_from_slots}
+use Rattle.site.specs.Answers.{read_number, write_number, write_length}
+use Rattle.site.specs.Record.{site_of, read_site}
+use Rattle.site.specs.Writing.{slots_of, write_answer, write_into}
 use Rattle.unit.specs.Lent.{LendsValues}
 
 -- all the slots of a site, as they stand in its run, and the site of so many slots
-abbrev pub allSlots : Site → List Slot
-allSlots site = slots_of site ++ (laterSlots site.later_traffic ++ laterSlots site.later_minor)
+abbrev pub all_slots : Site → List Slot
+all_slots site = slots_of site ++ (later_slots site.later_traffic ++ later_slots site.later_minor)
 
-abbrev pub siteOfAll : (kind : ℕ) → List Slot → Site
-siteOfAll kind slots = siteOf kind slots (laterOf (drop slotCount slots)) (laterOf (drop (slotCount + laterYears) slots))
+abbrev pub site_of_all : (kind : ℕ) → List Slot → Site
+site_of_all kind slots = site_of kind slots (later_from_slots (drop slot_count slots)) (later_from_slots (drop (slot_count + later_years) slots))
 
-abbrev pub allCount : ℕ
-allCount = slotCount + 2 * laterYears
+abbrev pub all_count : ℕ
+all_count = slot_count + 2 * later_years
 
 -- an absent slot is 65,536, which no two bytes hold
 abbrev pub code : Slot → ℕ
@@ -29,45 +29,45 @@ code Absent = 65536
 code (Number value) = value
 
 -- a site's run: the kind, then all the slots
-abbrev pub siteRun : Site → List ℕ
-siteRun site = site.kind ∷ map code (allSlots site)
+abbrev pub site_run : Site → List ℕ
+site_run site = site.kind ∷ map code (all_slots site)
 
 -- the values of an answer: the site's run and the record's length; a refusal has none
-abbrev pub readValues : SiteAnswer → List ℕ
-readValues (Read site n) = siteRun site ++ (n ∷ [])
-readValues (Refused number) = []
+abbrev pub read_values : SiteAnswer → List ℕ
+read_values (Read site n) = site_run site ++ (n ∷ [])
+read_values (Refused number) = []
 
 -- a number that is no code stands for 65,535, which no rule allows, and one that is no byte for the kind 255
-abbrev pub slotFrom : ℕ → Slot
-slotFrom number = cond (ltb number 65536) (Number number) (cond (eqb number 65536) Absent (Number 65535))
+abbrev pub slot_from : ℕ → Slot
+slot_from number = cond (ltb number 65536) (Number number) (cond (eqb number 65536) Absent (Number 65535))
 
-abbrev pub kindFrom : ℕ → ℕ
-kindFrom number = cond (ltb number 256) number 255
+abbrev pub kind_from : ℕ → ℕ
+kind_from number = cond (ltb number 256) number 255
 
 -- kind and slots
-abbrev pub siteNumbers : ℕ
-siteNumbers = 1 + allCount
+abbrev pub site_numbers : ℕ
+site_numbers = 1 + all_count
 
 -- kind, slots and length
-abbrev pub answerNumbers : ℕ
-answerNumbers = 1 + siteNumbers
+abbrev pub answer_numbers : ℕ
+answer_numbers = 1 + site_numbers
 
 -- the site that a run of numbers starts with: what follows kind and slots bears on nothing. Fewer numbers stand for a site of the
 -- kind 255 too, which is outside its range
-abbrev pub slotNumbers : List ℕ → List ℕ
-slotNumbers numbers = take allCount (drop 1 numbers)
+abbrev pub slot_numbers : List ℕ → List ℕ
+slot_numbers numbers = take all_count (drop 1 numbers)
 
-unfoldable pub siteFrom : List ℕ → Site
-siteFrom numbers =
-    cond (leb siteNumbers (length numbers)) (siteOfAll (kindFrom (get_or numbers 0 0)) (map slotFrom (slotNumbers numbers))) (siteOfAll 255 [])
+unfoldable pub site_from : List ℕ → Site
+site_from numbers =
+    cond (leb site_numbers (length numbers)) (site_of_all (kind_from (get_or numbers 0 0)) (map slot_from (slot_numbers numbers))) (site_of_all 255 [])
 
 -- a site read into a lent run of numbers, in a project of an edition and of so many years: the number, and the run afterwards
 abbrev pub ReadsNumbers : (edition years : ℕ) (part before afterwards : List ℕ) (number : ℕ) → Type 0
 ReadsNumbers edition years part before afterwards number =
-    LendsValues (readNumber (readSite edition years part)) (readValues (readSite edition years part)) before afterwards number
+    LendsValues (read_number (read_site edition years part)) (read_values (read_site edition years part)) before afterwards number
 
 -- a site written from a lent run of numbers: the number, the buffer and the record's length afterwards
-pub record WritesNumbers (edition years : ℕ) (numbers before afterwards : List ℕ) (length_before length-after number : ℕ) : Type 0 where
-  pub number_is : number ≡ writeNumber (writeAnswer edition years (siteFrom numbers) (length before))
-  pub buffer-is : afterwards ≡ writeInto edition years (siteFrom numbers) before
-  pub length-is : length-after ≡ writeLength (writeAnswer edition years (siteFrom numbers) (length before)) length_before
+pub record WritesNumbers (edition years : ℕ) (numbers before afterwards : List ℕ) (length_before length_after number : ℕ) : Type 0 where
+  pub number_is : number ≡ write_number (write_answer edition years (site_from numbers) (length before))
+  pub buffer_is : afterwards ≡ write_into edition years (site_from numbers) before
+  pub length_is : length_after ≡ write_length (write_answer edition years (site_from numbers) (length before)) length_before

@@ -1,9 +1,9 @@
 // Brackets of powers, logarithms and exponentials, left in a lent run of numbers. Each call answers 0, with the low's numerator
 // and denominator and the high's in ends[0] to ends[3] and the rest of ends as it was; or 8 where an argument is outside its
 // range, then 10 where ends has fewer than four numbers, and ends as it was.
-ghost use Rattle.power.specs.Power.{powerAnswer};
-ghost use Rattle.logarithm.specs.Logarithm.{logarithmAnswer};
-ghost use Rattle.exponential.specs.Exponential.{exponentialAnswer, exponentialNegativeAnswer};
+ghost use Rattle.power.specs.Power.{power_answer};
+ghost use Rattle.logarithm.specs.Logarithm.{logarithm_answer};
+ghost use Rattle.exponential.specs.Exponential.{exponential_answer, exponential_negative_answer};
 ghost use Rattle.unit.specs.Lent.{Lends};
 
 use crate::lent::lend_four;
@@ -23,7 +23,7 @@ fn lend(answer: BracketAnswer, ends: &mut [u64]) -> u64
 // base^(num / den): base from 1 to 20,000, den 100, and num one of 79, 49, 60, 61 and 20.
 #[unsafe(no_mangle)]
 pub extern "C" fn crash_power(base: u64, num: u64, den: u64, ends: &mut [u64]) -> u64
-    ensures { Lends (powerAnswer base num den) ends.old ends.new result }
+    ensures { Lends (power_answer base num den) ends.old ends.new result }
 {
     lend(power::power(base, num, den), ends)
 }
@@ -31,7 +31,7 @@ pub extern "C" fn crash_power(base: u64, num: u64, den: u64, ends: &mut [u64]) -
 // ln argument: argument from 1 to 20,000.
 #[unsafe(no_mangle)]
 pub extern "C" fn crash_logarithm(argument: u64, ends: &mut [u64]) -> u64
-    ensures { Lends (logarithmAnswer argument) ends.old ends.new result }
+    ensures { Lends (logarithm_answer argument) ends.old ends.new result }
 {
     lend(logarithm::logarithm(argument), ends)
 }
@@ -39,7 +39,7 @@ pub extern "C" fn crash_logarithm(argument: u64, ends: &mut [u64]) -> u64
 // e^x: x from 0 to 140,000 ten-thousandths.
 #[unsafe(no_mangle)]
 pub extern "C" fn crash_exponential(x: u64, ends: &mut [u64]) -> u64
-    ensures { Lends (exponentialAnswer x) ends.old ends.new result }
+    ensures { Lends (exponential_answer x) ends.old ends.new result }
 {
     lend(exponential::exponential(x), ends)
 }
@@ -47,7 +47,7 @@ pub extern "C" fn crash_exponential(x: u64, ends: &mut [u64]) -> u64
 // e^(-x): x from 0 to 140,000 ten-thousandths.
 #[unsafe(no_mangle)]
 pub extern "C" fn crash_exponential_negative(x: u64, ends: &mut [u64]) -> u64
-    ensures { Lends (exponentialNegativeAnswer x) ends.old ends.new result }
+    ensures { Lends (exponential_negative_answer x) ends.old ends.new result }
 {
     lend(exponential::exponential_negative(x), ends)
 }

@@ -1,5 +1,5 @@
 // The line of a site for programs in other languages, left in a lent run of numbers.
-ghost use Rattle.header.specs.Header.{headerOf};
+ghost use Rattle.header.specs.Header.{header_of};
 ghost use Rattle.unit.specs.LineNumbers.{LinesNumbers};
 
 use crate::lent::lend_four;
@@ -21,7 +21,7 @@ pub extern "C" fn crash_line(
     values: &[u64],
     line: &mut [u64],
 ) -> u64
-    ensures { LinesNumbers (headerOf edition years segments crossings) values.now line.old line.new result }
+    ensures { LinesNumbers (header_of edition years segments crossings) values.now line.old line.new result }
 {
     let header = Header {
         edition,

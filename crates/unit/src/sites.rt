@@ -5,7 +5,7 @@
 ghost use Rattle.std.specs.Prelude.{◌≡◌, map, ◌≤◌, length};
 ghost use Rattle.std.proofs.lemmas.List.Edits.{sets};
 ghost use Rattle.site.specs.declared.values.SiteAnswer.TheVariants.{Read};
-ghost use Rattle.unit.specs.SiteNumbers.{allSlots, allCount, code, readValues, slotFrom, kindFrom, siteFrom, siteNumbers, answerNumbers};
+ghost use Rattle.unit.specs.SiteNumbers.{all_slots, all_count, code, read_values, slot_from, kind_from, site_from, site_numbers, answer_numbers};
 ghost use Rattle.unit.specs.SiteNumbers.{ReadsNumbers, WritesNumbers};
 
 use crate::slots::{ALL_SLOTS, site_of_all, slot_at};
@@ -29,8 +29,8 @@ fn code_of(slot: Slot) -> u64
 
 // Stores the codes of all the slots after the kind.
 fn put_slots(site: Site, values: &mut [u64])
-    requires { siteNumbers ≤ length values.old }
-    ensures { values.new ≡ sets values.old 1 (map code (allSlots site)) }
+    requires { site_numbers ≤ length values.old }
+    ensures { values.new ≡ sets values.old 1 (map code (all_slots site)) }
 {
     let later_traffic = site.later_traffic;
     let later_minor = site.later_minor;
@@ -46,8 +46,8 @@ fn put_slots(site: Site, values: &mut [u64])
 
 // Stores the kind, the slots and the record's length.
 fn put_site(site: Site, n: usize, values: &mut [u64])
-    requires { answerNumbers ≤ length values.old }
-    ensures { values.new ≡ sets values.old 0 (readValues (Read site n)) }
+    requires { answer_numbers ≤ length values.old }
+    ensures { values.new ≡ sets values.old 0 (read_values (Read site n)) }
 {
     let kind = site.kind;
     values[0] = kind as u64;
@@ -77,7 +77,7 @@ pub extern "C" fn crash_site_read(edition: u64, years: u64, part: &[u8], values:
 
 // A number that is no code is taken for 65,535, which no rule allows.
 fn slot_from(number: u64) -> Slot
-    ensures { result ≡ slotFrom number }
+    ensures { result ≡ slot_from number }
 {
     if number < ABSENT {
         Slot::Number(number as u16)
@@ -92,14 +92,14 @@ const NO_KIND: u8 = 255;
 
 // A number that is no byte is taken for 255, which is no kind.
 fn kind_from(number: u64) -> u8
-    ensures { result ≡ kindFrom number }
+    ensures { result ≡ kind_from number }
 {
     if number < 256 { number as u8 } else { NO_KIND }
 }
 
 fn slots_from(numbers: &[u64]) -> [Slot; ALL_SLOTS]
-    requires { length numbers.now ≡ allCount }
-    ensures { result ≡ map slotFrom numbers.now }
+    requires { length numbers.now ≡ all_count }
+    ensures { result ≡ map slot_from numbers.now }
 {
     let none = Slot::Absent;
     let mut slots = [none; ALL_SLOTS];
@@ -113,7 +113,7 @@ fn slots_from(numbers: &[u64]) -> [Slot; ALL_SLOTS]
 
 // The site of the first 39 numbers; fewer are taken for a site of the kind 255.
 pub fn site_from(values: &[u64]) -> Site
-    ensures { result ≡ siteFrom values.now }
+    ensures { result ≡ site_from values.now }
 {
     if values.len() < SITE_NUMBERS {
         let none = Slot::Absent;

@@ -1,9 +1,9 @@
 // All the slots of a site as one list: its twenty, then the later years of its traffic and of its minor traffic.
 ghost use Rattle.std.specs.Prelude.{◌≡◌, ◌++◌, ◌+◌, ◌<◌, ◌≤◌, length, get_or, drop};
 ghost use Rattle.site.specs.declared.values.Slot.TheVariants.{Absent};
-ghost use Rattle.site.specs.Rules.{slotCount, laterYears};
-ghost use Rattle.site.specs.Yearly.{laterOf};
-ghost use Rattle.unit.specs.SiteNumbers.{siteOfAll, allCount};
+ghost use Rattle.site.specs.Rules.{slot_count, later_years};
+ghost use Rattle.site.specs.Yearly.{later_from_slots};
+ghost use Rattle.unit.specs.SiteNumbers.{site_of_all, all_count};
 
 use site::rules::{LATER_YEARS, SLOTS};
 use site::values;
@@ -18,7 +18,7 @@ pub(crate) fn slot_at(
     minor: [Slot; LATER_YEARS],
     i: usize,
 ) -> Slot
-    requires { (length slots ≡ slotCount) × (length traffic ≡ laterYears) × (length minor ≡ laterYears) × (i < allCount) }
+    requires { (length slots ≡ slot_count) × (length traffic ≡ later_years) × (length minor ≡ later_years) × (i < all_count) }
     ensures { result ≡ get_or (slots ++ (traffic ++ minor)) i Absent }
 {
     if i < SLOTS {
@@ -33,8 +33,8 @@ pub(crate) fn slot_at(
 
 // The later years from a place on.
 fn later_at(slots: [Slot; ALL_SLOTS], at: usize) -> Later
-    requires { (length slots ≡ allCount) × (at + laterYears ≤ allCount) }
-    ensures { result ≡ laterOf (drop at slots) }
+    requires { (length slots ≡ all_count) × (at + later_years ≤ all_count) }
+    ensures { result ≡ later_from_slots (drop at slots) }
 {
     values::later_of([
         slots[at],
@@ -51,8 +51,8 @@ fn later_at(slots: [Slot; ALL_SLOTS], at: usize) -> Later
 
 // The site of its kind and of all its slots.
 pub(crate) fn site_of_all(kind: u8, slots: [Slot; ALL_SLOTS]) -> Site
-    requires { length slots ≡ allCount }
-    ensures { result ≡ siteOfAll kind slots }
+    requires { length slots ≡ all_count }
+    ensures { result ≡ site_of_all kind slots }
 {
     let first = [
         slots[0], slots[1], slots[2], slots[3], slots[4], slots[5], slots[6], slots[7], slots[8],

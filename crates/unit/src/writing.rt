@@ -1,10 +1,10 @@
 // The project writer for programs in other languages. The sites are one run of numbers, each site's 39 behind the last's, as
 // crash_site_write takes them.
 ghost use Rattle.std.specs.Prelude.{◌≡◌, length};
-ghost use Rattle.header.specs.Header.{headerOf};
-ghost use Rattle.project_writer.specs.Course.{walkCourse, walkBuffer, Walks};
+ghost use Rattle.header.specs.Header.{header_of};
+ghost use Rattle.project_writer.specs.Course.{walk_course, walk_buffer, Walks};
 ghost use Rattle.project_writer.specs.Promise.{WritesProject};
-ghost use Rattle.unit.specs.FileNumbers.{siteCount, sitesGiven, WritesFile};
+ghost use Rattle.unit.specs.FileNumbers.{site_count, sites_given, WritesFile};
 
 use crate::sites::{SITE_NUMBERS, site_from};
 use header::{HEADER_LENGTH, Header, does_admit};
@@ -13,7 +13,7 @@ use site::rules::is_edition_known;
 
 // A site for each 39 numbers, and one for a rest of fewer.
 fn count_sites(numbers: usize) -> usize
-    ensures { result ≡ siteCount numbers }
+    ensures { result ≡ site_count numbers }
 {
     let whole = numbers / SITE_NUMBERS;
     if whole * SITE_NUMBERS < numbers {
@@ -31,9 +31,9 @@ fn walk_numbers(
     buffer: &mut [u8],
     start: Course,
 ) -> Course
-    requires { Walks edition years (sitesGiven numbers.now) start (length buffer.old) }
-    ensures value { result ≡ walkCourse edition years (sitesGiven numbers.now) start }
-    ensures buffer_after { buffer.new ≡ walkBuffer edition years (sitesGiven numbers.now) start buffer.old }
+    requires { Walks edition years (sites_given numbers.now) start (length buffer.old) }
+    ensures value { result ≡ walk_course edition years (sites_given numbers.now) start }
+    ensures buffer_after { buffer.new ≡ walk_buffer edition years (sites_given numbers.now) start buffer.old }
 {
     let sites = count_sites(numbers.len());
     let mut course = start;
@@ -49,7 +49,7 @@ fn walk_numbers(
 
 // The edition, header limits, each site, then the space; then the file is written.
 fn write_numbers(header: Header, numbers: &[u64], buffer: &mut [u8]) -> FileAnswer
-    ensures { WritesProject header (sitesGiven numbers.now) buffer.old buffer.new result }
+    ensures { WritesProject header (sites_given numbers.now) buffer.old buffer.new result }
 {
     let edition = header.edition;
     let years = header.years;
@@ -86,7 +86,7 @@ pub extern "C" fn crash_project_write(
     buffer: &mut [u8],
     value: &mut u64,
 ) -> u64
-    ensures { WritesFile (headerOf edition years segments crossings) sites.now buffer.old buffer.new value.new result }
+    ensures { WritesFile (header_of edition years segments crossings) sites.now buffer.old buffer.new value.new result }
 {
     let header = Header {
         edition,

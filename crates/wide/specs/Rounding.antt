@@ -10,52 +10,52 @@ pub record Narrow (R a r low high : ℕ) : Type 0 where
   pub width : R * high ≤ R * low + R * a + r * high
 
 -- the two roundings by their products
-pub floor-le : (a n d : ℕ) → floor a n d * d ≤ a * n
-floor-le a n d = div-mul-le_self (a * n) d
+pub floor_le : (a n d : ℕ) → floor a n d * d ≤ a * n
+floor_le a n d = div-mul-le_self (a * n) d
 
-pub floor-lt : (a n d : ℕ) → zero < d → a * n < floor a n d * d + d
-floor-lt a n d h = lt-div-mul-add h
+pub floor_lt : (a n d : ℕ) → zero < d → a * n < floor a n d * d + d
+floor_lt a n d h = lt-div-mul-add h
 
-pub ceiling-ge : (a n d : ℕ) → zero < d → a * n ≤ ceiling a n d * d
-ceiling-ge a n d h = omega (arith, lt-div-mul-add {a = a * n + (d - 1)} {b = d} h)
+pub ceiling_ge : (a n d : ℕ) → zero < d → a * n ≤ ceiling a n d * d
+ceiling_ge a n d h = omega (arith, lt-div-mul-add {a = a * n + (d - 1)} {b = d} h)
 
-pub ceiling-lt : (a n d : ℕ) → zero < d → ceiling a n d * d < a * n + d
-ceiling-lt a n d h = omega (arith, div-mul-le_self (a * n + (d - 1)) d)
+pub ceiling_lt : (a n d : ℕ) → zero < d → ceiling a n d * d < a * n + d
+ceiling_lt a n d h = omega (arith, div-mul-le_self (a * n + (d - 1)) d)
 
 -- both by the number that says which
-pub rounded-is-floor : (a n d : ℕ) → rounded 0 a n d ≡ floor a n d
-rounded-is-floor a n d = ap (λ (x : ℕ). x / d) (omega arith)
+pub rounded_is_floor : (a n d : ℕ) → rounded 0 a n d ≡ floor a n d
+rounded_is_floor a n d = ap (λ (x : ℕ). x / d) (omega arith)
 
-pub rounded-is-ceiling : (a n d : ℕ) → rounded 1 a n d ≡ ceiling a n d
-rounded-is-ceiling a n d = ap (λ (x : ℕ). x / d) (omega arith)
+pub rounded_is_ceiling : (a n d : ℕ) → rounded 1 a n d ≡ ceiling a n d
+rounded_is_ceiling a n d = ap (λ (x : ℕ). x / d) (omega arith)
 
 -- a whole number on one side of a fraction is on that side of its roundings
 module _ (a n d t : ℕ) (h : zero < d) where
   pub ≤-floor : t * d ≤ a * n → t ≤ floor a n d
-  ≤-floor l = omega (arith, lt_of_mul-lt-mul_right d {m = t} {n = floor a n d + 1} (omega (arith, floor-lt a n d h)))
+  ≤-floor l = omega (arith, lt_of_mul-lt-mul_right d {m = t} {n = floor a n d + 1} (omega (arith, floor_lt a n d h)))
 
   pub floor-≤ : a * n ≤ t * d → floor a n d ≤ t
-  floor-≤ l = le_of_mul-le-mul_right {k = d} (omega (arith, floor-le a n d)) h
+  floor-≤ l = le_of_mul-le-mul_right {k = d} (omega (arith, floor_le a n d)) h
 
   pub ≤-ceiling : t * d ≤ a * n → t ≤ ceiling a n d
-  ≤-ceiling l = le_of_mul-le-mul_right {k = d} (omega (arith, ceiling-ge a n d h)) h
+  ≤-ceiling l = le_of_mul-le-mul_right {k = d} (omega (arith, ceiling_ge a n d h)) h
 
   pub ceiling-≤ : a * n ≤ t * d → ceiling a n d ≤ t
-  ceiling-≤ l = omega (arith, lt_of_mul-lt-mul_right d {m = ceiling a n d} {n = t + 1} (omega (arith, ceiling-lt a n d h)))
+  ceiling-≤ l = omega (arith, lt_of_mul-lt-mul_right d {m = ceiling a n d} {n = t + 1} (omega (arith, ceiling_lt a n d h)))
 
 -- THE LOWER BOUND. lo / U ≤ x and ln / ld ≤ f give (lo * ln / ld) / U ≤ x * f. A division by 0 gives 0, so ld may be 0
-pub scaled-lower : (lo xn xd U ln ld fn fd : ℕ) → lo * xd ≤ xn * U → ln * fd ≤ fn * ld → floor lo ln ld * (xd * fd) ≤ (xn * fn) * U
-scaled-lower lo xn xd U ln ld fn fd below factor =
+pub scaled_lower : (lo xn xd U ln ld fn fd : ℕ) → lo * xd ≤ xn * U → ln * fd ≤ fn * ld → floor lo ln ld * (xd * fd) ≤ (xn * fn) * U
+scaled_lower lo xn xd U ln ld fn fd below factor =
     ⊎_elim
     (λ e. omega (arith, mul-le-mul_right (xd * fd) (le_of_eq (ap (λ (d : ℕ). (lo * ln) / d) e ∙ div-zero (lo * ln)))))
-    (λ pos. le_of_mul-le-mul_right {k = ld} (omega (arith, mul-le-mul_right (xd * fd) (floor-le lo ln ld), mul-le-mul below factor)) pos)
+    (λ pos. le_of_mul-le-mul_right {k = ld} (omega (arith, mul-le-mul_right (xd * fd) (floor_le lo ln ld), mul-le-mul below factor)) pos)
     (eq-zero-or-pos ld)
 
 -- THE UPPER BOUND. x ≤ hi / U and f ≤ hn / hd give x * f ≤ (hi * hn / hd, rounded up) / U
-pub scaled-upper : (hi xn xd U hn hd fn fd : ℕ) → zero < hd → xn * U ≤ hi * xd → fn * hd ≤ hn * fd → (xn * fn) * U ≤ ceiling hi hn hd * (xd * fd)
-scaled-upper hi xn xd U hn hd fn fd pos above factor =
+pub scaled_upper : (hi xn xd U hn hd fn fd : ℕ) → zero < hd → xn * U ≤ hi * xd → fn * hd ≤ hn * fd → (xn * fn) * U ≤ ceiling hi hn hd * (xd * fd)
+scaled_upper hi xn xd U hn hd fn fd pos above factor =
     le_of_mul-le-mul_right {k = hd}
-    (omega (arith, mul-le-mul_right (xd * fd) (ceiling-ge hi hn hd pos), mul-le-mul above factor))
+    (omega (arith, mul-le-mul_right (xd * fd) (ceiling_ge hi hn hd pos), mul-le-mul above factor))
     pos
 
 -- the exact products of the bounds, before they are rounded. A is hn * ld, B is ln * hd and W is hd * ld
@@ -65,33 +65,33 @@ exact R a b r rho lo hi A B W order narrow factor most =
     omega (arith, mul-le-mul_right A narrow.width, mul-le-mul_left lo factor, mul-le-mul_right (rho * A) order, mul-le-mul_left R most)
 
 -- two fractions X / W and Y / W that are at most (b + s X / W) / R apart, rounded outward: each rounding adds at most 1
-pub rounded-width : (R b s lo' hi' X Y W : ℕ) → zero < W → R * X ≤ R * Y + b * W + s * X → hi' * W ≤ X + W → X ≤ hi' * W → Y ≤ lo' * W + W
+pub rounded_width : (R b s lo' hi' X Y W : ℕ) → zero < W → R * X ≤ R * Y + b * W + s * X → hi' * W ≤ X + W → X ≤ hi' * W → Y ≤ lo' * W + W
     → R * hi' ≤ R * lo' + (b + 2 * R) + s * hi'
-rounded-width R b s lo' hi' X Y W pos e up most low =
+rounded_width R b s lo' hi' X Y W pos e up most low =
     le_of_mul-le-mul_right {m = R * hi'} {n = R * lo' + (b + 2 * R) + s * hi'} {k = W}
     (omega (arith, mul-le-mul_left R up, mul-le-mul_left s most, mul-le-mul_left R low))
     pos
 
 -- THE WIDTH. After scaling by a factor hn / hd that is itself rho / R wide, and that takes a to at most b, it is at most b + 2 + ((r + rho) / R) * hi' wide
-pub scaled-width : (R a b r rho lo hi ln ld hn hd : ℕ) → zero < ld → zero < hd → lo ≤ hi → Narrow R a r lo hi
+pub scaled_width : (R a b r rho lo hi ln ld hn hd : ℕ) → zero < ld → zero < hd → lo ≤ hi → Narrow R a r lo hi
     → R * (hn * ld) ≤ R * (ln * hd) + rho * (hn * ld) → a * hn ≤ b * hd
     → Narrow R (b + 2) (r + rho) (floor lo ln ld) (ceiling hi hn hd)
-scaled-width R a b r rho lo hi ln ld hn hd pl ph order narrow factor most =
+scaled_width R a b r rho lo hi ln ld hn hd pl ph order narrow factor most =
     let X = hi * (hn * ld) in
     let Y = lo * (ln * hd) in
     let W = hd * ld in
     let apart : R * X ≤ R * Y + R * (b * W) + (r + rho) * X =
     exact R a b r rho lo hi (hn * ld) (ln * hd) W order narrow factor (omega (arith, mul-le-mul_right ld most)) in
     let e : R * X ≤ R * Y + R * b * W + (r + rho) * X = omega arith in
-    let w = rounded-width R (R * b) (r + rho) (floor lo ln ld) (ceiling hi hn hd) X Y W (mul-pos ph pl) e
-    (omega (arith, mul-le-mul_right ld (ceiling-lt hi hn hd ph)))
-    (omega (arith, mul-le-mul_right ld (ceiling-ge hi hn hd ph)))
-    (omega (arith, mul-le-mul_right hd (floor-lt lo ln ld pl))) in
+    let w = rounded_width R (R * b) (r + rho) (floor lo ln ld) (ceiling hi hn hd) X Y W (mul-pos ph pl) e
+    (omega (arith, mul-le-mul_right ld (ceiling_lt hi hn hd ph)))
+    (omega (arith, mul-le-mul_right ld (ceiling_ge hi hn hd ph)))
+    (omega (arith, mul-le-mul_right hd (floor_lt lo ln ld pl))) in
     record { width = omega (arith, w) }
 
 -- the order of the bounds is kept
-pub scaled-order : (lo hi ln ld hn hd : ℕ) → zero < ld → zero < hd → lo ≤ hi → ln * hd ≤ hn * ld → floor lo ln ld ≤ ceiling hi hn hd
-scaled-order lo hi ln ld hn hd pl ph le factor =
+pub scaled_order : (lo hi ln ld hn hd : ℕ) → zero < ld → zero < hd → lo ≤ hi → ln * hd ≤ hn * ld → floor lo ln ld ≤ ceiling hi hn hd
+scaled_order lo hi ln ld hn hd pl ph le factor =
     le_of_mul-le-mul_right {k = ld * hd}
-    (omega (arith, mul-le-mul_right hd (floor-le lo ln ld), mul-le-mul_right ld (ceiling-ge hi hn hd ph), mul-le-mul le factor))
+    (omega (arith, mul-le-mul_right hd (floor_le lo ln ld), mul-le-mul_right ld (ceiling_ge hi hn hd ph), mul-le-mul le factor))
     (mul-pos pl ph)

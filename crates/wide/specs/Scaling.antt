@@ -21,11 +21,11 @@ rounded up a n d = (a * n + up * (d - 1)) / d
 abbrev pub answered : (d q : ℕ) → Scaled
 answered d q = cond (ltb 0 d && ltb q (2 ^ 64)) (Value q) TooLarge
 
-abbrev pub scaledDown : (a n d : ℕ) → Scaled
-scaledDown a n d = answered d (floor a n d)
+abbrev pub scaled_down : (a n d : ℕ) → Scaled
+scaled_down a n d = answered d (floor a n d)
 
-abbrev pub scaledUp : (a n d : ℕ) → Scaled
-scaledUp a n d = answered d (ceiling a n d)
+abbrev pub scaled_up : (a n d : ℕ) → Scaled
+scaled_up a n d = answered d (ceiling a n d)
 
 -- the value of an answer that has one
 abbrev pub value_of : Scaled → ℕ
@@ -33,32 +33,32 @@ value_of (Value v) = v
 value_of TooLarge = 0
 
 -- a quotient that fits is answered
-pub answered-value : (d q : ℕ) → 0 < d → q < 2 ^ 64 → answered d q ≡ Value q
-answered-value d q h l = simp (lt-ltb 0 d h, lt-ltb q (2 ^ 64) l)
+pub answered_value : (d q : ℕ) → 0 < d → q < 2 ^ 64 → answered d q ≡ Value q
+answered_value d q h l = simp (lt-ltb 0 d h, lt-ltb q (2 ^ 64) l)
 
 -- one that does not fit is too large, and so is a division by 0
-pub answered-large : (d q : ℕ) → 2 ^ 64 ≤ q → answered d q ≡ TooLarge
-answered-large d q l = either (dec_lt 0 d)
+pub answered_large : (d q : ℕ) → 2 ^ 64 ≤ q → answered d q ≡ TooLarge
+answered_large d q l = either (dec_lt 0 d)
   where
     either : Dec (0 < d) → answered d q ≡ TooLarge
     either (yes h) = simp (lt-ltb 0 d h, le-ltb q (2 ^ 64) l)
     either (no f) = simp (le-ltb 0 d (omega arith))
 
-pub answered-zero : (d q : ℕ) → d ≡ 0 → answered d q ≡ TooLarge
-answered-zero d q e = simp (le-ltb 0 d (omega arith))
+pub answered_zero : (d q : ℕ) → d ≡ 0 → answered d q ≡ TooLarge
+answered_zero d q e = simp (le-ltb 0 d (omega arith))
 
 -- what a value says: d is not 0, and the value is the quotient
 pub record Answered (d q v : ℕ) : Type 0 where
   pub divisor : 0 < d
   pub is : v ≡ q
 
-pub value-is : (d q v : ℕ) → answered d q ≡ Value v → Answered d q v
-value-is d q v e = either (dec_lt 0 d) (dec_lt q (2 ^ 64))
+pub value_is : (d q v : ℕ) → answered d q ≡ Value v → Answered d q v
+value_is d q v e = either (dec_lt 0 d) (dec_lt q (2 ^ 64))
   where
     never : answered d q ≡ TooLarge → ⊥
     never t = let z : ◌≡◌ {A = ℕ} 0 1 = cc in omega arith
 
     either : Dec (0 < d) → Dec (q < 2 ^ 64) → Answered d q v
-    either (yes h) (yes l) = record { divisor = h; is = let t = answered-value d q h l in cc }
-    either (yes h) (no f) = absurd (never (answered-large d q (omega arith)))
-    either (no f) r = absurd (never (answered-zero d q (omega arith)))
+    either (yes h) (yes l) = record { divisor = h; is = let t = answered_value d q h l in cc }
+    either (yes h) (no f) = absurd (never (answered_large d q (omega arith)))
+    either (no f) r = absurd (never (answered_zero d q (omega arith)))

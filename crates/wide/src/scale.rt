@@ -1,6 +1,6 @@
 // a * n / d, rounded down and rounded up, with the product exact.
 ghost use Rattle.std.specs.Prelude.{◌≡◌, ◌+◌, ◌*◌, ◌/◌, ◌%◌, ◌^◌, ◌<◌};
-ghost use Rattle.wide.specs.Scaling.{floor, ceiling, answered, scaledDown, scaledUp, value_of};
+ghost use Rattle.wide.specs.Scaling.{floor, ceiling, answered, scaled_down, scaled_up, value_of};
 
 use crate::division::quotient;
 use crate::word::{plus, product};
@@ -30,7 +30,7 @@ fn scale(a: u64, n: u64, d: u64, more: u64) -> Scaled
 
 // a * n / d, rounded down.
 pub fn scale_down(a: u64, n: u64, d: u64) -> Scaled
-    ensures { result ≡ scaledDown a n d }
+    ensures { result ≡ scaled_down a n d }
 {
     if d == 0 {
         return Scaled::TooLarge;
@@ -40,7 +40,7 @@ pub fn scale_down(a: u64, n: u64, d: u64) -> Scaled
 
 // a * n / d, rounded up.
 pub fn scale_up(a: u64, n: u64, d: u64) -> Scaled
-    ensures { result ≡ scaledUp a n d }
+    ensures { result ≡ scaled_up a n d }
 {
     if d == 0 {
         return Scaled::TooLarge;

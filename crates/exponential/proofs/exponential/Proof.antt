@@ -2,18 +2,18 @@
 use native.Mathlib.Omega.{arith}
 use borrow.Author.Rules.{rules}
 use Rattle.bracket.specs.Answer.{refused, given}
-use Rattle.exponential.specs.Exponential.{exponentialAnswer}
-use Rattle.exponential.specs.ExponentialLaws.{exponential-answers}
+use Rattle.exponential.specs.Exponential.{exponential_answer}
+use Rattle.exponential.specs.ExponentialLaws.{exponential_answers}
 use Rattle.exponential.proofs.exponential.Statement.{statement}
 use Rattle.exponential.proofs.exponential.Tie as tie
 
 returns : tie.Need-returns
-unfolding exponentialAnswer
-returns c = refused (exponential-answers c.before.args.x) (λ l. omega arith)
+unfolding exponential_answer
+returns c = refused (exponential_answers c.before.args.x) (λ l. omega arith)
 
-returns-2 : tie.Need-returns-2
-unfolding exponentialAnswer
-returns-2 c = let s = c.before.before.before in given (exponential-answers s.before.args.x) (omega arith) c.exponential-with.ensures
+returns_2 : tie.Need-returns-2
+unfolding exponential_answer
+returns_2 c = let s = c.before.before.before in given (exponential_answers s.before.args.x) (omega arith) c.exponential-with.ensures
 
-pub exponential-spec : {M : Type 1} → statement M
-exponential-spec = tie.close (tie.spec returns (λ c κs. search rules) (λ c κs. search rules) returns-2)
+pub exponential_spec : {M : Type 1} → statement M
+exponential_spec = tie.close (tie.spec returns (λ c κs. search rules) (λ c κs. search rules) returns_2)

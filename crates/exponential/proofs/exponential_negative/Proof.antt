@@ -2,20 +2,20 @@
 use native.Mathlib.Omega.{arith}
 use borrow.Author.Rules.{rules}
 use Rattle.bracket.specs.Answer.{refused, given}
-use Rattle.exponential.specs.Exponential.{exponentialNegativeAnswer}
-use Rattle.exponential.specs.ExponentialLaws.{exponential-negative-answers}
+use Rattle.exponential.specs.Exponential.{exponential_negative_answer}
+use Rattle.exponential.specs.ExponentialLaws.{exponential_negative_answers}
 use Rattle.exponential.proofs.exponential_negative.Statement.{statement}
 use Rattle.exponential.proofs.exponential_negative.Tie as tie
 
 returns : tie.Need-returns
-unfolding exponentialNegativeAnswer
-returns c = refused (exponential-negative-answers c.before.args.x) (λ l. omega arith)
+unfolding exponential_negative_answer
+returns c = refused (exponential_negative_answers c.before.args.x) (λ l. omega arith)
 
-returns-2 : tie.Need-returns-2
-unfolding exponentialNegativeAnswer
-returns-2 c =
+returns_2 : tie.Need-returns-2
+unfolding exponential_negative_answer
+returns_2 c =
     let s = c.before.before.before in
-    given (exponential-negative-answers s.before.args.x) (omega arith) c.exponential-negative-with.ensures
+    given (exponential_negative_answers s.before.args.x) (omega arith) c.exponential-negative-with.ensures
 
-pub exponential-negative-spec : {M : Type 1} → statement M
-exponential-negative-spec = tie.close (tie.spec returns (λ c κs. search rules) (λ c κs. search rules) returns-2)
+pub exponential_negative_spec : {M : Type 1} → statement M
+exponential_negative_spec = tie.close (tie.spec returns (λ c κs. search rules) (λ c κs. search rules) returns_2)

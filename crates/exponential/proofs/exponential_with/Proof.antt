@@ -2,7 +2,7 @@
 use Prim.Native.Nat.{◌/◌}
 use native.Mathlib.Omega.{arith}
 use lib.ListN.{get_or}
-use Rattle.exponential.specs.Scale.{scale-positive}
+use Rattle.exponential.specs.Scale.{scale_positive}
 use Rattle.exponential.proofs.Ends.{Ends, ends}
 use borrow.Author.Rules.{rules}
 use Rattle.exponential.proofs.exponential_with.Statement.{statement}
@@ -14,12 +14,12 @@ found c =
     let s = c.before.before in
     ends s.requires.1 (s.requires.0.entry (s.args.x / 10000) (omega arith)) c.taylor.ensures.0 c.taylor.ensures.1
 
-pub exponential-with-spec : {M : Type 1} → statement M
-exponential-with-spec =
+pub exponential_with_spec : {M : Type 1} → statement M
+exponential_with_spec =
     tie.close
     (tie.spec
     (λ c. search rules) (λ c. search rules) (λ c κs. search rules)
-    (λ c κs. (scale-positive, (found c).low_fits))
+    (λ c κs. (scale_positive, (found c).low_fits))
     (λ c. omega (arith, (found c.before).next_fits))
-    (λ c κs. (scale-positive, (found c.before).high_fits))
-    (λ c. rw (c.before.times_down.ensures, c.times-up.ensures) (found c.before.before).bracket-is))
+    (λ c κs. (scale_positive, (found c.before).high_fits))
+    (λ c. rw (c.before.times_down.ensures, c.times-up.ensures) (found c.before.before).bracket_is))

@@ -3,7 +3,7 @@ use borrow.Author.Rules.{rules}
 use native.Mathlib.Omega.{arith}
 use mathlib.Core.Path.{◌∙◌}
 use lib.ListN.{length-set}
-use Rattle.header.specs.HeaderLaws.{Admitted, admitted, edition-few}
+use Rattle.header.specs.HeaderLaws.{Admitted, admitted, edition_few}
 use Rattle.header.proofs.put_header.Statement.{statement}
 use Rattle.header.proofs.put_header.Tie as tie
 
@@ -16,11 +16,11 @@ first c = let buffer = c.before.before.before.before in buffer.before
 within : (c : tie.Start) → Admitted c.args.header c.args.sites
 within c = admitted c.args.header c.args.sites c.requires.1
 
-put-word-requires-2 : tie.Need-put-word-requires-2
-put-word-requires-2 c κs = omega (arith, simp length-set at c.before.before.before.before.put_word.auto.1.0)
+put_word_requires_2 : tie.Need-put-word-requires-2
+put_word_requires_2 c κs = omega (arith, simp length-set at c.before.before.before.before.put_word.auto.1.0)
 
-put-word-requires-3 : tie.Need-put-word-requires-3
-put-word-requires-3 c κs =
+put_word_requires_3 : tie.Need-put-word-requires-3
+put_word_requires_3 c κs =
     let second = c.before.before.before in
     omega (arith, simp length-set at (first second).put_word.auto.1.0, second.put-word2.auto.1.0)
 
@@ -36,19 +36,19 @@ returns c =
     let second = third.before.before.before.before in
     rw (third.put-word3.ensures, second.put-word2.ensures, (first second).put_word.ensures)
 
-pub put-header-spec : {M : Type 1} → statement M
-put-header-spec =
+pub put_header_spec : {M : Type 1} → statement M
+put_header_spec =
     tie.close
     (tie.spec
-    (λ c. omega (arith, edition-few c.before.before.args.header.edition c.before.before.requires.0))
+    (λ c. omega (arith, edition_few c.before.before.args.header.edition c.before.before.requires.0))
     (λ c. search rules)
     (λ c. omega (arith, (within c.before.before.before).within))
     (λ c. simp length-set (omega arith))
     (λ c. omega (arith, (within c.before.before.before.before).within))
     (λ c κs. simp length-set (omega arith))
     (λ c. omega (arith, (within (start c.before.before.before)).within))
-    put-word-requires-2
+    put_word_requires_2
     (λ c. omega (arith, (within (start (first c.before.before))).few))
-    put-word-requires-3
+    put_word_requires_3
     same_length
     returns)

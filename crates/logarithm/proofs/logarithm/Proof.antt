@@ -1,24 +1,24 @@
 use native.Mathlib.Omega.{arith}
 use borrow.Author.Rules.{rules}
 use Rattle.bracket.specs.Answer.{refused, given}
-use Rattle.logarithm.specs.Logarithm.{logarithmAnswer}
-use Rattle.logarithm.specs.AnswerLaws.{logarithm-answers}
+use Rattle.logarithm.specs.Logarithm.{logarithm_answer}
+use Rattle.logarithm.specs.AnswerLaws.{logarithm_answers}
 use Rattle.logarithm.proofs.logarithm.Statement.{statement}
 use Rattle.logarithm.proofs.logarithm.Tie as tie
 
 returns : tie.Need-returns
-unfolding logarithmAnswer
-returns c = refused (logarithm-answers c.before.args.a) (λ r. omega (arith, r.from_one))
+unfolding logarithm_answer
+returns c = refused (logarithm_answers c.before.args.a) (λ r. omega (arith, r.from_one))
 
-returns-2 : tie.Need-returns-2
-unfolding logarithmAnswer
-returns-2 c = refused (logarithm-answers c.before.before.args.a) (λ r. omega (arith, r.to-20000))
+returns_2 : tie.Need-returns-2
+unfolding logarithm_answer
+returns_2 c = refused (logarithm_answers c.before.before.args.a) (λ r. omega (arith, r.to_20000))
 
-returns-3 : tie.Need-returns-3
-unfolding logarithmAnswer
-returns-3 c =
+returns_3 : tie.Need-returns-3
+unfolding logarithm_answer
+returns_3 c =
     let b = c.before.before.before in
-    given (logarithm-answers b.before.before.args.a) (record { from_one = omega arith; to-20000 = omega arith }) c.logarithm-with.ensures
+    given (logarithm_answers b.before.before.args.a) (record { from_one = omega arith; to_20000 = omega arith }) c.logarithm-with.ensures
 
-pub logarithm-spec : {M : Type 1} → statement M
-logarithm-spec = tie.close (tie.spec returns returns-2 (λ c κs. search rules) (λ c κs. search rules) returns-3)
+pub logarithm_spec : {M : Type 1} → statement M
+logarithm_spec = tie.close (tie.spec returns returns_2 (λ c κs. search rules) (λ c κs. search rules) returns_3)

@@ -1,39 +1,39 @@
 use native.Mathlib.Omega.{arith}
 use borrow.Author.Rules.{rules}
-use Rattle.power.specs.AnswerLaws.{power-refused, power-given}
+use Rattle.power.specs.AnswerLaws.{power_refused, power_given}
 use Rattle.power.proofs.power.Statement.{statement}
 use Rattle.power.proofs.power.Tie as tie
 
-returns-2 : tie.Need-returns-2
-returns-2 c = let a = c.before.before.args in power-refused a.base a.num a.den (λ r. omega (arith, r.to-20000))
+returns_2 : tie.Need-returns-2
+returns_2 c = let a = c.before.before.args in power_refused a.base a.num a.den (λ r. omega (arith, r.to_20000))
 
-returns-3 : tie.Need-returns-3
-returns-3 c = let a = c.before.before.before.args in power-refused a.base a.num a.den (λ r. c.if3.true r.hundredths)
+returns_3 : tie.Need-returns-3
+returns_3 c = let a = c.before.before.before.args in power_refused a.base a.num a.den (λ r. c.if3.true r.hundredths)
 
-returns-4 : tie.Need-returns-4
-returns-4 c =
+returns_4 : tie.Need-returns-4
+returns_4 c =
     let b = c.before in
     let a = b.before.before.before.before.args in
-    power-refused a.base a.num a.den (λ r. omega (arith, r.stored, b.exponent-place.ensures))
+    power_refused a.base a.num a.den (λ r. omega (arith, r.stored, b.exponent-place.ensures))
 
-returns-5 : tie.Need-returns-5
-returns-5 c =
+returns_5 : tie.Need-returns-5
+returns_5 c =
     let e = c.before.before.before in
     let b = e.before in
     let t = b.before in
     let a = t.before.before.before.args in
     let is = b.exponent-place.ensures in
-    power-given a.base a.num a.den is
-    (record { from_one = omega arith; to-20000 = omega arith; hundredths = t.if3.false; stored = omega (arith, is, e.if4.false) }) c.power-with.ensures
+    power_given a.base a.num a.den is
+    (record { from_one = omega arith; to_20000 = omega arith; hundredths = t.if3.false; stored = omega (arith, is, e.if4.false) }) c.power-with.ensures
 
-pub power-spec : {M : Type 1} → statement M
-power-spec =
+pub power_spec : {M : Type 1} → statement M
+power_spec =
     tie.close
     (tie.spec
-    (λ c. let a = c.before.args in power-refused a.base a.num a.den (λ r. omega (arith, r.from_one)))
-    returns-2
-    returns-3
+    (λ c. let a = c.before.args in power_refused a.base a.num a.den (λ r. omega (arith, r.from_one)))
+    returns_2
+    returns_3
     (λ c κs. search rules)
-    returns-4
+    returns_4
     (λ c κs. search rules) (λ c κs. search rules)
-    returns-5)
+    returns_5)

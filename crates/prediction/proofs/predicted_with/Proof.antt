@@ -6,113 +6,113 @@ use mathlib.Core.Bool.{Bool, true, false, cond}
 use Prim.Native.Nat.{ℕ, ◌+◌, ◌-◌, ◌≤◌, ◌<◌}
 use lib.ListN.{length, get_or}
 use Rattle.site.specs.Yearly.{yearly}
-use Rattle.model.specs.Coefficients.{coefficientsOf}
-use Rattle.model.specs.Predicted.{termsOf}
-use Rattle.model.specs.Parts.{termAt}
-use Rattle.model.specs.StatedWidths.{sitesCounted}
-use Rattle.model.specs.TermLaws.{sites-counted}
+use Rattle.model.specs.Coefficients.{coefficients_of}
+use Rattle.model.specs.Predicted.{terms_of}
+use Rattle.model.specs.Parts.{term_at}
+use Rattle.model.specs.StatedWidths.{sites_counted}
+use Rattle.model.specs.TermLaws.{sites_counted_lem}
 use Rattle.prediction.specs.Pair.{plus}
-use Rattle.prediction.specs.Editions.{edition-rated}
-use Rattle.prediction.specs.Terms.{noTerm, terms-sized, term-at, sized-at}
-use Rattle.prediction.specs.Carrying.{Summed, none-summed, next-summed, all-summed, summed-small}
+use Rattle.prediction.specs.Editions.{edition_rated}
+use Rattle.prediction.specs.Terms.{no_term, terms_sized, term_at_lem, sized_at}
+use Rattle.prediction.specs.Carrying.{Summed, none_summed, next_summed, all_summed, summed_small}
 use Rattle.prediction.proofs.predicted_with.Statement.{statement}
 use Rattle.prediction.proofs.predicted_with.Tie as tie
 
-abbrev invariant-loop : tie.invariant-loop
-invariant-loop powers logarithms exponentials header site traffic minor later later-minor each years count sum₀ year₀ sum year =
-    (year ≤ count) × Summed (coefficientsOf header.edition) header site year sum
+abbrev invariant_loop : tie.invariant_loop
+invariant_loop powers logarithms exponentials header site traffic minor later later_minor each years count sum₀ year₀ sum year =
+    (year ≤ count) × Summed (coefficients_of header.edition) header site year sum
 
-abbrev decreases-loop : tie.decreases-loop
-decreases-loop powers logarithms exponentials header site traffic minor later later-minor each years count sum₀ year₀ sum year = count - year
+abbrev decreases_loop : tie.decreases_loop
+decreases_loop powers logarithms exponentials header site traffic minor later later_minor each years count sum₀ year₀ sum year = count - year
 
-abbrev entry : tie.At-loop invariant-loop decreases-loop → tie.Start invariant-loop decreases-loop
+abbrev entry : tie.At-loop invariant_loop decreases_loop → tie.Start invariant_loop decreases_loop
 entry loop = loop.before.before.before.before.before.before
 
 -- how many terms there are
-count-is : (loop : tie.At-loop invariant-loop decreases-loop) → let a = (entry loop).args in loop.before.count_of.result ≡ length (termsOf a.header a.site)
-unfolding sitesCounted
-count-is loop =
+count_is : (loop : tie.At-loop invariant_loop decreases_loop) → let a = (entry loop).args in loop.before.count_of.result ≡ length (terms_of a.header a.site)
+unfolding sites_counted
+count_is loop =
     let count = loop.before in
     let start = entry loop in
-    rw count.before.before.is-yearly.ensures at count.count_of.ensures ∙ sites-counted start.args.header start.args.site start.pre.3.years-least
+    rw count.before.before.is-yearly.ensures at count.count_of.ensures ∙ sites_counted_lem start.args.header start.args.site start.pre.3.years_least
 
-count-few : (each : Bool) (years : ℕ) → years ≤ 10 → cond each years 1 ≤ 10
-count-few true years h = h
-count-few false years h = omega arith
+count_few : (each : Bool) (years : ℕ) → years ≤ 10 → cond each years 1 ≤ 10
+count_few true years h = h
+count_few false years h = omega arith
 
-in-year : (c : tie.In-loop invariant-loop decreases-loop) → c.before.loop.year ≤ 9
-in-year c =
+in_year : (c : tie.In-loop invariant_loop decreases_loop) → c.before.loop.year ≤ 9
+in_year c =
     let count = c.before.before in
     let start = entry c.before in
-    omega (arith, c.loop-test.true, count.count_of.ensures, count-few count.before.before.is-yearly.result start.args.header.years start.pre.3.years-most)
+    omega (arith, c.loop_test.true, count.count_of.ensures, count_few count.before.before.is-yearly.result start.args.header.years start.pre.3.years_most)
 
-same-term : {years traffic minor years' traffic' minor' : ℕ} → years ≡ years' → traffic ≡ traffic' → minor ≡ minor'
-    → termAt years traffic minor ≡ termAt years' traffic' minor'
-same-term y t m = rw (y, t, m)
+same_term : {years traffic minor years' traffic' minor' : ℕ} → years ≡ years' → traffic ≡ traffic' → minor ≡ minor'
+    → term_at years traffic minor ≡ term_at years' traffic' minor'
+same_term y t m = rw (y, t, m)
 
 -- the term of a turn
-term_is : (c : tie.After-traffic-in2 invariant-loop decreases-loop) → let first = c.before in let loop = first.before.before in let a = (entry loop).args in
-    get_or (termsOf a.header a.site) loop.loop.year noTerm
-    ≡ termAt loop.before.before.years-of.result first.traffic-in.result c.traffic-in2.result
+term_is : (c : tie.After-traffic-in2 invariant_loop decreases_loop) → let first = c.before in let loop = first.before.before in let a = (entry loop).args in
+    get_or (terms_of a.header a.site) loop.loop.year no_term
+    ≡ term_at loop.before.before.years-of.result first.traffic-in.result c.traffic-in2.result
 term_is c =
     let first = c.before in
     let turn = first.before in
     let loop = turn.before in
     let a = (entry loop).args in
-    let yearly-is = loop.before.before.before.is-yearly.ensures in
-    let count = rw yearly-is at loop.before.count_of.ensures in
-    let years = rw yearly-is at loop.before.before.years-of.ensures in
-    let more : loop.loop.year < cond (yearly a.site) a.header.years 1 = rw (← count) turn.loop-test.true in
-    term-at a.header a.site loop.loop.year more
-    ∙ same-term (sym years) (sym first.traffic-in.ensures) (sym c.traffic-in2.ensures)
+    let yearly_is = loop.before.before.before.is-yearly.ensures in
+    let count = rw yearly_is at loop.before.count_of.ensures in
+    let years = rw yearly_is at loop.before.before.years-of.ensures in
+    let more : loop.loop.year < cond (yearly a.site) a.header.years 1 = rw (← count) turn.loop_test.true in
+    term_at_lem a.header a.site loop.loop.year more
+    ∙ same_term (sym years) (sym first.traffic-in.ensures) (sym c.traffic-in2.ensures)
 
-term-pair-requires : tie.Need-term-pair-requires invariant-loop decreases-loop
-term-pair-requires c κs =
+term_pair_requires : tie.Need-term-pair-requires invariant_loop decreases_loop
+term_pair_requires c κs =
     let turn = c.before.before in
     let loop = turn.before in
     let start = entry loop in
     let p = start.pre in
-    let sized = sized-at start.args.site (termsOf start.args.header start.args.site) (terms-sized _ p.3 _ p.4) loop.loop.year
-    (rw (← count-is loop) turn.loop-test.true) in
+    let sized = sized_at start.args.site (terms_of start.args.header start.args.site) (terms_sized _ p.3 _ p.4) loop.loop.year
+    (rw (← count_is loop) turn.loop_test.true) in
     (p.0, p.1, p.2, p.3, p.4, rw (term_is c) at sized)
 
 -- the sum with its pair
-summed : (c : tie.After-term-pair invariant-loop decreases-loop) → let loop = c.before.before.before.before in let a = (entry loop).args in
-    Summed (coefficientsOf a.header.edition) a.header a.site (loop.loop.year + 1) (plus loop.loop.sum c.term-pair.result)
+summed : (c : tie.After-term-pair invariant_loop decreases_loop) → let loop = c.before.before.before.before in let a = (entry loop).args in
+    Summed (coefficients_of a.header.edition) a.header a.site (loop.loop.year + 1) (plus loop.loop.sum c.term-pair.result)
 summed c =
     let turn = c.before.before.before in
     let loop = turn.before in
     let a = (entry loop).args in
     rw (c.term-pair.ensures, ← term_is c.before)
-    (next-summed (coefficientsOf a.header.edition) a.header a.site loop.loop.year loop.loop.sum
-    (rw (← count-is loop) turn.loop-test.true) loop.loop.invariant.1)
+    (next_summed (coefficients_of a.header.edition) a.header a.site loop.loop.year loop.loop.sum
+    (rw (← count_is loop) turn.loop_test.true) loop.loop.invariant.1)
 
-add-pair-requires : tie.Need-add-pair-requires invariant-loop decreases-loop
-add-pair-requires c κs =
+add_pair_requires : tie.Need-add-pair-requires invariant_loop decreases_loop
+add_pair_requires c κs =
     let start = entry c.before.before.before.before in
-    summed-small _ start.args.header start.args.site (edition-rated start.args.header.edition) start.pre.3 start.pre.4 (summed c)
+    summed_small _ start.args.header start.args.site (edition_rated start.args.header.edition) start.pre.3 start.pre.4 (summed c)
 
-loop-again : tie.Need-loop-preserved invariant-loop decreases-loop
-loop-again c = (omega arith, rw c.add-pair.ensures (summed c.before))
+loop_again : tie.Need-loop-preserved invariant_loop decreases_loop
+loop_again c = (omega arith, rw c.add-pair.ensures (summed c.before))
 
-returns : tie.Need-returns invariant-loop decreases-loop
+returns : tie.Need-returns invariant_loop decreases_loop
 returns c =
     let loop = c.before in
     let a = (entry loop).args in
-    all-summed _ a.header a.site loop.loop.year loop.loop.sum (rw (← count-is loop) c.loop-test.false) loop.loop.invariant.1
+    all_summed _ a.header a.site loop.loop.year loop.loop.sum (rw (← count_is loop) c.loop_test.false) loop.loop.invariant.1
 
-pub predicted-with-spec : {M : Type 1} → statement M
-predicted-with-spec =
+pub predicted_with_spec : {M : Type 1} → statement M
+predicted_with_spec =
     tie.close
     (tie.spec
-    invariant-loop
-    decreases-loop
+    invariant_loop
+    decreases_loop
     (λ c κs. search rules) (λ c κs. search rules) (λ c κs. search rules)
-    (λ c. let start = c.before.before.before.before.before in (omega arith, none-summed _ start.args.header start.args.site))
-    (λ c κs. in-year c)
-    (λ c κs. in-year c.before)
-    term-pair-requires
-    add-pair-requires
+    (λ c. let start = c.before.before.before.before.before in (omega arith, none_summed _ start.args.header start.args.site))
+    (λ c κs. in_year c)
+    (λ c κs. in_year c.before)
+    term_pair_requires
+    add_pair_requires
     (λ c. omega arith) (λ c. omega arith)
-    loop-again
+    loop_again
     returns)

@@ -6,36 +6,36 @@ use mathlib.Core.List.{List}
 use Prim.Native.Nat.{ℕ, ◌≤◌}
 use lib.ListN.{length}
 use Rattle.header.specs.declared.Header.{Header}
-use Rattle.header.specs.Header.{headerLength, headerNumber}
-use Rattle.header.specs.HeaderLaws.{header-accepted}
-use Rattle.project.specs.File.{scanFile}
-use Rattle.project.specs.Promise.{scans-file}
+use Rattle.header.specs.Header.{header_length, header_number}
+use Rattle.header.specs.HeaderLaws.{header_accepted}
+use Rattle.project.specs.File.{scan_file}
+use Rattle.project.specs.Promise.{scans_file}
 use Rattle.project.proofs.scan.Statement.{statement}
 use Rattle.project.proofs.scan.Tie as tie
 
-long : (file : List ℕ) (number : ℕ) → number ≡ headerNumber file → number ≡ 0 → headerLength ≤ length file
-long file number is none = (header-accepted file (sym is ∙ none)).long
+long : (file : List ℕ) (number : ℕ) → number ≡ header_number file → number ≡ 0 → header_length ≤ length file
+long file number is none = (header_accepted file (sym is ∙ none)).long
 
 returns : tie.Need-returns
-unfolding scanFile
-returns c = scans-file _ _ (simp (← c.before.header-number.ensures, ne_eqb _ _ c.if1.true))
+unfolding scan_file
+returns c = scans_file _ _ (simp (← c.before.header-number.ensures, ne_eqb _ _ c.if1.true))
 
-header-in-requires : tie.Need-header-in-requires
-header-in-requires c κs = long _ _ c.before.header-number.ensures c.if1.false
+header_in_requires : tie.Need-header-in-requires
+header_in_requires c κs = long _ _ c.before.header-number.ensures c.if1.false
 
-count-in-requires : tie.Need-count-in-requires
-count-in-requires c κs = let else = c.before in long _ _ else.before.header-number.ensures else.if1.false
+count_in_requires : tie.Need-count-in-requires
+count_in_requires c κs = let else = c.before in long _ _ else.before.header-number.ensures else.if1.false
 
-scan-records-requires : tie.Need-scan-records-requires
-scan-records-requires c κs = let else = c.before.before in long _ _ else.before.header-number.ensures else.if1.false
+scan_records_requires : tie.Need-scan-records-requires
+scan_records_requires c κs = let else = c.before.before in long _ _ else.before.header-number.ensures else.if1.false
 
-returns-2 : tie.Need-returns-2
-unfolding scanFile
-returns-2 c =
+returns_2 : tie.Need-returns-2
+unfolding scan_file
+returns_2 c =
     let count = c.before in
     let header = count.before in
     let else = header.before in
-    scans-file _ _ (simp (
+    scans_file _ _ (simp (
       ← else.before.header-number.ensures,
       eq-eqb _ _ else.if1.false,
       ← ap (λ (h : Header). h.edition) header.header-in.ensures,
@@ -44,7 +44,7 @@ returns-2 c =
       c.scan-records.ensures,
     ))
 
-pub scan-spec : {M : Type 1} → statement M
-scan-spec =
+pub scan_spec : {M : Type 1} → statement M
+scan_spec =
     tie.close
-    (tie.spec (λ c κs. search rules) returns header-in-requires count-in-requires scan-records-requires returns-2)
+    (tie.spec (λ c κs. search rules) returns header_in_requires count_in_requires scan_records_requires returns_2)

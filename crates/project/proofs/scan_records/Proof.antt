@@ -7,108 +7,108 @@ use native.Mathlib.Omega.{arith}
 use lib.ListN.{length, take, drop, length-drop}
 use borrow.Author.Tests.{lt-ltb, le-ltb}
 use borrow.Author.Rules.{rules}
-use Rattle.laws.specs.Walk.{part-from}
+use Rattle.laws.specs.Walk.{part_from}
 use Rattle.site.specs.declared.values.Site.{Site}
 use Rattle.site.specs.declared.values.SiteAnswer.{SiteAnswer}
 use Rattle.site.specs.declared.values.SiteAnswer.TheVariants as site
-use Rattle.site.specs.Record.{readSite}
+use Rattle.site.specs.Record.{read_site}
 use Rattle.site.specs.Promises.{ReadsSite}
-use Rattle.header.specs.Header.{headerLength}
+use Rattle.header.specs.Header.{header_length}
 use Rattle.project.specs.declared.ScanAnswer.{ScanAnswer}
 use Rattle.project.specs.declared.ScanAnswer.TheVariants.{Accepted, Refused}
-use Rattle.project.specs.File.{afterRecord, place-of-record, scanRecords}
+use Rattle.project.specs.File.{after_record, place_of_record, scan_records}
 use Rattle.project.proofs.scan_records.Statement.{statement}
 use Rattle.project.proofs.scan_records.Tie as tie
 
 -- ONE RECORD AFTER THE OTHER: what a scan says of the records that are left at a place
-start : (s : List ℕ) (edition years sites at : ℕ) → scanRecords edition years sites (sites - 0) at s ≡ scanRecords edition years sites sites at s
+start : (s : List ℕ) (edition years sites at : ℕ) → scan_records edition years sites (sites - 0) at s ≡ scan_records edition years sites sites at s
 start s edition years sites at = let e : sites - 0 ≡ sites = omega arith in rw e
 
-module _ (s : List ℕ) (edition years sites i at : ℕ) (whole : ScanAnswer) (inv : scanRecords edition years sites (sites - i) at s ≡ whole) where
-  step : i < sites → afterRecord at (readSite edition years (drop at s)) (λ next. scanRecords edition years sites (sites - (i + 1)) next s) ≡ whole
-  unfolding scanRecords
+module _ (s : List ℕ) (edition years sites i at : ℕ) (whole : ScanAnswer) (inv : scan_records edition years sites (sites - i) at s ≡ whole) where
+  step : i < sites → after_record at (read_site edition years (drop at s)) (λ next. scan_records edition years sites (sites - (i + 1)) next s) ≡ whole
+  unfolding scan_records
   step h = let e : sites - i ≡ suc (sites - (i + 1)) = omega arith in rw e at inv
 
   module _ (answer : SiteAnswer) (reads : ReadsSite edition years (take (length s - at) (drop at s)) answer) where
-    answer-of : answer ≡ readSite edition years (drop at s)
-    answer-of = rw (part-from s at) at reads.answer-is
+    answer_of : answer ≡ read_site edition years (drop at s)
+    answer_of = rw (part_from s at) at reads.answer_is
 
-    record-refused : (number : ℕ) → i < sites → answer ≡ site.Refused number → Refused number at ≡ whole
-    record-refused number h e =
-        let q : readSite edition years (drop at s) ≡ site.Refused number =
-        sym answer-of ∙ e in sym (place-of-record at number (λ next. whole)) ∙ (rw q at (step h))
+    record_refused : (number : ℕ) → i < sites → answer ≡ site.Refused number → Refused number at ≡ whole
+    record_refused number h e =
+        let q : read_site edition years (drop at s) ≡ site.Refused number =
+        sym answer_of ∙ e in sym (place_of_record at number (λ next. whole)) ∙ (rw q at (step h))
 
-    record-read : (value : Site) (n : ℕ) → i < sites → answer ≡ site.Read value n
-        → scanRecords edition years sites (sites - (i + 1)) (at + n) s ≡ whole
-    record-read value n h e = let q : readSite edition years (drop at s) ≡ site.Read value n = sym answer-of ∙ e in rw q at (step h)
+    record_read : (value : Site) (n : ℕ) → i < sites → answer ≡ site.Read value n
+        → scan_records edition years sites (sites - (i + 1)) (at + n) s ≡ whole
+    record_read value n h e = let q : read_site edition years (drop at s) ≡ site.Read value n = sym answer_of ∙ e in rw q at (step h)
 
-    record-within : (value : Site) (n : ℕ) → at ≤ length s → answer ≡ site.Read value n → at + n ≤ length s
-    record-within value n h e =
+    record_within : (value : Site) (n : ℕ) → at ≤ length s → answer ≡ site.Read value n → at + n ≤ length s
+    record_within value n h e =
         let w = reads.bounds value n e in
-        let l : n ≤ length (drop at s) = rw (part-from s at) at w.within in
+        let l : n ≤ length (drop at s) = rw (part_from s at) at w.within in
         omega (arith, length-drop at s)
 
   bytes_after : sites ≤ i → at < length s → Refused 2 at ≡ whole
-  unfolding scanRecords
+  unfolding scan_records
   bytes_after h k = let e : sites - i ≡ 0 = omega arith in rw (e, lt-ltb at (length s) k) at inv
 
   none_after : sites ≤ i → length s ≤ at → Accepted sites ≡ whole
-  unfolding scanRecords
+  unfolding scan_records
   none_after h k = let e : sites - i ≡ 0 = omega arith in rw (e, le-ltb at (length s) k) at inv
 
-abbrev invariant-loop : tie.invariant-loop
-invariant-loop file edition years sites at₀ i₀ at i =
-    (i ≤ sites) × (at ≤ length file) × (scanRecords edition years sites (sites - i) at file ≡ scanRecords edition years sites sites headerLength file)
+abbrev invariant_loop : tie.invariant_loop
+invariant_loop file edition years sites at₀ i₀ at i =
+    (i ≤ sites) × (at ≤ length file) × (scan_records edition years sites (sites - i) at file ≡ scan_records edition years sites sites header_length file)
 
-abbrev decreases-loop : tie.decreases-loop
-decreases-loop file edition years sites at₀ i₀ at i = sites - i
+abbrev decreases_loop : tie.decreases_loop
+decreases_loop file edition years sites at₀ i₀ at i = sites - i
 
-loop-holds : tie.Need-loop-init invariant-loop decreases-loop
-loop-holds c = (search rules, search rules, start _ _ _ _ _)
+loop_holds : tie.Need-loop-init invariant_loop decreases_loop
+loop_holds c = (search rules, search rules, start _ _ _ _ _)
 
-returns : tie.Need-returns invariant-loop decreases-loop
+returns : tie.Need-returns invariant_loop decreases_loop
 returns c =
     let read = c.before.before.before in
     let turn = read.before.before in
-    record-refused _ _ _ _ _ _ _ turn.before.loop.invariant.2 _ read.read-site.ensures _ turn.loop-test.true c.before.answer.given.1
+    record_refused _ _ _ _ _ _ _ turn.before.loop.invariant.2 _ read.read-site.ensures _ turn.loop_test.true c.before.answer.given.1
 
-add_at : tie.Need-overflow-add-at invariant-loop decreases-loop
+add_at : tie.Need-overflow-add-at invariant_loop decreases_loop
 add_at c =
     let read = c.before.before.before in
     let inv = read.before.before.before.loop.invariant in
-    let w = record-within _ _ _ _ _ _ _ inv.2 _ read.read-site.ensures _ _ inv.1 c.before.answer2.given.1 in
+    let w = record_within _ _ _ _ _ _ _ inv.2 _ read.read-site.ensures _ _ inv.1 c.before.answer2.given.1 in
     omega arith
 
-loop-again : tie.Need-loop-preserved invariant-loop decreases-loop
-loop-again c =
+loop_again : tie.Need-loop-preserved invariant_loop decreases_loop
+loop_again c =
     let read = c.before.before.before in
     let turn = read.before.before in
     let inv = turn.before.loop.invariant in
     let reads = read.read-site.ensures in
     let is = c.before.answer2.given.1 in (
       omega arith,
-      record-within _ _ _ _ _ _ _ inv.2 _ reads _ _ inv.1 is,
-      record-read _ _ _ _ _ _ _ inv.2 _ reads _ _ turn.loop-test.true is,
+      record_within _ _ _ _ _ _ _ inv.2 _ reads _ _ inv.1 is,
+      record_read _ _ _ _ _ _ _ inv.2 _ reads _ _ turn.loop_test.true is,
     )
 
-returns-2 : tie.Need-returns-2 invariant-loop decreases-loop
-returns-2 c = bytes_after _ _ _ _ _ _ _ c.before.before.loop.invariant.2 c.before.loop-test.false c.if1.true
+returns_2 : tie.Need-returns-2 invariant_loop decreases_loop
+returns_2 c = bytes_after _ _ _ _ _ _ _ c.before.before.loop.invariant.2 c.before.loop_test.false c.if1.true
 
-returns-3 : tie.Need-returns-3 invariant-loop decreases-loop
-returns-3 c = none_after _ _ _ _ _ _ _ c.before.before.loop.invariant.2 c.before.loop-test.false c.if1.false
+returns_3 : tie.Need-returns-3 invariant_loop decreases_loop
+returns_3 c = none_after _ _ _ _ _ _ _ c.before.before.loop.invariant.2 c.before.loop_test.false c.if1.false
 
-pub scan-records-spec : {M : Type 1} → statement M
-scan-records-spec =
+pub scan_records_spec : {M : Type 1} → statement M
+scan_records_spec =
     tie.close
     (tie.spec
-    invariant-loop
-    decreases-loop
-    loop-holds
+    invariant_loop
+    decreases_loop
+    loop_holds
     (λ c. search rules) (λ c. search rules) (λ c. search rules) (λ c κs. search rules) (λ c. search rules)
     returns
     (λ c. search rules)
     add_at
     (λ c. omega arith) (λ c. omega arith)
-    loop-again
-    returns-2
-    returns-3)
+    loop_again
+    returns_2
+    returns_3)

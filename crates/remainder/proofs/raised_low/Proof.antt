@@ -1,18 +1,18 @@
 use native.Mathlib.Omega.{arith}
 use borrow.Author.Rules.{rules}
-use Rattle.laws.specs.Quotient.{down-near}
-use Rattle.remainder.specs.ExponentialBounds.{exponential-low-is}
-use Rattle.remainder.specs.RemainderLaws.{part-fits, part_small}
+use Rattle.laws.specs.Quotient.{down_near}
+use Rattle.remainder.specs.ExponentialBounds.{exponential_low_is}
+use Rattle.remainder.specs.RemainderLaws.{part_fits, part_small}
 use Rattle.remainder.proofs.raised_low.Statement.{statement}
 use Rattle.remainder.proofs.raised_low.Tie as tie
 
-exponential-low-requires : tie.Need-exponential-low-requires
-exponential-low-requires c κs = part_small c.requires.1 c.requires.0 (down-near _ _ c.requires.1.positive)
+exponential_low_requires : tie.Need-exponential-low-requires
+exponential_low_requires c κs = part_small c.requires.1 c.requires.0 (down_near _ _ c.requires.1.positive)
 
 returns : tie.Need-returns
-returns c = let is = c.exponential-low.ensures in (is, rw is (exponential-low-is _ (exponential-low-requires c.before tt)).near-one)
+returns c = let is = c.exponential-low.ensures in (is, rw is (exponential_low_is _ (exponential_low_requires c.before tt)).near_one)
 
-pub raised-low-spec : {M : Type 1} → statement M
-raised-low-spec =
+pub raised_low_spec : {M : Type 1} → statement M
+raised_low_spec =
     tie.close
-    (tie.spec (λ c. omega (arith, part-fits c.requires.1 c.requires.2 c.requires.0)) (λ c. search rules) exponential-low-requires returns)
+    (tie.spec (λ c. omega (arith, part_fits c.requires.1 c.requires.2 c.requires.0)) (λ c. search rules) exponential_low_requires returns)

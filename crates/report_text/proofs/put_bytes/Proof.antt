@@ -2,33 +2,33 @@
 use Prim.Native.Nat.{◌-◌}
 use lib.ListN.{length}
 use borrow.Author.Rules.{rules}
-use Rattle.report_text.specs.Lines.{BytesLeft, bytes-start, bytes_on, bytes-end}
+use Rattle.report_text.specs.Lines.{BytesLeft, bytes_start, bytes_on, bytes_end}
 use Rattle.report_text.proofs.put_bytes.Statement.{statement}
 use Rattle.report_text.proofs.put_bytes.Tie as tie
 
-abbrev invariant-loop : tie.invariant-loop
-invariant-loop bytes out₀ at i₀ out i = BytesLeft bytes out₀ at i out
+abbrev invariant_loop : tie.invariant_loop
+invariant_loop bytes out₀ at i₀ out i = BytesLeft bytes out₀ at i out
 
-abbrev decreases-loop : tie.decreases-loop
-decreases-loop bytes out₀ at i₀ out i = length bytes - i
+abbrev decreases_loop : tie.decreases_loop
+decreases_loop bytes out₀ at i₀ out i = length bytes - i
 
-loop-holds : tie.Need-loop-init invariant-loop decreases-loop
-loop-holds c = bytes-start _ _ _
+loop_holds : tie.Need-loop-init invariant_loop decreases_loop
+loop_holds c = bytes_start _ _ _
 
-loop-again : tie.Need-loop-preserved invariant-loop decreases-loop
-loop-again c = bytes_on _ _ _ _ _ c.before.before.loop.invariant c.before.loop-test.true
+loop_again : tie.Need-loop-preserved invariant_loop decreases_loop
+loop_again c = bytes_on _ _ _ _ _ c.before.before.loop.invariant c.before.loop_test.true
 
-returns : tie.Need-returns invariant-loop decreases-loop
-returns c = bytes-end _ _ _ _ _ c.before.loop.invariant c.loop-test.false
+returns : tie.Need-returns invariant_loop decreases_loop
+returns c = bytes_end _ _ _ _ _ c.before.loop.invariant c.loop_test.false
 
-pub put-bytes-spec : {M : Type 1} → statement M
-put-bytes-spec =
+pub put_bytes_spec : {M : Type 1} → statement M
+put_bytes_spec =
     tie.close
     (tie.spec
-    invariant-loop
-    decreases-loop
-    loop-holds
+    invariant_loop
+    decreases_loop
+    loop_holds
     (λ c. search rules) (λ c. search rules) (λ c. search rules) (λ c. search rules) (λ c. search rules)
-    loop-again
+    loop_again
     (λ c. search rules) (λ c. search rules)
     returns)

@@ -5,58 +5,58 @@ use native.Mathlib.Omega.{arith}
 use lib.ListN.{length, length-set}
 use lib.Seq.{sets}
 use borrow.Author.Rules.{rules}
-use Rattle.report_text.specs.Text.{decimalText}
-use Rattle.report_text.specs.Decimal.{decimal-some, length_digits, tenth-less}
-use Rattle.report_text.specs.Lines.{digit-stored, last_stored}
+use Rattle.report_text.specs.Text.{decimal_text}
+use Rattle.report_text.specs.Decimal.{decimal_some, length_digits, tenth_less}
+use Rattle.report_text.specs.Lines.{digit_stored, last_stored}
 use Rattle.report_text.proofs.put_digits.Statement.{statement}
 use Rattle.report_text.proofs.put_digits.Tie as tie
 
-abbrev invariant-loop : tie.invariant-loop
-invariant-loop n out₀ at end rest₀ i₀ out rest i =
-    (i ≡ at + length (decimalText rest)) × (i ≤ end) × (length out ≡ length out₀) × (sets out at (decimalText rest) ≡ sets out₀ at (decimalText n))
+abbrev invariant_loop : tie.invariant_loop
+invariant_loop n out₀ at end rest₀ i₀ out rest i =
+    (i ≡ at + length (decimal_text rest)) × (i ≤ end) × (length out ≡ length out₀) × (sets out at (decimal_text rest) ≡ sets out₀ at (decimal_text n))
 
-abbrev decreases-loop : tie.decreases-loop
-decreases-loop n out₀ at end rest₀ i₀ out rest i = rest
+abbrev decreases_loop : tie.decreases_loop
+decreases_loop n out₀ at end rest₀ i₀ out rest i = rest
 
-sub-i : tie.Need-overflow-sub-i invariant-loop decreases-loop
-sub-i c = omega (arith, decimal-some c.before.loop.rest)
+sub_i : tie.Need-overflow-sub-i invariant_loop decreases_loop
+sub_i c = omega (arith, decimal_some c.before.loop.rest)
 
-slice-write-out : tie.Need-slice-write-out invariant-loop decreases-loop
-slice-write-out c = omega (arith, decimal-some c.before.loop.rest)
+slice_write_out : tie.Need-slice-write-out invariant_loop decreases_loop
+slice_write_out c = omega (arith, decimal_some c.before.loop.rest)
 
-loop-less : tie.Need-loop-smaller invariant-loop decreases-loop
-loop-less c = tenth-less _ (search rules)
+loop_less : tie.Need-loop-smaller invariant_loop decreases_loop
+loop_less c = tenth_less _ (search rules)
 
-loop-again : tie.Need-loop-preserved invariant-loop decreases-loop
-loop-again c = (
-  omega (arith, length_digits _ c.loop-test.true),
+loop_again : tie.Need-loop-preserved invariant_loop decreases_loop
+loop_again c = (
+  omega (arith, length_digits _ c.loop_test.true),
   omega arith,
   simp length-set (search rules),
-  digit-stored _ _ _ _ _ c.loop-test.true c.before.loop.invariant.0 c.before.loop.invariant.3,
+  digit_stored _ _ _ _ _ c.loop_test.true c.before.loop.invariant.0 c.before.loop.invariant.3,
 )
 
-slice-write-out-2 : tie.Need-slice-write-out-2 invariant-loop decreases-loop
-slice-write-out-2 c = omega (arith, decimal-some c.before.loop.rest)
+slice_write_out_2 : tie.Need-slice-write-out-2 invariant_loop decreases_loop
+slice_write_out_2 c = omega (arith, decimal_some c.before.loop.rest)
 
-same_length : tie.Need-same-length invariant-loop decreases-loop
+same_length : tie.Need-same-length invariant_loop decreases_loop
 same_length c = simp length-set (search rules)
 
-returns : tie.Need-returns invariant-loop decreases-loop
+returns : tie.Need-returns invariant_loop decreases_loop
 returns c = last_stored _ _ _ _ (omega arith) c.before.loop.invariant.3
 
-pub put-digits-spec : {M : Type 1} → statement M
-put-digits-spec =
+pub put_digits_spec : {M : Type 1} → statement M
+put_digits_spec =
     tie.close
     (tie.spec
-    invariant-loop
-    decreases-loop
+    invariant_loop
+    decreases_loop
     (λ c. search rules)
-    sub-i
+    sub_i
     (λ c. search rules) (λ c. search rules)
-    slice-write-out
-    loop-less
-    loop-again
+    slice_write_out
+    loop_less
+    loop_again
     (λ c. search rules) (λ c. search rules)
-    slice-write-out-2
+    slice_write_out_2
     same_length
     returns)

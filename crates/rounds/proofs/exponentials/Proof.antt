@@ -3,16 +3,16 @@ use borrow.Author.Rules.{rules}
 use Rattle.rounds.proofs.exponentials.Statement.{statement}
 use Rattle.rounds.proofs.exponentials.Tie as tie
 
-abbrev invariant-loop : tie.invariant-loop
-invariant-loop stored start sum₀ x₀ sum x = 0 ≤ x
+abbrev invariant_loop : tie.invariant_loop
+invariant_loop stored start sum₀ x₀ sum x = 0 ≤ x
 
-abbrev decreases-loop : tie.decreases-loop
-decreases-loop stored start sum₀ x₀ sum x = 140001 - x
+abbrev decreases_loop : tie.decreases_loop
+decreases_loop stored start sum₀ x₀ sum x = 140001 - x
 
-pub exponentials-spec : {M : Type 1} → statement M
-exponentials-spec =
+pub exponentials_spec : {M : Type 1} → statement M
+exponentials_spec =
     tie.close
     (tie.spec
-    invariant-loop
-    decreases-loop
+    invariant_loop
+    decreases_loop
     (λ c. search rules) (λ c κs. search rules) (λ c κs. search rules) (λ c. search rules) (λ c. search rules) (λ c. search rules) (λ c. search rules))

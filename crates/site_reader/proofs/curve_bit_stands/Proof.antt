@@ -6,7 +6,7 @@ use Rattle.site_reader.proofs.curve_bit_stands.Tie as tie
 returns : tie.Need-returns
 returns c = simp (← c.before.before.before.is-on-curve.ensures, c.before.before.if1.true, c.does-stand.ensures, c.before.rule-of.ensures)
 
-pub curve-bit-stands-spec : {M : Type 1} → statement M
-curve-bit-stands-spec =
+pub curve_bit_stands_spec : {M : Type 1} → statement M
+curve_bit_stands_spec =
     tie.close
     (tie.spec (λ c κs. search rules) (λ c κs. search rules) (λ c κs. search rules) returns (λ c. search rules))

@@ -9,5 +9,5 @@ use Rattle.site_reader.proofs.does_stand.Tie as tie
 returns : tie.Need-returns
 returns c = ap (λ (b : ℕ). eqb b 1) c.bit-of.ensures.0
 
-pub does-stand-spec : {M : Type 1} → statement M
-does-stand-spec = tie.close (tie.spec (λ c κs. search rules) returns)
+pub does_stand_spec : {M : Type 1} → statement M
+does_stand_spec = tie.close (tie.spec (λ c κs. search rules) returns)

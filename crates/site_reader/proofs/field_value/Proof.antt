@@ -7,8 +7,8 @@ use borrow.Author.Rules.{rules}
 use Rattle.site_reader.proofs.field_value.Statement.{statement}
 use Rattle.site_reader.proofs.field_value.Tie as tie
 
-word-at-requires : tie.Need-word-at-requires
-word-at-requires c κs =
+word_at_requires : tie.Need-word-at-requires
+word_at_requires c κs =
     let args = c.before.before.before.args in
     let b = eqb-true (bit_of args.rule args.map) 1 (sym c.before.does-stand.ensures ∙ c.if1.true) in
     omega arith
@@ -16,9 +16,9 @@ word-at-requires c κs =
 returns : tie.Need-returns
 returns c = simp (← c.before.before.does-stand.ensures, c.before.if1.true, c.word_at.ensures)
 
-returns-2 : tie.Need-returns-2
-returns-2 c = simp (← c.before.before.does-stand.ensures, c.before.if1.false, c.absent-of.ensures)
+returns_2 : tie.Need-returns-2
+returns_2 c = simp (← c.before.before.does-stand.ensures, c.before.if1.false, c.absent-of.ensures)
 
-pub field-value-spec : {M : Type 1} → statement M
-field-value-spec =
-    tie.close (tie.spec (λ c κs. search rules) word-at-requires (λ c κs. search rules) returns returns-2)
+pub field_value_spec : {M : Type 1} → statement M
+field_value_spec =
+    tie.close (tie.spec (λ c κs. search rules) word_at_requires (λ c κs. search rules) returns returns_2)

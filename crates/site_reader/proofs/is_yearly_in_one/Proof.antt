@@ -5,8 +5,8 @@ use Rattle.site_reader.proofs.is_yearly_in_one.Tie as tie
 returns : tie.Need-returns
 returns c = rw (eq-eqb _ 1 c.if1.true)
 
-returns-2 : tie.Need-returns-2
-returns-2 c = rw (ne_eqb _ 1 c.if1.false)
+returns_2 : tie.Need-returns-2
+returns_2 c = rw (ne_eqb _ 1 c.if1.false)
 
-pub is-yearly-in-one-spec : {M : Type 1} → statement M
-is-yearly-in-one-spec = tie.close (tie.spec returns returns-2)
+pub is_yearly_in_one_spec : {M : Type 1} → statement M
+is_yearly_in_one_spec = tie.close (tie.spec returns returns_2)

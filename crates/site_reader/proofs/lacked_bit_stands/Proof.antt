@@ -6,5 +6,5 @@ use Rattle.site_reader.proofs.lacked_bit_stands.Tie as tie
 returns : tie.Need-returns
 returns c = simp (← c.before.before.is-lacking.ensures, c.before.if1.true, ← c.does-stand.ensures)
 
-pub lacked-bit-stands-spec : {M : Type 1} → statement M
-lacked-bit-stands-spec = tie.close (tie.spec (λ c κs. search rules) (λ c κs. search rules) returns (λ c. search rules))
+pub lacked_bit_stands_spec : {M : Type 1} → statement M
+lacked_bit_stands_spec = tie.close (tie.spec (λ c κs. search rules) (λ c κs. search rules) returns (λ c. search rules))

@@ -6,6 +6,6 @@ use Rattle.site_reader.proofs.rules_read.Tie as tie
 returns : tie.Need-returns
 returns c = simp (c.settle-rules.ensures, c.before.is-curved.ensures, c.before.before.entries-of.ensures)
 
-pub rules-read-spec : {M : Type 1} → statement M
-rules-read-spec =
+pub rules_read_spec : {M : Type 1} → statement M
+rules_read_spec =
     tie.close (tie.spec (λ c κs. search rules) (λ c κs. search rules) (λ c κs. search rules) returns)

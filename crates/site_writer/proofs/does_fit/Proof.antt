@@ -3,13 +3,13 @@ use borrow.Author.Rules.{rules}
 use Rattle.site_writer.proofs.does_fit.Statement.{statement}
 use Rattle.site_writer.proofs.does_fit.Tie as tie
 
-returns-3 : tie.Need-returns-3
-returns-3 c = simp (c.before.before.slot.given.1, c.does-allow.ensures)
+returns_3 : tie.Need-returns-3
+returns_3 c = simp (c.before.before.slot.given.1, c.does-allow.ensures)
 
-pub does-fit-spec : {M : Type 1} → statement M
-does-fit-spec =
+pub does_fit_spec : {M : Type 1} → statement M
+does_fit_spec =
     tie.close
     (tie.spec
     (λ c. search rules) (λ c κs. search rules) (λ c κs. search rules) (λ c κs. search rules) (λ c. search rules) (λ c κs. search rules)
     (λ c. search rules) (λ c. search rules)
-    returns-3)
+    returns_3)

@@ -5,44 +5,44 @@ use native.Mathlib.Omega.{arith}
 use mathlib.Core.Path.{◌≡◌}
 use Prim.Native.Nat.{◌≤◌, ◌-◌}
 use lib.ListN.{drop}
-use Rattle.site.specs.Rules.{laterYears}
-use Rattle.site.specs.Writing.{laterFits}
-use Rattle.site_writer.proofs.LaterSteps.{later-start, later-hit, later-next, later-end}
+use Rattle.site.specs.Rules.{later_years}
+use Rattle.site.specs.Writing.{later_fits}
+use Rattle.site_writer.proofs.LaterSteps.{later_start, later_hit, later_next, later_end}
 use Rattle.site_writer.proofs.does_later_fit.Statement.{statement}
 use Rattle.site_writer.proofs.does_later_fit.Tie as tie
 
-abbrev invariant-loop : tie.invariant-loop
-invariant-loop later slots i₀ i = (i ≤ laterYears) × (laterFits (later - i) (drop i slots) ≡ laterFits later slots)
+abbrev invariant_loop : tie.invariant_loop
+invariant_loop later slots i₀ i = (i ≤ later_years) × (later_fits (later - i) (drop i slots) ≡ later_fits later slots)
 
-abbrev decreases-loop : tie.decreases-loop
-decreases-loop later slots i₀ i = laterYears - i
+abbrev decreases_loop : tie.decreases_loop
+decreases_loop later slots i₀ i = later_years - i
 
-returns : tie.Need-returns invariant-loop decreases-loop
+returns : tie.Need-returns invariant_loop decreases_loop
 returns c =
     let turn = c.before.before.before in
     let loop = turn.before.loop in
-    later-hit _ _ loop.i _ loop.invariant.1 (omega (arith, turn.before.before.requires.1)) _ c.before.is-later-right.ensures (not-true _ c.if1.true)
+    later_hit _ _ loop.i _ loop.invariant.1 (omega (arith, turn.before.before.requires.1)) _ c.before.is-later-right.ensures (not-true _ c.if1.true)
 
-loop-again : tie.Need-loop-preserved invariant-loop decreases-loop
-loop-again c =
+loop_again : tie.Need-loop-preserved invariant_loop decreases_loop
+loop_again c =
     let turn = c.before.before.before in
     let loop = turn.before.loop in
-    (omega arith, later-next _ _ loop.i _ loop.invariant.1 (omega (arith, turn.before.before.requires.1)) _ c.before.is-later-right.ensures (not-false _ c.if1.false))
+    (omega arith, later_next _ _ loop.i _ loop.invariant.1 (omega (arith, turn.before.before.requires.1)) _ c.before.is-later-right.ensures (not-false _ c.if1.false))
 
-returns-2 : tie.Need-returns-2 invariant-loop decreases-loop
-returns-2 c =
+returns_2 : tie.Need-returns-2 invariant_loop decreases_loop
+returns_2 c =
     let loop = c.before.loop in
     let pre = c.before.before.requires in
-    later-end _ _ loop.i _ loop.invariant.1 (omega (arith, pre.1, c.loop-test.false)) (omega (arith, pre.0, c.loop-test.false))
+    later_end _ _ loop.i _ loop.invariant.1 (omega (arith, pre.1, c.loop_test.false)) (omega (arith, pre.0, c.loop_test.false))
 
-pub does-later-fit-spec : {M : Type 1} → statement M
-does-later-fit-spec =
+pub does_later_fit_spec : {M : Type 1} → statement M
+does_later_fit_spec =
     tie.close
     (tie.spec
-    invariant-loop
-    decreases-loop
-    (λ c. (omega arith, later-start _ _)) (λ c. omega arith) (λ c. omega arith) (λ c κs. search rules)
+    invariant_loop
+    decreases_loop
+    (λ c. (omega arith, later_start _ _)) (λ c. omega arith) (λ c. omega arith) (λ c κs. search rules)
     returns
     (λ c. omega arith) (λ c. omega arith)
-    loop-again
-    returns-2)
+    loop_again
+    returns_2)

@@ -1,15 +1,15 @@
 use borrow.Author.Rules.{rules}
 use native.Mathlib.Omega.{arith}
 use Rattle.site.specs.Tested.{bits_most}
-use Rattle.site.specs.WriteRead.{slot-bit-most, length-field}
+use Rattle.site.specs.WriteRead.{slot_bit_most, length_field}
 use Rattle.site_writer.proofs.field_length.Statement.{statement}
 use Rattle.site_writer.proofs.field_length.Tie as tie
 
 returns : tie.Need-returns
 returns c =
     let args = c.before.args in
-    let few = slot-bit-most args.rule args.slot in
-    (omega (arith, length-field args.rule args.slot, c.slot-bit.ensures), omega (arith, few, bits_most args.rule, c.slot-bit.ensures))
+    let few = slot_bit_most args.rule args.slot in
+    (omega (arith, length_field args.rule args.slot, c.slot-bit.ensures), omega (arith, few, bits_most args.rule, c.slot-bit.ensures))
 
-pub field-length-spec : {M : Type 1} → statement M
-field-length-spec = tie.close (tie.spec (λ c κs. search rules) (λ c. search rules) (λ c. search rules) returns)
+pub field_length_spec : {M : Type 1} → statement M
+field_length_spec = tie.close (tie.spec (λ c κs. search rules) (λ c. search rules) (λ c. search rules) returns)

@@ -7,46 +7,46 @@ use lib.ListN.{drop}
 use Rattle.site.specs.declared.rules.Rule.TheVariants.{Foreign}
 use Rattle.site.specs.declared.rules.Entry.TheVariants.{Always}
 use Rattle.site.specs.declared.values.Slot.TheVariants.{Absent}
-use Rattle.site.specs.Rules.{slotCount}
-use Rattle.site.specs.Writing.{curveHeld}
-use Rattle.site_writer.proofs.WriteSteps.{walk-next, walk_end}
+use Rattle.site.specs.Rules.{slot_count}
+use Rattle.site.specs.Writing.{curve_held}
+use Rattle.site_writer.proofs.WriteSteps.{walk_next, walk_end}
 use Rattle.site_writer.proofs.holds_curve.Statement.{statement}
 use Rattle.site_writer.proofs.holds_curve.Tie as tie
 
-abbrev invariant-loop : tie.invariant-loop
-invariant-loop entries slots i₀ i = (i ≤ slotCount) × (curveHeld (drop i entries) (drop i slots) ≡ curveHeld entries slots)
+abbrev invariant_loop : tie.invariant_loop
+invariant_loop entries slots i₀ i = (i ≤ slot_count) × (curve_held (drop i entries) (drop i slots) ≡ curve_held entries slots)
 
-abbrev decreases-loop : tie.decreases-loop
-decreases-loop entries slots i₀ i = slotCount - i
+abbrev decreases_loop : tie.decreases_loop
+decreases_loop entries slots i₀ i = slot_count - i
 
-returns : tie.Need-returns invariant-loop decreases-loop
-unfolding curveHeld
+returns : tie.Need-returns invariant_loop decreases_loop
+unfolding curve_held
 returns c =
     let turn = c.before.before.before.before in
     let pre = turn.before.before.requires in
-    let step = walk-next curveHeld _ _ _ pre.0 pre.1 (Always Foreign) Absent turn.loop-test.true in
+    let step = walk_next curve_held _ _ _ pre.0 pre.1 (Always Foreign) Absent turn.loop_test.true in
     rw (sym c.before.is_held_lem.ensures ∙ c.if1.true) at (sym step ∙ turn.before.loop.invariant.1)
 
-loop-again : tie.Need-loop-preserved invariant-loop decreases-loop
-unfolding curveHeld
-loop-again c =
+loop_again : tie.Need-loop-preserved invariant_loop decreases_loop
+unfolding curve_held
+loop_again c =
     let turn = c.before.before.before.before in
     let pre = turn.before.before.requires in
-    let step = walk-next curveHeld _ _ _ pre.0 pre.1 (Always Foreign) Absent turn.loop-test.true in
+    let step = walk_next curve_held _ _ _ pre.0 pre.1 (Always Foreign) Absent turn.loop_test.true in
     (omega arith, rw (sym c.before.is_held_lem.ensures ∙ c.if1.false) at (sym step ∙ turn.before.loop.invariant.1))
 
-returns-2 : tie.Need-returns-2 invariant-loop decreases-loop
-unfolding curveHeld
-returns-2 c = sym (walk_end curveHeld _ _ _ c.before.before.requires.0 c.before.before.requires.1 c.loop-test.false) ∙ c.before.loop.invariant.1
+returns_2 : tie.Need-returns-2 invariant_loop decreases_loop
+unfolding curve_held
+returns_2 c = sym (walk_end curve_held _ _ _ c.before.before.requires.0 c.before.before.requires.1 c.loop_test.false) ∙ c.before.loop.invariant.1
 
-pub holds-curve-spec : {M : Type 1} → statement M
-holds-curve-spec =
+pub holds_curve_spec : {M : Type 1} → statement M
+holds_curve_spec =
     tie.close
     (tie.spec
-    invariant-loop
-    decreases-loop
+    invariant_loop
+    decreases_loop
     (λ c. search rules) (λ c. omega arith) (λ c. omega arith) (λ c. omega arith) (λ c. omega arith) (λ c κs. search rules)
     returns
     (λ c. omega arith) (λ c. omega arith)
-    loop-again
-    returns-2)
+    loop_again
+    returns_2)

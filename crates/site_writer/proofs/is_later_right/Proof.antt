@@ -5,8 +5,8 @@ use Rattle.site_writer.proofs.is_later_right.Tie as tie
 returns : tie.Need-returns
 returns c = rw c.before.if1.true c.does-fit.ensures
 
-returns-2 : tie.Need-returns-2
-returns-2 c = rw c.before.if1.false c.is-absent.ensures
+returns_2 : tie.Need-returns-2
+returns_2 c = rw c.before.if1.false c.is-absent.ensures
 
-pub is-later-right-spec : {M : Type 1} → statement M
-is-later-right-spec = tie.close (tie.spec (λ c κs. search rules) (λ c κs. search rules) returns returns-2)
+pub is_later_right_spec : {M : Type 1} → statement M
+is_later_right_spec = tie.close (tie.spec (λ c κs. search rules) (λ c κs. search rules) returns returns_2)

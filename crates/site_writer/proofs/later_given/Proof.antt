@@ -1,20 +1,20 @@
 use borrow.Author.Rules.{rules}
 use native.Mathlib.Omega.{arith}
 use mathlib.Core.Path.{sym, ◌∙◌}
-use Rattle.site.specs.LaterLaws.{years-within}
+use Rattle.site.specs.LaterLaws.{years_within}
 use Rattle.site_writer.proofs.later_given.Statement.{statement}
 use Rattle.site_writer.proofs.later_given.Tie as tie
 
-sub-result : tie.Need-overflow-sub-result
-sub-result c = (years-within _ c.before.before.requires).0
+sub_result : tie.Need-overflow-sub-result
+sub_result c = (years_within _ c.before.before.requires).0
 
 returns : tie.Need-returns
 returns c =
     let yearly = sym c.before.is-yearly.ensures ∙ c.if1.true in
-    (rw yearly, omega (arith, (years-within c.before.before.args.years c.before.before.requires).1))
+    (rw yearly, omega (arith, (years_within c.before.before.args.years c.before.before.requires).1))
 
-returns-2 : tie.Need-returns-2
-returns-2 c = (rw (sym c.before.is-yearly.ensures ∙ c.if1.false), omega arith)
+returns_2 : tie.Need-returns-2
+returns_2 c = (rw (sym c.before.is-yearly.ensures ∙ c.if1.false), omega arith)
 
-pub later-given-spec : {M : Type 1} → statement M
-later-given-spec = tie.close (tie.spec (λ c κs. search rules) sub-result returns returns-2)
+pub later_given_spec : {M : Type 1} → statement M
+later_given_spec = tie.close (tie.spec (λ c κs. search rules) sub_result returns returns_2)

@@ -3,38 +3,38 @@ use borrow.Author.Rules.{rules}
 use borrow.Author.Tests.{not-true, not-false}
 use mathlib.Core.Path.{◌≡◌, sym, ◌∙◌}
 use mathlib.Core.Bool.{true}
-use Rattle.site.specs.Rules.{yearsKnown}
-use Rattle.site.specs.Promises.{measures-site}
-use Rattle.site_writer.proofs.WriteWhole.{edition-outside, years-outside, kind-outside, later-outside, found, measured-by}
+use Rattle.site.specs.Rules.{years_known}
+use Rattle.site.specs.Promises.{measures_site}
+use Rattle.site_writer.proofs.WriteWhole.{edition_outside, years_outside, kind_outside, later_outside, found, measured_by}
 use Rattle.site_writer.proofs.measure_site.Statement.{statement}
 use Rattle.site_writer.proofs.measure_site.Tie as tie
 
-years-in : (c : tie.Else2) → let edition = c.before.before in yearsKnown edition.before.before.args.years ≡ true
-years-in c = sym c.before.are-years-known.ensures ∙ not-false _ c.if2.false
+years_in : (c : tie.Else2) → let edition = c.before.before in years_known edition.before.before.args.years ≡ true
+years_in c = sym c.before.are-years-known.ensures ∙ not-false _ c.if2.false
 
 returns : tie.Need-returns
 returns c =
     let a = c.before.before.args in
-    edition-outside a.edition a.years a.site (sym c.before.is-edition-known.ensures ∙ not-true _ c.if1.true)
+    edition_outside a.edition a.years a.site (sym c.before.is_edition_known.ensures ∙ not-true _ c.if1.true)
 
-returns-2 : tie.Need-returns-2
-returns-2 c =
+returns_2 : tie.Need-returns-2
+returns_2 c =
     let a = c.before.before.before.before.args in
-    years-outside a.edition a.years a.site (sym c.before.are-years-known.ensures ∙ not-true _ c.if2.true)
+    years_outside a.edition a.years a.site (sym c.before.are-years-known.ensures ∙ not-true _ c.if2.true)
 
-returns-3 : tie.Need-returns-3
-returns-3 c =
+returns_3 : tie.Need-returns-3
+returns_3 c =
     let a = c.before.before.before.before.before.args in
-    kind-outside a.edition a.years a.site c.if3.true
+    kind_outside a.edition a.years a.site c.if3.true
 
-returns-4 : tie.Need-returns-4
-returns-4 c =
+returns_4 : tie.Need-returns-4
+returns_4 c =
     let kind = c.before.before in
     let a = kind.before.before.before.before.before.args in
-    later-outside a.edition a.years a.site (sym c.before.is-later-sound.ensures ∙ not-true _ c.if4.true)
+    later_outside a.edition a.years a.site (sym c.before.is-later-sound.ensures ∙ not-true _ c.if4.true)
 
-returns-5 : tie.Need-returns-5
-returns-5 c =
+returns_5 : tie.Need-returns-5
+returns_5 c =
     let rules = c.before in
     let minor = rules.before in
     let given = minor.before in
@@ -45,22 +45,22 @@ returns-5 c =
     let edition = years.before.before in
     let a = edition.before.before.args in
     let f = found a.edition a.site _ _ kind.if3.false slots.slots-of.ensures rules.rules-held.ensures in
-    let whole = measured-by f a.years (sym later.before.is-later-sound.ensures ∙ not-false _ later.if4.false)
-    (sym edition.before.is-edition-known.ensures ∙ not-false _ edition.if1.false) (years-in years) in
-    measures-site _ _ _ _ (rw (whole, ← given.later-given.ensures.0, ← minor.minor-later.ensures.0) c.measure-slots.ensures)
+    let whole = measured_by f a.years (sym later.before.is-later-sound.ensures ∙ not-false _ later.if4.false)
+    (sym edition.before.is_edition_known.ensures ∙ not-false _ edition.if1.false) (years_in years) in
+    measures_site _ _ _ _ (rw (whole, ← given.later_given_lem.ensures.0, ← minor.minor_later.ensures.0) c.measure-slots.ensures)
 
-pub measure-site-spec : {M : Type 1} → statement M
-measure-site-spec =
+pub measure_site_spec : {M : Type 1} → statement M
+measure_site_spec =
     tie.close
     (tie.spec
     (λ c κs. search rules)
     returns
     (λ c κs. search rules)
-    returns-2
-    returns-3
-    (λ c κs. years-in c.before)
-    returns-4
+    returns_2
+    returns_3
+    (λ c κs. years_in c.before)
+    returns_4
     (λ c κs. search rules)
-    (λ c κs. years-in c.before.before.before.before)
+    (λ c κs. years_in c.before.before.before.before)
     (λ c κs. search rules) (λ c. search rules) (λ c. search rules) (λ c κs. search rules) (λ c κs. search rules)
-    returns-5)
+    returns_5)

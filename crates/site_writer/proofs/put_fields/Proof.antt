@@ -6,25 +6,25 @@ use Prim.Native.Nat.{◌≤◌, ◌-◌}
 use lib.ListN.{length, drop}
 use Rattle.site.specs.declared.rules.Rule.TheVariants.{Foreign}
 use Rattle.site.specs.declared.values.Slot.TheVariants.{Absent}
-use Rattle.site.specs.Rules.{slotCount}
+use Rattle.site.specs.Rules.{slot_count}
 use Rattle.site.specs.Writing.{bytes_of}
-use Rattle.site_writer.proofs.WriteSteps.{Putting, putting-start, bytes-length, put-more, put-end}
+use Rattle.site_writer.proofs.WriteSteps.{Putting, putting_start, bytes_length, put_more, put_end}
 use Rattle.site_writer.proofs.put_fields.Statement.{statement}
 use Rattle.site_writer.proofs.put_fields.Tie as tie
 
-abbrev invariant-loop : tie.invariant-loop
-invariant-loop buffer₀ at rules slots place₀ i₀ buffer place i =
-    (3 ≤ i) × (i ≤ slotCount) × (length buffer ≡ length buffer₀)
+abbrev invariant_loop : tie.invariant_loop
+invariant_loop buffer₀ at rules slots place₀ i₀ buffer place i =
+    (3 ≤ i) × (i ≤ slot_count) × (length buffer ≡ length buffer₀)
     × Putting buffer₀ at (bytes_of (drop 3 rules) (drop 3 slots)) (bytes_of (drop i rules) (drop i slots)) place buffer
 
-abbrev decreases-loop : tie.decreases-loop
-decreases-loop buffer₀ at rules slots place₀ i₀ buffer place i = slotCount - i
+abbrev decreases_loop : tie.decreases_loop
+decreases_loop buffer₀ at rules slots place₀ i₀ buffer place i = slot_count - i
 
-loop-holds : tie.Need-loop-init invariant-loop decreases-loop
-loop-holds c = (omega arith, omega arith, refl, putting-start _ _ _)
+loop_holds : tie.Need-loop-init invariant_loop decreases_loop
+loop_holds c = (omega arith, omega arith, refl, putting_start _ _ _)
 
-put-field-requires : tie.Need-put-field-requires invariant-loop decreases-loop
-put-field-requires c κs =
+put_field_requires : tie.Need-put-field-requires invariant_loop decreases_loop
+put_field_requires c κs =
     let turn = c.before.before.before in
     let loop = turn.before.loop in
     let start = turn.before.before.before in
@@ -33,11 +33,11 @@ put-field-requires c κs =
       start.requires.2,
       loop.invariant.2,
       loop.invariant.3.place,
-      bytes-length start.args.t1 start.args.t2 loop.i start.requires.0 start.requires.1 Foreign Absent turn.loop-test.true,
+      bytes_length start.args.t1 start.args.t2 loop.i start.requires.0 start.requires.1 Foreign Absent turn.loop_test.true,
     )
 
-loop-again : tie.Need-loop-preserved invariant-loop decreases-loop
-loop-again c =
+loop_again : tie.Need-loop-preserved invariant_loop decreases_loop
+loop_again c =
     let put = c.before.before in
     let turn = put.before.before.before.before in
     let loop = turn.before.loop in
@@ -45,25 +45,25 @@ loop-again c =
       omega arith,
       omega arith,
       put.put-field.auto.1.1.0 ∙ loop.invariant.2,
-      put-more _ _ loop.i start.requires.0 start.requires.1 _ _ _ Foreign Absent turn.loop-test.true loop.invariant.3 put.put-field.ensures,
+      put_more _ _ loop.i start.requires.0 start.requires.1 _ _ _ Foreign Absent turn.loop_test.true loop.invariant.3 put.put-field.ensures,
     )
 
-returns : tie.Need-returns invariant-loop decreases-loop
+returns : tie.Need-returns invariant_loop decreases_loop
 returns c =
     let loop = c.before.loop in
     let start = c.before.before.before in
-    put-end _ _ loop.i start.requires.0 start.requires.1 _ _ _ c.loop-test.false loop.invariant.3
+    put_end _ _ loop.i start.requires.0 start.requires.1 _ _ _ c.loop_test.false loop.invariant.3
 
-pub put-fields-spec : {M : Type 1} → statement M
-put-fields-spec =
+pub put_fields_spec : {M : Type 1} → statement M
+put_fields_spec =
     tie.close
     (tie.spec
-    invariant-loop
-    decreases-loop
-    loop-holds
+    invariant_loop
+    decreases_loop
+    loop_holds
     (λ c. omega arith) (λ c. omega arith) (λ c. omega arith) (λ c. omega arith)
-    put-field-requires
+    put_field_requires
     (λ c. omega arith) (λ c. omega arith)
-    loop-again
+    loop_again
     (λ c. search rules)
     returns)

@@ -9,103 +9,103 @@ use Rattle.site.specs.declared.rules.Rule.{Rule}
 use Rattle.site.specs.declared.rules.Rule.TheVariants.{Foreign}
 use Rattle.site.specs.declared.values.Slot.{Slot}
 use Rattle.site.specs.declared.values.Slot.TheVariants.{Absent}
-use Rattle.site.specs.Writing.{fieldBytes, bytes_of, laterBytes, spreadBytes}
-use Rattle.site_writer.proofs.WriteSteps.{Putting, putting-start, putting-more, putting-room, putting-end}
+use Rattle.site.specs.Writing.{field_bytes, bytes_of, later_bytes, spread_bytes}
+use Rattle.site_writer.proofs.WriteSteps.{Putting, putting_start, putting_more, putting_room, putting_end}
 use Rattle.site_writer.proofs.put_spread.Statement.{statement}
 use Rattle.site_writer.proofs.put_spread.Tie as tie
 
 -- what is left after the traffic, its later years, the length and the minor traffic
 abbrev field : List Rule → List Slot → ℕ → List ℕ
-field rules slots i = fieldBytes (get_or rules i Foreign) (get_or slots i Absent)
+field rules slots i = field_bytes (get_or rules i Foreign) (get_or slots i Absent)
 
-abbrev after-minor : List Rule → List Slot → List Slot → List ℕ
-after-minor rules slots minor = laterBytes minor ++ bytes_of (drop 3 rules) (drop 3 slots)
+abbrev after_minor : List Rule → List Slot → List Slot → List ℕ
+after_minor rules slots minor = later_bytes minor ++ bytes_of (drop 3 rules) (drop 3 slots)
 
-abbrev after-length : List Rule → List Slot → List Slot → List ℕ
-after-length rules slots minor = field rules slots 2 ++ after-minor rules slots minor
+abbrev after_length : List Rule → List Slot → List Slot → List ℕ
+after_length rules slots minor = field rules slots 2 ++ after_minor rules slots minor
 
-abbrev after-later : List Rule → List Slot → List Slot → List ℕ
-after-later rules slots minor = field rules slots 1 ++ after-length rules slots minor
+abbrev after_later : List Rule → List Slot → List Slot → List ℕ
+after_later rules slots minor = field rules slots 1 ++ after_length rules slots minor
 
-abbrev after-traffic : List Rule → List Slot → List Slot → List Slot → List ℕ
-after-traffic rules slots traffic minor = laterBytes traffic ++ after-later rules slots minor
+abbrev after_traffic : List Rule → List Slot → List Slot → List Slot → List ℕ
+after_traffic rules slots traffic minor = later_bytes traffic ++ after_later rules slots minor
 
 abbrev all : List Rule → List Slot → List Slot → List Slot → List ℕ
-all rules slots traffic minor = spreadBytes rules slots (laterBytes traffic) (laterBytes minor)
+all rules slots traffic minor = spread_bytes rules slots (later_bytes traffic) (later_bytes minor)
 
 -- a buffer at a place of the walk, as long as it was
 abbrev Reached : List ℕ → List ℕ → List ℕ → ℕ → List ℕ → Type 0
 Reached before whole left at buffer = Putting before 3 whole left at buffer × (length buffer ≡ length before)
 
 first : (c : tie.After-put-field) → let a = c.before.before.before.before.before.args in
-    Reached a.buffer.now (all a.t1 a.t2 a.traffic a.minor) (after-traffic a.t1 a.t2 a.traffic a.minor)
+    Reached a.buffer.now (all a.t1 a.t2 a.traffic a.minor) (after_traffic a.t1 a.t2 a.traffic a.minor)
     c.put-field.result c.put-field.new.1.1.0
-unfolding spreadBytes
-first c = (putting-more (putting-start _ _ _) refl c.put-field.ensures, c.put-field.auto.1.1.0)
+unfolding spread_bytes
+first c = (putting_more (putting_start _ _ _) refl c.put-field.ensures, c.put-field.auto.1.1.0)
 
 later : (c : tie.After-put-later) → let a = c.before.before.before.before.before.before.before.before.before.args in
-    Reached a.buffer.now (all a.t1 a.t2 a.traffic a.minor) (after-later a.t1 a.t2 a.minor)
+    Reached a.buffer.now (all a.t1 a.t2 a.traffic a.minor) (after_later a.t1 a.t2 a.minor)
     c.put-later.result c.put-later.new.1.1.0
 later c =
     let r = first c.before.before.before.before in
-    (putting-more r.0 refl c.put-later.ensures, c.put-later.auto.1.1.0 ∙ r.1)
+    (putting_more r.0 refl c.put-later.ensures, c.put-later.auto.1.1.0 ∙ r.1)
 
 second : (c : tie.After-put-field2) → let a = c.before.before.before.before.before.before.before.before.before.before.before.before.before.before.before.args in
-    Reached a.buffer.now (all a.t1 a.t2 a.traffic a.minor) (after-length a.t1 a.t2 a.minor)
+    Reached a.buffer.now (all a.t1 a.t2 a.traffic a.minor) (after_length a.t1 a.t2 a.minor)
     c.put-field2.result c.put-field2.new.1.1.0
 second c =
     let r = later c.before.before.before.before.before.before in
-    (putting-more r.0 refl c.put-field2.ensures, c.put-field2.auto.1.1.0 ∙ r.1)
+    (putting_more r.0 refl c.put-field2.ensures, c.put-field2.auto.1.1.0 ∙ r.1)
 
 third : (c : tie.After-put-field3) → let s = c.before.before.before.before.before.before in
     let a = s.before.before.before.before.before.before.before.before.before.before.before.before.before.before.before.args in
-    Reached a.buffer.now (all a.t1 a.t2 a.traffic a.minor) (after-minor a.t1 a.t2 a.minor)
+    Reached a.buffer.now (all a.t1 a.t2 a.traffic a.minor) (after_minor a.t1 a.t2 a.minor)
     c.put-field3.result c.put-field3.new.1.1.0
 third c =
     let r = second c.before.before.before.before.before.before in
-    (putting-more r.0 refl c.put-field3.ensures, c.put-field3.auto.1.1.0 ∙ r.1)
+    (putting_more r.0 refl c.put-field3.ensures, c.put-field3.auto.1.1.0 ∙ r.1)
 
-minor-later : (c : tie.After-put-later2) → let s = c.before.before.before.before.before.before.before.before.before.before in
+minor_later : (c : tie.After-put-later2) → let s = c.before.before.before.before.before.before.before.before.before.before in
     let a = s.before.before.before.before.before.before.before.before.before.before.before.before.before.before.before.args in
     Reached a.buffer.now (all a.t1 a.t2 a.traffic a.minor) (bytes_of (drop 3 a.t1) (drop 3 a.t2))
     c.put-later2.result c.put-later2.new.1.1.0
-minor-later c =
+minor_later c =
     let r = third c.before.before.before.before in
-    (putting-more r.0 refl c.put-later2.ensures, c.put-later2.auto.1.1.0 ∙ r.1)
+    (putting_more r.0 refl c.put-later2.ensures, c.put-later2.auto.1.1.0 ∙ r.1)
 
-put-field-requires : tie.Need-put-field-requires
-unfolding spreadBytes
-put-field-requires c κs =
+put_field_requires : tie.Need-put-field-requires
+unfolding spread_bytes
+put_field_requires c κs =
     let start = c.before.before.before.before in
     let a = start.args in
-    putting-room (field a.t1 a.t2 0) (after-traffic a.t1 a.t2 a.traffic a.minor)
-    (putting-start a.buffer.now 3 (all a.t1 a.t2 a.traffic a.minor)) start.requires.1.1
+    putting_room (field a.t1 a.t2 0) (after_traffic a.t1 a.t2 a.traffic a.minor)
+    (putting_start a.buffer.now 3 (all a.t1 a.t2 a.traffic a.minor)) start.requires.1.1
 
-put-later-requires : tie.Need-put-later-requires
-put-later-requires c κs =
+put_later_requires : tie.Need-put-later-requires
+put_later_requires c κs =
     let r = first c.before.before.before in
     let start = c.before.before.before.before.before.before.before.before in
     let a = start.args in
     let pre = start.requires in
-    (pre.0.2, pre.0.3, pre.0.4, putting-room (laterBytes a.traffic) (after-later a.t1 a.t2 a.minor) r.0 (omega (arith, pre.1.1, r.1)))
+    (pre.0.2, pre.0.3, pre.0.4, putting_room (later_bytes a.traffic) (after_later a.t1 a.t2 a.minor) r.0 (omega (arith, pre.1.1, r.1)))
 
-put-field-requires-2 : tie.Need-put-field-requires-2
-put-field-requires-2 c κs =
+put_field_requires_2 : tie.Need-put-field-requires-2
+put_field_requires_2 c κs =
     let r = later c.before.before.before.before.before in
     let start = c.before.before.before.before.before.before.before.before.before.before.before.before.before.before in
     let a = start.args in
-    putting-room (field a.t1 a.t2 1) (after-length a.t1 a.t2 a.minor) r.0 (omega (arith, start.requires.1.1, r.1))
+    putting_room (field a.t1 a.t2 1) (after_length a.t1 a.t2 a.minor) r.0 (omega (arith, start.requires.1.1, r.1))
 
-put-field-requires-3 : tie.Need-put-field-requires-3
-put-field-requires-3 c κs =
+put_field_requires_3 : tie.Need-put-field-requires-3
+put_field_requires_3 c κs =
     let s = c.before.before.before.before.before in
     let r = second s in
     let start = s.before.before.before.before.before.before.before.before.before.before.before.before.before.before.before in
     let a = start.args in
-    putting-room (field a.t1 a.t2 2) (after-minor a.t1 a.t2 a.minor) r.0 (omega (arith, start.requires.1.1, r.1))
+    putting_room (field a.t1 a.t2 2) (after_minor a.t1 a.t2 a.minor) r.0 (omega (arith, start.requires.1.1, r.1))
 
-put-later-requires-2 : tie.Need-put-later-requires-2
-put-later-requires-2 c κs =
+put_later_requires_2 : tie.Need-put-later-requires-2
+put_later_requires_2 c κs =
     let t = c.before.before.before in
     let r = third t in
     let s = t.before.before.before.before.before.before in
@@ -115,13 +115,13 @@ put-later-requires-2 c κs =
       pre.1.0.0,
       pre.1.0.1,
       pre.1.0.2,
-      putting-room (laterBytes a.minor) (bytes_of (drop 3 a.t1) (drop 3 a.t2)) r.0 (omega (arith, pre.1.1, r.1)),
+      putting_room (later_bytes a.minor) (bytes_of (drop 3 a.t1) (drop 3 a.t2)) r.0 (omega (arith, pre.1.1, r.1)),
     )
 
-put-fields-requires : tie.Need-put-fields-requires
-put-fields-requires c κs =
+put_fields_requires : tie.Need-put-fields-requires
+put_fields_requires c κs =
     let m = c.before.before.before in
-    let r = minor-later m in
+    let r = minor_later m in
     let s = m.before.before.before.before.before.before.before.before.before.before in
     let start = s.before.before.before.before.before.before.before.before.before.before.before.before.before.before.before in
     let pre = start.requires in
@@ -130,21 +130,21 @@ put-fields-requires c κs =
 returns : tie.Need-returns
 returns c =
     let put = c.before.before in
-    let r = minor-later put.before.before.before.before in
-    putting-end (putting-more r.0 (sym (append-nil _)) put.put-fields.ensures) refl
+    let r = minor_later put.before.before.before.before in
+    putting_end (putting_more r.0 (sym (append-nil _)) put.put-fields.ensures) refl
 
-pub put-spread-spec : {M : Type 1} → statement M
-put-spread-spec =
+pub put_spread_spec : {M : Type 1} → statement M
+put_spread_spec =
     tie.close
     (tie.spec
     (λ c. search rules) (λ c. search rules)
-    put-field-requires
-    put-later-requires
+    put_field_requires
+    put_later_requires
     (λ c. search rules) (λ c. search rules)
-    put-field-requires-2
+    put_field_requires_2
     (λ c. search rules) (λ c. search rules)
-    put-field-requires-3
-    put-later-requires-2
-    put-fields-requires
+    put_field_requires_3
+    put_later_requires_2
+    put_fields_requires
     (λ c. search rules)
     returns)

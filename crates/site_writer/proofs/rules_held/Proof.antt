@@ -6,6 +6,6 @@ use Rattle.site_writer.proofs.rules_held.Tie as tie
 returns : tie.Need-returns
 returns c = simp (c.settle-rules.ensures, c.before.holds-curve.ensures, c.before.before.entries-of.ensures)
 
-pub rules-held-spec : {M : Type 1} → statement M
-rules-held-spec =
+pub rules_held_spec : {M : Type 1} → statement M
+rules_held_spec =
     tie.close (tie.spec (λ c κs. search rules) (λ c κs. search rules) (λ c κs. search rules) returns)

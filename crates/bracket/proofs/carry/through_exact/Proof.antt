@@ -5,5 +5,5 @@ use Rattle.bracket.proofs.carry.through_exact.Tie as tie
 returns : tie.Need-returns
 returns c = rw (← c.before.span.ensures) c.through.ensures
 
-pub through-exact-spec : {M : Type 1} → statement M
-through-exact-spec = tie.close (tie.spec (λ c κs. search rules) (λ c κs. search rules) returns)
+pub through_exact_spec : {M : Type 1} → statement M
+through_exact_spec = tie.close (tie.spec (λ c κs. search rules) (λ c κs. search rules) returns)

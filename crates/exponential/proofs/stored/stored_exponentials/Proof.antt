@@ -1,15 +1,15 @@
 -- The table is the definition's, entry by entry: one computed test.
-use Rattle.laws.specs.Table.{passesAll}
+use Rattle.laws.specs.Table.{passes_all}
 use Rattle.estimate.specs.Fraction.{whole, fraction}
-use Rattle.estimate.specs.Exponential.{termNum, termDen, sumNum, partialSum, expUnder}
-use Rattle.exponential.specs.Stored.{storedExp}
-use Rattle.exponential.specs.StoredLaws.{isStored, stored-by-test}
+use Rattle.estimate.specs.Exponential.{term_num, term_den, sum_num, partial_sum, exp_under}
+use Rattle.exponential.specs.Stored.{stored_exp}
+use Rattle.exponential.specs.StoredLaws.{is_stored, stored_by_test}
 use Rattle.exponential.proofs.stored.stored_exponentials.Statement.{statement}
 use Rattle.exponential.proofs.stored.stored_exponentials.Tie as tie
 
 returns : tie.Need-returns
-unfolding passesAll isStored storedExp expUnder partialSum sumNum termNum termDen whole fraction
-returns c = stored-by-test _ tt
+unfolding passes_all is_stored stored_exp exp_under partial_sum sum_num term_num term_den whole fraction
+returns c = stored_by_test _ tt
 
-pub stored-exponentials-spec : {M : Type 1} → statement M
-stored-exponentials-spec = tie.close (tie.spec returns)
+pub stored_exponentials_spec : {M : Type 1} → statement M
+stored_exponentials_spec = tie.close (tie.spec returns)

@@ -7,18 +7,18 @@ use Rattle.exponential.proofs.taylor.Laws.{Terms, none, first, next, fit, done}
 use Rattle.exponential.proofs.taylor.taylor.Statement.{statement}
 use Rattle.exponential.proofs.taylor.taylor.Tie as tie
 
-abbrev invariant-loop : tie.invariant-loop
-invariant-loop f low-term₀ high-term₀ low₀ high₀ k₀ low-term high-term low high k = Terms f k low-term high-term low high
+abbrev invariant_loop : tie.invariant_loop
+invariant_loop f low-term₀ high-term₀ low₀ high₀ k₀ low_term high_term low high k = Terms f k low_term high_term low high
 
-abbrev decreases-loop : tie.decreases-loop
-decreases-loop f low-term₀ high-term₀ low₀ high₀ k₀ low-term high-term low high k = 16 - k
+abbrev decreases_loop : tie.decreases_loop
+decreases_loop f low-term₀ high-term₀ low₀ high₀ k₀ low_term high_term low high k = 16 - k
 
-pub taylor-spec : {M : Type 1} → statement M
-taylor-spec =
+pub taylor_spec : {M : Type 1} → statement M
+taylor_spec =
     tie.close
     (tie.spec
-    invariant-loop
-    decreases-loop
+    invariant_loop
+    decreases_loop
     (λ c. none c.if1.true)
     (λ c. first c.before.requires)
     (λ c. search rules) (λ c. search rules)

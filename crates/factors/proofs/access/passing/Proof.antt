@@ -3,7 +3,7 @@ use native.Mathlib.Omega.{arith}
 use mathlib.Core.List.{[], ◌∷◌}
 use Prim.Native.Nat.{◌<◌}
 use lib.ListN.{get_or}
-use Rattle.laws.specs.Table.{all_below, agree-below}
+use Rattle.laws.specs.Table.{all_below, agree_below}
 use Rattle.estimate.specs.Fraction.{◌//◌, fraction}
 use Rattle.model.specs.Access.{passing}
 use Rattle.factors.proofs.access.passing.Statement.{statement}
@@ -13,7 +13,7 @@ returns : tie.Need-returns
 unfolding passing ◌//◌ fraction all_below
 returns c =
     let h : c.args.kind < 3 = omega arith in
-    rw (agree-below (λ k. get_or (100 ∷ 75 ∷ 65 ∷ []) k 0) (λ k. get_or (100 ∷ 75 ∷ 65 ∷ []) k 100) 3 tt c.args.kind h)
+    rw (agree_below (λ k. get_or (100 ∷ 75 ∷ 65 ∷ []) k 0) (λ k. get_or (100 ∷ 75 ∷ 65 ∷ []) k 100) 3 tt c.args.kind h)
 
-pub passing-spec : {M : Type 1} → statement M
-passing-spec = tie.close (tie.spec (λ c. search rules) (λ c. search rules) returns)
+pub passing_spec : {M : Type 1} → statement M
+passing_spec = tie.close (tie.spec (λ c. search rules) (λ c. search rules) returns)

@@ -1,17 +1,17 @@
 use borrow.Author.Rules.{rules}
 use mathlib.Core.Path.{refl}
 use Rattle.estimate.specs.Fraction.{whole, fraction}
-use Rattle.model.specs.Coefficients.{editionTwo}
-use Rattle.model.specs.Editions.{first-edition, second-edition}
+use Rattle.model.specs.Coefficients.{edition_two}
+use Rattle.model.specs.Editions.{first_edition, second_edition}
 use Rattle.factors.proofs.alignment.steep_grade.Statement.{statement}
 use Rattle.factors.proofs.alignment.steep_grade.Tie as tie
 
 returns : tie.Need-returns
-returns c = rw (first-edition _ c.before.if1.true) c.power-above-six.ensures
+returns c = rw (first_edition _ c.before.if1.true) c.power-above-six.ensures
 
-returns-2 : tie.Need-returns-2
-unfolding editionTwo whole fraction
-returns-2 c = rw (second-edition _ c.if1.false) refl
+returns_2 : tie.Need-returns-2
+unfolding edition_two whole fraction
+returns_2 c = rw (second_edition _ c.if1.false) refl
 
-pub steep-grade-spec : {M : Type 1} → statement M
-steep-grade-spec = tie.close (tie.spec (λ c κs. search rules) returns returns-2)
+pub steep_grade_spec : {M : Type 1} → statement M
+steep_grade_spec = tie.close (tie.spec (λ c κs. search rules) returns returns_2)

@@ -9,13 +9,13 @@ returns : tie.Need-returns
 unfolding superelevation whole fraction
 returns c = simp (lt-ltb _ _ c.if1.true)
 
-returns-2 : tie.Need-returns-2
+returns_2 : tie.Need-returns-2
 unfolding superelevation ◌//◌ fraction
-returns-2 c = simp (le-ltb _ _ c.before.if1.false, le-leb _ _ c.if2.true)
+returns_2 c = simp (le-ltb _ _ c.before.if1.false, le-leb _ _ c.if2.true)
 
-returns-3 : tie.Need-returns-3
+returns_3 : tie.Need-returns-3
 unfolding superelevation ◌//◌ fraction
-returns-3 c = simp (le-ltb _ _ c.before.if1.false, lt-leb _ _ c.if2.false)
+returns_3 c = simp (le-ltb _ _ c.before.if1.false, lt-leb _ _ c.if2.false)
 
-pub superelevation-spec : {M : Type 1} → statement M
-superelevation-spec = tie.close (tie.spec returns (λ c. search rules) (λ c. search rules) returns-2 (λ c. search rules) (λ c. search rules) returns-3)
+pub superelevation_spec : {M : Type 1} → statement M
+superelevation_spec = tie.close (tie.spec returns (λ c. search rules) (λ c. search rules) returns_2 (λ c. search rules) (λ c. search rules) returns_3)

@@ -8,5 +8,5 @@ returns : tie.Need-returns
 unfolding ◌//◌ fraction
 returns c = refl
 
-pub dispersion-by-kind-spec : {M : Type 1} → statement M
-dispersion-by-kind-spec = tie.close (tie.spec (λ c. search rules) (λ c. search rules) returns)
+pub dispersion_by_kind_spec : {M : Type 1} → statement M
+dispersion_by_kind_spec = tie.close (tie.spec (λ c. search rules) (λ c. search rules) returns)

@@ -1,25 +1,25 @@
 use borrow.Author.Rules.{rules}
 use borrow.Author.Tests.{eq-eqb, ne_eqb}
 use mathlib.Core.Path.{sym}
-use Rattle.bracket.specs.Ratio.{coded-quotient}
-use Rattle.model.specs.Coefficients.{editionOne, editionTwo}
-use Rattle.model.specs.Editions.{first-edition, second-edition}
+use Rattle.bracket.specs.Ratio.{coded_quotient}
+use Rattle.model.specs.Coefficients.{edition_one, edition_two}
+use Rattle.model.specs.Editions.{first_edition, second_edition}
 use Rattle.factors.proofs.coefficients.overdispersion.Statement.{statement}
 use Rattle.factors.proofs.coefficients.overdispersion.Tie as tie
 
 returns : tie.Need-returns
-unfolding editionOne
-returns c = rw (first-edition _ c.before.if1.true) c.dispersion-by-kind.ensures
+unfolding edition_one
+returns c = rw (first_edition _ c.before.if1.true) c.dispersion-by-kind.ensures
 
-returns-2 : tie.Need-returns-2
-unfolding editionTwo
-returns-2 c =
-    let kind-is = c.if2.true in
-    rw (second-edition _ c.before.if1.false, eq-eqb _ 0 kind-is) (sym (coded-quotient 236 _ (c.before.before.requires.1 kind-is)))
+returns_2 : tie.Need-returns-2
+unfolding edition_two
+returns_2 c =
+    let kind_is = c.if2.true in
+    rw (second_edition _ c.before.if1.false, eq-eqb _ 0 kind_is) (sym (coded_quotient 236 _ (c.before.before.requires.1 kind_is)))
 
-returns-3 : tie.Need-returns-3
-unfolding editionTwo
-returns-3 c = rw (second-edition _ c.before.before.if1.false, ne_eqb _ 0 c.before.if2.false) c.dispersion-by-kind2.ensures
+returns_3 : tie.Need-returns-3
+unfolding edition_two
+returns_3 c = rw (second_edition _ c.before.before.if1.false, ne_eqb _ 0 c.before.if2.false) c.dispersion-by-kind2.ensures
 
-pub overdispersion-spec : {M : Type 1} → statement M
-overdispersion-spec = tie.close (tie.spec (λ c κs. search rules) returns returns-2 (λ c κs. search rules) returns-3)
+pub overdispersion_spec : {M : Type 1} → statement M
+overdispersion_spec = tie.close (tie.spec (λ c κs. search rules) returns returns_2 (λ c κs. search rules) returns_3)

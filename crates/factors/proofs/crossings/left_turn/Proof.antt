@@ -1,29 +1,29 @@
 use borrow.Author.Rules.{rules}
 use Rattle.laws.specs.Table.{all_below}
-use Rattle.model.specs.Coefficients.{editionOne, leftTurnOne, editionTwo, leftTurnTwo}
-use Rattle.model.specs.Crossings.{leftTurn}
-use Rattle.model.specs.Editions.{first-edition, second-edition}
-use Rattle.factors.specs.TurnLanes.{turn-lanes}
+use Rattle.model.specs.Coefficients.{edition_one, left_turn_one, edition_two, left_turn_two}
+use Rattle.model.specs.Crossings.{left_turn}
+use Rattle.model.specs.Editions.{first_edition, second_edition}
+use Rattle.factors.specs.TurnLanes.{turn_lanes_lem}
 use Rattle.factors.proofs.crossings.left_turn.Statement.{statement}
 use Rattle.factors.proofs.crossings.left_turn.Tie as tie
 
 returns : tie.Need-returns
-unfolding leftTurn editionOne all_below
+unfolding left_turn edition_one all_below
 returns c =
     let s = c.before.before in
-    rw (first-edition _ c.before.if1.true) (turn-lanes leftTurnOne tt s.args.kind s.args.lanes s.requires)
+    rw (first_edition _ c.before.if1.true) (turn_lanes_lem left_turn_one tt s.args.kind s.args.lanes s.requires)
 
-returns-2 : tie.Need-returns-2
-unfolding leftTurn editionTwo all_below
-returns-2 c =
+returns_2 : tie.Need-returns-2
+unfolding left_turn edition_two all_below
+returns_2 c =
     let s = c.before.before in
-    rw (second-edition _ c.before.if1.false) (turn-lanes leftTurnTwo tt s.args.kind s.args.lanes s.requires)
+    rw (second_edition _ c.before.if1.false) (turn_lanes_lem left_turn_two tt s.args.kind s.args.lanes s.requires)
 
-pub left-turn-spec : {M : Type 1} → statement M
-left-turn-spec =
+pub left_turn_spec : {M : Type 1} → statement M
+left_turn_spec =
     tie.close
     (tie.spec
     (λ c. search rules) (λ c. search rules) (λ c. search rules) (λ c. search rules)
     returns
     (λ c. search rules) (λ c. search rules) (λ c. search rules) (λ c. search rules)
-    returns-2)
+    returns_2)

@@ -9,5 +9,5 @@ returns : tie.Need-returns
 unfolding sight ◌//◌ fraction
 returns c = refl
 
-pub sight-spec : {M : Type 1} → statement M
-sight-spec = tie.close (tie.spec (λ c. search rules) (λ c. search rules) returns)
+pub sight_spec : {M : Type 1} → statement M
+sight_spec = tie.close (tie.spec (λ c. search rules) (λ c. search rules) returns)

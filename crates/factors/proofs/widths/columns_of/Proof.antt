@@ -8,8 +8,8 @@ use Rattle.factors.proofs.widths.columns_of.Tie as tie
 returns : tie.Need-returns
 returns c = let four = wide c.before.args.feet (omega arith) in (sym four.0, sym four.1)
 
-returns-2 : tie.Need-returns-2
-returns-2 c = let half = narrow c.before.args.feet (omega arith) in (sym half.0, sym half.1)
+returns_2 : tie.Need-returns-2
+returns_2 c = let half = narrow c.before.args.feet (omega arith) in (sym half.0, sym half.1)
 
-pub columns-of-spec : {M : Type 1} → statement M
-columns-of-spec = tie.close (tie.spec returns (λ c. search rules) returns-2)
+pub columns_of_spec : {M : Type 1} → statement M
+columns_of_spec = tie.close (tie.spec returns (λ c. search rules) returns_2)

@@ -2,21 +2,21 @@ use borrow.Author.Rules.{rules}
 use native.Mathlib.Omega.{arith}
 use mathlib.Core.Path.{ap, ◌∙◌}
 use lib.ListN.{get_or}
-use Rattle.model.specs.Widths.{laneColumns, none}
-use Rattle.model.specs.FactorBounds.{lane-column-below}
-use Rattle.factors.specs.Column.{column-at}
+use Rattle.model.specs.Widths.{lane_columns, none}
+use Rattle.model.specs.FactorBounds.{lane_column_below}
+use Rattle.factors.specs.Column.{column_at}
 use Rattle.factors.proofs.widths.lane_column.Statement.{statement}
 use Rattle.factors.proofs.widths.lane_column.Tie as tie
 
-mul-result : tie.Need-overflow-mul-result
-mul-result c = omega (arith, c.lane_place.ensures, lane-column-below c.before.args.feet)
+mul_result : tie.Need-overflow-mul-result
+mul_result c = omega (arith, c.lane_place.ensures, lane_column_below c.before.args.feet)
 
-array-copy-out-result : tie.Need-array-copy-out-result
-array-copy-out-result c = omega (arith, c.lane_place.ensures, lane-column-below c.before.args.feet)
+array_copy_out_result : tie.Need-array-copy-out-result
+array_copy_out_result c = omega (arith, c.lane_place.ensures, lane_column_below c.before.args.feet)
 
 returns : tie.Need-returns
-returns c = column-at laneColumns c.before.lane_place.result ∙ ap (λ i. get_or laneColumns i none) c.before.lane_place.ensures
+returns c = column_at lane_columns c.before.lane_place.result ∙ ap (λ i. get_or lane_columns i none) c.before.lane_place.ensures
 
-pub lane-column-spec : {M : Type 1} → statement M
-lane-column-spec =
-    tie.close (tie.spec (λ c κs. search rules) mul-result array-copy-out-result returns)
+pub lane_column_spec : {M : Type 1} → statement M
+lane_column_spec =
+    tie.close (tie.spec (λ c κs. search rules) mul_result array_copy_out_result returns)

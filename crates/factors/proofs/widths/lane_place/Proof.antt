@@ -6,11 +6,11 @@ use Rattle.factors.proofs.widths.lane_place.Tie as tie
 returns : tie.Need-returns
 returns c = simp (le-leb _ _ c.if1.true)
 
-returns-2 : tie.Need-returns-2
-returns-2 c = simp (lt-leb _ _ c.before.if1.false, le-leb _ _ c.if2.true)
+returns_2 : tie.Need-returns-2
+returns_2 c = simp (lt-leb _ _ c.before.if1.false, le-leb _ _ c.if2.true)
 
-returns-3 : tie.Need-returns-3
-returns-3 c = simp (lt-leb _ _ c.before.if1.false, lt-leb _ _ c.if2.false)
+returns_3 : tie.Need-returns-3
+returns_3 c = simp (lt-leb _ _ c.before.if1.false, lt-leb _ _ c.if2.false)
 
-pub lane-place-spec : {M : Type 1} → statement M
-lane-place-spec = tie.close (tie.spec returns (λ c. search rules) returns-2 returns-3)
+pub lane_place_spec : {M : Type 1} → statement M
+lane_place_spec = tie.close (tie.spec returns (λ c. search rules) returns_2 returns_3)

@@ -14,10 +14,10 @@ sums c =
     let a = c.args in
     let widths = a.width-below + a.width_above in
     let types = a.type-below + a.type-above in
-    (omega (arith, mul-le-mul_left widths c.requires.multiplier-positive), omega (arith, mul-le-mul_right types c.requires.width_positive))
+    (omega (arith, mul-le-mul_left widths c.requires.multiplier_positive), omega (arith, mul-le-mul_right types c.requires.width_positive))
 
-pub product-of-means-spec : {M : Type 1} → statement M
-product-of-means-spec =
+pub product_of_means_spec : {M : Type 1} → statement M
+product_of_means_spec =
     tie.close
     (tie.spec
     (λ c. omega (arith, (sums c).0, c.requires.at_most))

@@ -6,16 +6,16 @@ use Rattle.line.proofs.expected.over_of.Statement.{statement}
 use Rattle.line.proofs.expected.over_of.Tie as tie
 
 product : (c : tie.Start) → let a = c.args in a.kn * a.observed ≤ 1000 * 500
-product c = mul-le-mul c.requires.0.kn-most c.requires.1
+product c = mul-le-mul c.requires.0.kn_most c.requires.1
 
-mul-result : tie.Need-overflow-mul-result
-mul-result c = omega (arith, product c)
+mul_result : tie.Need-overflow-mul-result
+mul_result c = omega (arith, product c)
 
-add-result : tie.Need-overflow-add-result
-add-result c = omega (arith, product c)
+add_result : tie.Need-overflow-add-result
+add_result c = omega (arith, product c)
 
-mul-result-2 : tie.Need-overflow-mul-result-2
-mul-result-2 c = omega (arith, product c)
+mul_result_2 : tie.Need-overflow-mul-result-2
+mul_result_2 c = omega (arith, product c)
 
-pub over-of-spec : {M : Type 1} → statement M
-over-of-spec = tie.close (tie.spec mul-result add-result mul-result-2 (λ c. search rules))
+pub over_of_spec : {M : Type 1} → statement M
+over_of_spec = tie.close (tie.spec mul_result add_result mul_result_2 (λ c. search rules))

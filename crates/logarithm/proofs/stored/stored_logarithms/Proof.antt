@@ -1,14 +1,14 @@
-use Rattle.laws.specs.Table.{passesAll}
+use Rattle.laws.specs.Table.{passes_all}
 use Rattle.estimate.specs.Fraction.{leᶠ, fraction, whole, decimal}
-use Rattle.estimate.specs.Exponential.{termNum, termDen, sumNum, partialSum, sumWithTail, expUnder, expOver}
-use Rattle.logarithm.proofs.Entries.{passes, rightEntry, stored-by-test}
+use Rattle.estimate.specs.Exponential.{term_num, term_den, sum_num, partial_sum, sum_with_tail, exp_under, exp_over}
+use Rattle.logarithm.proofs.Entries.{passes, right_entry, stored_by_test}
 use Rattle.logarithm.proofs.stored.stored_logarithms.Statement.{statement}
 use Rattle.logarithm.proofs.stored.stored_logarithms.Tie as tie
 
 -- the one test, which is computed over the table
 returns : tie.Need-returns
-unfolding passes passesAll rightEntry leᶠ fraction whole decimal expOver expUnder sumWithTail partialSum sumNum termNum termDen
-returns c = stored-by-test _ tt
+unfolding passes passes_all right_entry leᶠ fraction whole decimal exp_over exp_under sum_with_tail partial_sum sum_num term_num term_den
+returns c = stored_by_test _ tt
 
-pub stored-logarithms-spec : {M : Type 1} → statement M
-stored-logarithms-spec = tie.close (tie.spec returns)
+pub stored_logarithms_spec : {M : Type 1} → statement M
+stored_logarithms_spec = tie.close (tie.spec returns)

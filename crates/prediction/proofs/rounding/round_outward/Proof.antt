@@ -7,9 +7,9 @@ use Rattle.prediction.proofs.rounding.round_outward.Tie as tie
 returns : tie.Need-returns
 returns c = simp (c.before.before.before.answer.given.1, ← c.before.down.ensures, ← c.up.ensures)
 
-returns-2 : tie.Need-returns-2
-returns-2 c = sym (ap outward c.enum_told.given.1)
+returns_2 : tie.Need-returns-2
+returns_2 c = sym (ap outward c.enum_told.given.1)
 
-pub round-outward-spec : {M : Type 1} → statement M
-round-outward-spec =
-    tie.close (tie.spec (λ c. search rules) (λ c κs. search rules) (λ c κs. search rules) (λ c. search rules) returns returns-2)
+pub round_outward_spec : {M : Type 1} → statement M
+round_outward_spec =
+    tie.close (tie.spec (λ c. search rules) (λ c κs. search rules) (λ c κs. search rules) (λ c. search rules) returns returns_2)

@@ -1,9 +1,9 @@
 use Prim.Native.Nat.{ℕ, suc, ◌-◌}
 use mathlib.Core.Path.{◌≡◌, ap, ◌∙◌}
 use native.Mathlib.Omega.{arith}
-use Rattle.exponential.specs.StoredBrackets.{storedBracket}
-use Rattle.exponential.specs.StoredBracketLaws.{entry-is}
-use Rattle.model.specs.Parts.{hazardExponent}
+use Rattle.exponential.specs.StoredBrackets.{stored_bracket}
+use Rattle.exponential.specs.StoredBracketLaws.{entry_is}
+use Rattle.model.specs.Parts.{hazard_exponent}
 use borrow.Author.Rules.{rules}
 use Rattle.prediction.proofs.stored.hazard_factor.Statement.{statement}
 use Rattle.prediction.proofs.stored.hazard_factor.Tie as tie
@@ -13,10 +13,10 @@ returns c =
     let s = c.before in
     let rating = s.before.args.rating in
     let is : suc (rating - 1) ≡ rating = omega arith in
-    c.stored-bracket.ensures ∙ entry-is s.stored-hazards.ensures (rating - 1) (omega arith) ∙ ap (λ (n : ℕ). storedBracket (hazardExponent n)) is
+    c.stored-bracket.ensures ∙ entry_is s.stored-hazards.ensures (rating - 1) (omega arith) ∙ ap (λ (n : ℕ). stored_bracket (hazard_exponent n)) is
 
-pub hazard-factor-spec : {M : Type 1} → statement M
-hazard-factor-spec =
+pub hazard_factor_spec : {M : Type 1} → statement M
+hazard_factor_spec =
     tie.close
     (tie.spec
     (λ c κs. search rules) (λ c. search rules) (λ c. search rules) (λ c. search rules) (λ c. search rules) (λ c. search rules) (λ c. search rules)

@@ -7,29 +7,29 @@ use Prim.Native.Nat.{ℕ, zero, suc, ◌-◌}
 use lib.ListN.{get_or}
 use Rattle.site.specs.declared.values.Slot.{Slot}
 use Rattle.site.specs.declared.values.Slot.TheVariants.{Absent}
-use Rattle.site.specs.Yearly.{laterSlots}
+use Rattle.site.specs.Yearly.{later_slots}
 use Rattle.site.specs.Numbers as numbers
 use Rattle.prediction.proofs.yearly.traffic_in.Statement.{statement}
 use Rattle.prediction.proofs.yearly.traffic_in.Tie as tie
 
-later-year : (first : Slot) (slots : List Slot) (year : ℕ) → (year ≡ 0 → ⊥) → get_or slots (year - 1) Absent ≡ get_or (first ∷ slots) year Absent
-later-year first slots zero z = absurd (z refl)
-later-year first slots (suc year) z = let e : suc year - 1 ≡ year = omega arith in rw e
+later_year : (first : Slot) (slots : List Slot) (year : ℕ) → (year ≡ 0 → ⊥) → get_or slots (year - 1) Absent ≡ get_or (first ∷ slots) year Absent
+later_year first slots zero z = absurd (z refl)
+later_year first slots (suc year) z = let e : suc year - 1 ≡ year = omega arith in rw e
 
 returns : tie.Need-returns
 returns c = c.number.ensures ∙ rw c.before.if1.true refl
 
-returns-2 : tie.Need-returns-2
-returns-2 c =
+returns_2 : tie.Need-returns-2
+returns_2 c =
     let slots = c.before.before in
     let a = slots.before.before.args in
-    rw slots.later-slots.ensures at c.number2.ensures ∙ ap numbers.number (later-year a.first (laterSlots a.later) a.year slots.before.if1.false)
+    rw slots.later-slots.ensures at c.number2.ensures ∙ ap numbers.number (later_year a.first (later_slots a.later) a.year slots.before.if1.false)
 
-pub traffic-in-spec : {M : Type 1} → statement M
-traffic-in-spec =
+pub traffic_in_spec : {M : Type 1} → statement M
+traffic_in_spec =
     tie.close
     (tie.spec
     (λ c κs. search rules)
     returns
     (λ c κs. search rules) (λ c. search rules) (λ c. search rules) (λ c. search rules) (λ c κs. search rules)
-    returns-2)
+    returns_2)

@@ -870,16 +870,16 @@ module _ (claims· : Claims) where
 
       pub record After-slice-known : Type 0 where
         pub before : Start
-        pub slice-known : After-slice-known·own before
+        pub slice_known : After-slice-known·own before
 
       abbrev pub Need-loop-holds : Type 0
-      Need-loop-holds = (c : After-slice-known) → Inv·0 (Row.get 1 T5.locals (m4 c.before c.slice-known.given)) (Row.get 2 T5.locals (m4 c.before c.slice-known.given)) (Row.get 3 T5.locals (m4 c.before c.slice-known.given)).now (Row.get 4 T5.locals (m4 c.before c.slice-known.given)).now (Row.get 6 T5.locals (m4 c.before c.slice-known.given)) (Row.get 7 T5.locals (m4 c.before c.slice-known.given)) (Row.get 4 T5.locals (m4 c.before c.slice-known.given)).now (Row.get 6 T5.locals (m4 c.before c.slice-known.given)) (Row.get 7 T5.locals (m4 c.before c.slice-known.given))
+      Need-loop-holds = (c : After-slice-known) → Inv·0 (Row.get 1 T5.locals (m4 c.before c.slice_known.given)) (Row.get 2 T5.locals (m4 c.before c.slice_known.given)) (Row.get 3 T5.locals (m4 c.before c.slice_known.given)).now (Row.get 4 T5.locals (m4 c.before c.slice_known.given)).now (Row.get 6 T5.locals (m4 c.before c.slice_known.given)) (Row.get 7 T5.locals (m4 c.before c.slice_known.given)) (Row.get 4 T5.locals (m4 c.before c.slice_known.given)).now (Row.get 6 T5.locals (m4 c.before c.slice_known.given)) (Row.get 7 T5.locals (m4 c.before c.slice_known.given))
 
       abbrev pub m5 : (before : After-slice-known) → (buffer : List.List (Referent.rt_f (Referent.f_int Syntax.w8)).Denot) → (course : (Rows.whole (Declared.row Course.the_type)).Mod) → (i : (Rows.sc_here (Row.s_int Syntax.w64)).Mod) → Typed.Mo T5
-      m5 = λ before buffer course i. Row.set 7 (7, Rows.sc_here (Row.s_int Syntax.w64)) i (Row.set_row 6 (6, Rows.whole (Declared.row Course.the_type)) (Row.set_row 4 (4, Mut.mslice (Referent.rt_f (Referent.f_int Syntax.w8)) type·6 1) T5.locals)) (Row.set 6 (6, Rows.whole (Declared.row Course.the_type)) course (Row.set_row 4 (4, Mut.mslice (Referent.rt_f (Referent.f_int Syntax.w8)) type·6 1) T5.locals) (Row.set 4 (4, Mut.mslice (Referent.rt_f (Referent.f_int Syntax.w8)) type·6 1) record { ref_ptr = (Row.get 4 T5.locals (m4 before.before before.slice-known.given)).ptr; ghost_name = (Row.get 4 T5.locals (m4 before.before before.slice-known.given)).name; now = buffer } T5.locals (m4 before.before before.slice-known.given)))
+      m5 = λ before buffer course i. Row.set 7 (7, Rows.sc_here (Row.s_int Syntax.w64)) i (Row.set_row 6 (6, Rows.whole (Declared.row Course.the_type)) (Row.set_row 4 (4, Mut.mslice (Referent.rt_f (Referent.f_int Syntax.w8)) type·6 1) T5.locals)) (Row.set 6 (6, Rows.whole (Declared.row Course.the_type)) course (Row.set_row 4 (4, Mut.mslice (Referent.rt_f (Referent.f_int Syntax.w8)) type·6 1) T5.locals) (Row.set 4 (4, Mut.mslice (Referent.rt_f (Referent.f_int Syntax.w8)) type·6 1) record { ref_ptr = (Row.get 4 T5.locals (m4 before.before before.slice_known.given)).ptr; ghost_name = (Row.get 4 T5.locals (m4 before.before before.slice_known.given)).name; now = buffer } T5.locals (m4 before.before before.slice_known.given)))
 
       abbrev W3 : (before : After-slice-known) → (buffer : List.List (Referent.rt_f (Referent.f_int Syntax.w8)).Denot) → (course : (Rows.whole (Declared.row Course.the_type)).Mod) → (i : (Rows.sc_here (Row.s_int Syntax.w64)).Mod) → Typed.Want O3
-      W3 = λ before buffer course i. Typed.in_loop T5 O2 (Typed.Round T5 O2 put0 (λ u vs. Inv·0 (Row.get 1 T5.locals u) (Row.get 2 T5.locals u) (Row.get 3 T5.locals u).now (Row.get 4 T5.locals u).now (Row.get 6 T5.locals u) (Row.get 7 T5.locals u) vs.0 vs.1 vs.2) (λ u vs. μ·0 (Row.get 1 T5.locals u) (Row.get 2 T5.locals u) (Row.get 3 T5.locals u).now (Row.get 4 T5.locals u).now (Row.get 6 T5.locals u) (Row.get 7 T5.locals u) vs.0 vs.1 vs.2) at25 (m4 before.before before.slice-known.given) (buffer, course, i)) (W2 before.before before.slice-known.given)
+      W3 = λ before buffer course i. Typed.in_loop T5 O2 (Typed.Round T5 O2 put0 (λ u vs. Inv·0 (Row.get 1 T5.locals u) (Row.get 2 T5.locals u) (Row.get 3 T5.locals u).now (Row.get 4 T5.locals u).now (Row.get 6 T5.locals u) (Row.get 7 T5.locals u) vs.0 vs.1 vs.2) (λ u vs. μ·0 (Row.get 1 T5.locals u) (Row.get 2 T5.locals u) (Row.get 3 T5.locals u).now (Row.get 4 T5.locals u).now (Row.get 6 T5.locals u) (Row.get 7 T5.locals u) vs.0 vs.1 vs.2) at25 (m4 before.before before.slice_known.given) (buffer, course, i)) (W2 before.before before.slice_known.given)
 
       abbrev pub m6 : (before : After-slice-known) → (buffer : List.List (Referent.rt_f (Referent.f_int Syntax.w8)).Denot) → (course : (Rows.whole (Declared.row Course.the_type)).Mod) → (i : (Rows.sc_here (Row.s_int Syntax.w64)).Mod) → Typed.Mo T7
       m6 = λ before buffer course i. s4 (m5 before buffer course i)
@@ -898,7 +898,7 @@ module _ (claims· : Claims) where
           pub buffer : List.List (Referent.rt_f (Referent.f_int Syntax.w8)).Denot
           pub course : (Rows.whole (Declared.row Course.the_type)).Mod
           pub i : (Rows.sc_here (Row.s_int Syntax.w64)).Mod
-          pub inv : Inv·0 (Row.get 1 T5.locals (m4 before·.before before·.slice-known.given)) (Row.get 2 T5.locals (m4 before·.before before·.slice-known.given)) (Row.get 3 T5.locals (m4 before·.before before·.slice-known.given)).now (Row.get 4 T5.locals (m4 before·.before before·.slice-known.given)).now (Row.get 6 T5.locals (m4 before·.before before·.slice-known.given)) (Row.get 7 T5.locals (m4 before·.before before·.slice-known.given)) buffer course i
+          pub inv : Inv·0 (Row.get 1 T5.locals (m4 before·.before before·.slice_known.given)) (Row.get 2 T5.locals (m4 before·.before before·.slice_known.given)) (Row.get 3 T5.locals (m4 before·.before before·.slice_known.given)).now (Row.get 4 T5.locals (m4 before·.before before·.slice_known.given)).now (Row.get 6 T5.locals (m4 before·.before before·.slice_known.given)) (Row.get 7 T5.locals (m4 before·.before before·.slice_known.given)) buffer course i
 
       pub record At-loop : Type 0 where
         pub before : After-slice-known
@@ -910,7 +910,7 @@ module _ (claims· : Claims) where
 
       pub record In-loop : Type 0 where
         pub before : At-loop
-        pub loop-test : In-loop·own before
+        pub loop_test : In-loop·own before
 
       abbrev pub m9 : (before : At-loop) → Typed.Mo T5
       m9 = λ before. s7 (m8 before.before before.loop.buffer before.loop.course before.loop.i)
@@ -921,7 +921,7 @@ module _ (claims· : Claims) where
 
       pub record After-loop : Type 0 where
         pub before : At-loop
-        pub loop-test : After-loop·own before
+        pub loop_test : After-loop·own before
 
       abbrev pub m10 : (before : At-loop) → Typed.Mo T5
       m10 = λ before. s8 (m8 before.before before.loop.buffer before.loop.course before.loop.i)
@@ -973,26 +973,26 @@ module _ (claims· : Claims) where
 
       pub record After-step-arg : Type 0 where
         pub before : After-site
-        pub step-arg : After-step-arg·own before
+        pub step_arg : After-step-arg·own before
 
       abbrev pub Need-step-requires : Type 0
-      Need-step-requires = (c : After-step-arg) → s19.asks (m19 c.before c.step-arg.given)
+      Need-step-requires = (c : After-step-arg) → s19.asks (m19 c.before c.step_arg.given)
 
-      abbrev pub m20 : (before : After-step-arg) → (given : s19.gives (m19 before.before before.step-arg.given)) → Typed.Mo T23
-      m20 = λ before given. s19.next (m19 before.before before.step-arg.given) given
+      abbrev pub m20 : (before : After-step-arg) → (given : s19.gives (m19 before.before before.step_arg.given)) → Typed.Mo T23
+      m20 = λ before given. s19.next (m19 before.before before.step_arg.given) given
 
       module _ (before· : After-step-arg) where
         abbrev pub After-step·own : Type 0
-        After-step·own = Called.Called ps·0 r·0 claims·.1 T22 (Num.v_at 1 λ x. x, (Num.v_at 2 λ x. x, (record { pos = 8; st = []; d = 0; at = λ x. x }, (record { pos = 14; ty = Syntax.ty_ref Syntax.erased Syntax.mut type·0; ref = λ x. x }, (record { pos = 6; st = []; d = 0; at = λ x. x }, tt))))) (m19 before·.before before·.step-arg.given)
+        After-step·own = Called.Called ps·0 r·0 claims·.1 T22 (Num.v_at 1 λ x. x, (Num.v_at 2 λ x. x, (record { pos = 8; st = []; d = 0; at = λ x. x }, (record { pos = 14; ty = Syntax.ty_ref Syntax.erased Syntax.mut type·0; ref = λ x. x }, (record { pos = 6; st = []; d = 0; at = λ x. x }, tt))))) (m19 before·.before before·.step_arg.given)
 
       pub record After-step : Type 0 where
         pub before : After-step-arg
         pub step : After-step·own before
 
-      abbrev pub After-step·gave : (c : After-step) → s19.gives (m19 c.before.before c.before.step-arg.given)
-      After-step·gave = λ c. Called.given ps·0 r·0 claims·.1 T22 (Num.v_at 1 λ x. x, (Num.v_at 2 λ x. x, (record { pos = 8; st = []; d = 0; at = λ x. x }, (record { pos = 14; ty = Syntax.ty_ref Syntax.erased Syntax.mut type·0; ref = λ x. x }, (record { pos = 6; st = []; d = 0; at = λ x. x }, tt))))) (m19 c.before.before c.before.step-arg.given) c.step
+      abbrev pub After-step·gave : (c : After-step) → s19.gives (m19 c.before.before c.before.step_arg.given)
+      After-step·gave = λ c. Called.given ps·0 r·0 claims·.1 T22 (Num.v_at 1 λ x. x, (Num.v_at 2 λ x. x, (record { pos = 8; st = []; d = 0; at = λ x. x }, (record { pos = 14; ty = Syntax.ty_ref Syntax.erased Syntax.mut type·0; ref = λ x. x }, (record { pos = 6; st = []; d = 0; at = λ x. x }, tt))))) (m19 c.before.before c.before.step_arg.given) c.step
 
-      abbrev pub m21 : (before : After-step-arg) → (given : s19.gives (m19 before.before before.step-arg.given)) → Typed.Mo T24
+      abbrev pub m21 : (before : After-step-arg) → (given : s19.gives (m19 before.before before.step_arg.given)) → Typed.Mo T24
       m21 = λ before given. s20 (m20 before given)
 
       abbrev pub m22 : (before : After-step) → (given : s22.gives (m21 before.before (After-step·gave before))) → Typed.Mo T5
@@ -1015,19 +1015,19 @@ module _ (claims· : Claims) where
 
       pub record After-slice-known2 : Type 0 where
         pub before : After-buffer
-        pub slice-known2 : After-slice-known2·own before
+        pub slice_known2 : After-slice-known2·own before
 
       abbrev pub Need-add-i : Type 0
-      Need-add-i = (c : After-slice-known2) → s25.asks (m23 c.before c.slice-known2.given)
+      Need-add-i = (c : After-slice-known2) → s25.asks (m23 c.before c.slice_known2.given)
 
       abbrev pub m24 : (before : After-buffer) → (given : s23.gives (m22 before.before before.buffer.given)) → Typed.Mo T5
       m24 = λ before given. s25.next (m23 before given)
 
       abbrev pub Need-loop-less : Type 0
-      Need-loop-less = (c : After-slice-known2) → Nat.◌<◌ (μ·0 (Row.get 1 T5.locals (m4 c.before.before.before.before.before.before.before.before c.before.before.before.before.before.before.before.slice-known.given)) (Row.get 2 T5.locals (m4 c.before.before.before.before.before.before.before.before c.before.before.before.before.before.before.before.slice-known.given)) (Row.get 3 T5.locals (m4 c.before.before.before.before.before.before.before.before c.before.before.before.before.before.before.before.slice-known.given)).now (Row.get 4 T5.locals (m4 c.before.before.before.before.before.before.before.before c.before.before.before.before.before.before.before.slice-known.given)).now (Row.get 6 T5.locals (m4 c.before.before.before.before.before.before.before.before c.before.before.before.before.before.before.before.slice-known.given)) (Row.get 7 T5.locals (m4 c.before.before.before.before.before.before.before.before c.before.before.before.before.before.before.before.slice-known.given)) (Row.get 4 T5.locals (m24 c.before c.slice-known2.given)).now (Row.get 6 T5.locals (m24 c.before c.slice-known2.given)) (Row.get 7 T5.locals (m24 c.before c.slice-known2.given))) (μ·0 (Row.get 1 T5.locals (m4 c.before.before.before.before.before.before.before.before c.before.before.before.before.before.before.before.slice-known.given)) (Row.get 2 T5.locals (m4 c.before.before.before.before.before.before.before.before c.before.before.before.before.before.before.before.slice-known.given)) (Row.get 3 T5.locals (m4 c.before.before.before.before.before.before.before.before c.before.before.before.before.before.before.before.slice-known.given)).now (Row.get 4 T5.locals (m4 c.before.before.before.before.before.before.before.before c.before.before.before.before.before.before.before.slice-known.given)).now (Row.get 6 T5.locals (m4 c.before.before.before.before.before.before.before.before c.before.before.before.before.before.before.before.slice-known.given)) (Row.get 7 T5.locals (m4 c.before.before.before.before.before.before.before.before c.before.before.before.before.before.before.before.slice-known.given)) c.before.before.before.before.before.before.loop.buffer c.before.before.before.before.before.before.loop.course c.before.before.before.before.before.before.loop.i)
+      Need-loop-less = (c : After-slice-known2) → Nat.◌<◌ (μ·0 (Row.get 1 T5.locals (m4 c.before.before.before.before.before.before.before.before c.before.before.before.before.before.before.before.slice_known.given)) (Row.get 2 T5.locals (m4 c.before.before.before.before.before.before.before.before c.before.before.before.before.before.before.before.slice_known.given)) (Row.get 3 T5.locals (m4 c.before.before.before.before.before.before.before.before c.before.before.before.before.before.before.before.slice_known.given)).now (Row.get 4 T5.locals (m4 c.before.before.before.before.before.before.before.before c.before.before.before.before.before.before.before.slice_known.given)).now (Row.get 6 T5.locals (m4 c.before.before.before.before.before.before.before.before c.before.before.before.before.before.before.before.slice_known.given)) (Row.get 7 T5.locals (m4 c.before.before.before.before.before.before.before.before c.before.before.before.before.before.before.before.slice_known.given)) (Row.get 4 T5.locals (m24 c.before c.slice_known2.given)).now (Row.get 6 T5.locals (m24 c.before c.slice_known2.given)) (Row.get 7 T5.locals (m24 c.before c.slice_known2.given))) (μ·0 (Row.get 1 T5.locals (m4 c.before.before.before.before.before.before.before.before c.before.before.before.before.before.before.before.slice_known.given)) (Row.get 2 T5.locals (m4 c.before.before.before.before.before.before.before.before c.before.before.before.before.before.before.before.slice_known.given)) (Row.get 3 T5.locals (m4 c.before.before.before.before.before.before.before.before c.before.before.before.before.before.before.before.slice_known.given)).now (Row.get 4 T5.locals (m4 c.before.before.before.before.before.before.before.before c.before.before.before.before.before.before.before.slice_known.given)).now (Row.get 6 T5.locals (m4 c.before.before.before.before.before.before.before.before c.before.before.before.before.before.before.before.slice_known.given)) (Row.get 7 T5.locals (m4 c.before.before.before.before.before.before.before.before c.before.before.before.before.before.before.before.slice_known.given)) c.before.before.before.before.before.before.loop.buffer c.before.before.before.before.before.before.loop.course c.before.before.before.before.before.before.loop.i)
 
       abbrev pub Need-loop-again : Type 0
-      Need-loop-again = (c : After-slice-known2) → Inv·0 (Row.get 1 T5.locals (m4 c.before.before.before.before.before.before.before.before c.before.before.before.before.before.before.before.slice-known.given)) (Row.get 2 T5.locals (m4 c.before.before.before.before.before.before.before.before c.before.before.before.before.before.before.before.slice-known.given)) (Row.get 3 T5.locals (m4 c.before.before.before.before.before.before.before.before c.before.before.before.before.before.before.before.slice-known.given)).now (Row.get 4 T5.locals (m4 c.before.before.before.before.before.before.before.before c.before.before.before.before.before.before.before.slice-known.given)).now (Row.get 6 T5.locals (m4 c.before.before.before.before.before.before.before.before c.before.before.before.before.before.before.before.slice-known.given)) (Row.get 7 T5.locals (m4 c.before.before.before.before.before.before.before.before c.before.before.before.before.before.before.before.slice-known.given)) (Row.get 4 T5.locals (m24 c.before c.slice-known2.given)).now (Row.get 6 T5.locals (m24 c.before c.slice-known2.given)) (Row.get 7 T5.locals (m24 c.before c.slice-known2.given))
+      Need-loop-again = (c : After-slice-known2) → Inv·0 (Row.get 1 T5.locals (m4 c.before.before.before.before.before.before.before.before c.before.before.before.before.before.before.before.slice_known.given)) (Row.get 2 T5.locals (m4 c.before.before.before.before.before.before.before.before c.before.before.before.before.before.before.before.slice_known.given)) (Row.get 3 T5.locals (m4 c.before.before.before.before.before.before.before.before c.before.before.before.before.before.before.before.slice_known.given)).now (Row.get 4 T5.locals (m4 c.before.before.before.before.before.before.before.before c.before.before.before.before.before.before.before.slice_known.given)).now (Row.get 6 T5.locals (m4 c.before.before.before.before.before.before.before.before c.before.before.before.before.before.before.before.slice_known.given)) (Row.get 7 T5.locals (m4 c.before.before.before.before.before.before.before.before c.before.before.before.before.before.before.before.slice_known.given)) (Row.get 4 T5.locals (m24 c.before c.slice_known2.given)).now (Row.get 6 T5.locals (m24 c.before c.slice_known2.given)) (Row.get 7 T5.locals (m24 c.before c.slice_known2.given))
 
       abbrev pub m25 : (before : At-loop) → Typed.Mo T30
       m25 = λ before. s26 (m10 before)
@@ -1050,24 +1050,24 @@ module _ (claims· : Claims) where
       abbrev pub Need-returns : Type 0
       Need-returns = (c : After-loop) → Post· c.before.before.before.κs (dens c.before.before.before.κs c.before.before.before.args) (Function.res_v r c.before.before.before.κs (m29 c.before).0) (Clauses.at_exit (FnKinds.ended_of 2 ps r) c.before.before.before.κs (dens c.before.before.before.κs c.before.before.before.args) (Enter.lasts_p c.before.before.before.κs 1 ps xs (dens c.before.before.before.κs c.before.before.before.args) (m29 c.before).1))
 
-      module _ (loop-holds : Need-loop-holds) (mul-site : Need-mul-site) (shared-slice-copy-out-site : Need-shared-slice-copy-out-site) (step-requires : Need-step-requires) (add-i : Need-add-i) (loop-less : Need-loop-less) (loop-again : Need-loop-again) (same_length : Need-same-length) (returns : Need-returns) where
+      module _ (loop_holds : Need-loop-holds) (mul-site : Need-mul-site) (shared-slice-copy-out-site : Need-shared-slice-copy-out-site) (step_requires : Need-step-requires) (add_i : Need-add-i) (loop_less : Need-loop-less) (loop_again : Need-loop-again) (same_length : Need-same-length) (returns : Need-returns) where
         lay5 : (c : After-loop) → at33 (W0 c.before.before.before.κs c.before.before.before.args) (m10 c.before)
-        lay5 = λ c. ((tt, (tt, (Path.refl, (MutSlice.fix_len (Row.get 4 T1.locals (m29 c.before)).ptr (Row.get 4 T1.locals (m29 c.before)).name (Row.get 4 T1.locals (m29 c.before)).now (dens c.before.before.before.κs c.before.before.before.args).1.1.1.0.now (same_length record { before = c.before; loop-test = c.loop-test }), (tt, tt))))), returns record { before = c.before; loop-test = c.loop-test })
+        lay5 = λ c. ((tt, (tt, (Path.refl, (MutSlice.fix_len (Row.get 4 T1.locals (m29 c.before)).ptr (Row.get 4 T1.locals (m29 c.before)).name (Row.get 4 T1.locals (m29 c.before)).now (dens c.before.before.before.κs c.before.before.before.args).1.1.1.0.now (same_length record { before = c.before; loop_test = c.loop_test }), (tt, tt))))), returns record { before = c.before; loop_test = c.loop_test })
 
         lay4 : (c : After-step) → at11 (W3 c.before.before.before.before.before c.before.before.before.before.loop.buffer c.before.before.before.before.loop.course c.before.before.before.before.loop.i) (m20 c.before (After-step·gave c))
-        lay4 = λ c. (Path.refl, λ g. λ g'. (add-i record { before = record { before = record { before = c.before; step = c.step }; buffer = record { given = g } }; slice-known2 = record { given = g' } }, (μ·0 (Row.get 1 T5.locals (m4 c.before.before.before.before.before.before c.before.before.before.before.before.slice-known.given)) (Row.get 2 T5.locals (m4 c.before.before.before.before.before.before c.before.before.before.before.before.slice-known.given)) (Row.get 3 T5.locals (m4 c.before.before.before.before.before.before c.before.before.before.before.before.slice-known.given)).now (Row.get 4 T5.locals (m4 c.before.before.before.before.before.before c.before.before.before.before.before.slice-known.given)).now (Row.get 6 T5.locals (m4 c.before.before.before.before.before.before c.before.before.before.before.before.slice-known.given)) (Row.get 7 T5.locals (m4 c.before.before.before.before.before.before c.before.before.before.before.before.slice-known.given)) (Row.get 4 T5.locals (m24 record { before = record { before = c.before; step = c.step }; buffer = record { given = g } } g')).now (Row.get 6 T5.locals (m24 record { before = record { before = c.before; step = c.step }; buffer = record { given = g } } g')) (Row.get 7 T5.locals (m24 record { before = record { before = c.before; step = c.step }; buffer = record { given = g } } g')), loop-less record { before = record { before = record { before = c.before; step = c.step }; buffer = record { given = g } }; slice-known2 = record { given = g' } }, (((Row.get 4 T5.locals (m24 record { before = record { before = c.before; step = c.step }; buffer = record { given = g } } g')).now, Row.get 6 T5.locals (m24 record { before = record { before = c.before; step = c.step }; buffer = record { given = g } } g'), Row.get 7 T5.locals (m24 record { before = record { before = c.before; step = c.step }; buffer = record { given = g } } g')), Path.refl {a = m24 record { before = record { before = c.before; step = c.step }; buffer = record { given = g } } g'}, loop-again record { before = record { before = record { before = c.before; step = c.step }; buffer = record { given = g } }; slice-known2 = record { given = g' } }, Path.refl {a = μ·0 (Row.get 1 T5.locals (m4 c.before.before.before.before.before.before c.before.before.before.before.before.slice-known.given)) (Row.get 2 T5.locals (m4 c.before.before.before.before.before.before c.before.before.before.before.before.slice-known.given)) (Row.get 3 T5.locals (m4 c.before.before.before.before.before.before c.before.before.before.before.before.slice-known.given)).now (Row.get 4 T5.locals (m4 c.before.before.before.before.before.before c.before.before.before.before.before.slice-known.given)).now (Row.get 6 T5.locals (m4 c.before.before.before.before.before.before c.before.before.before.before.before.slice-known.given)) (Row.get 7 T5.locals (m4 c.before.before.before.before.before.before c.before.before.before.before.before.slice-known.given)) (Row.get 4 T5.locals (m24 record { before = record { before = c.before; step = c.step }; buffer = record { given = g } } g')).now (Row.get 6 T5.locals (m24 record { before = record { before = c.before; step = c.step }; buffer = record { given = g } } g')) (Row.get 7 T5.locals (m24 record { before = record { before = c.before; step = c.step }; buffer = record { given = g } } g'))}))))
+        lay4 = λ c. (Path.refl, λ g. λ g'. (add_i record { before = record { before = record { before = c.before; step = c.step }; buffer = record { given = g } }; slice_known2 = record { given = g' } }, (μ·0 (Row.get 1 T5.locals (m4 c.before.before.before.before.before.before c.before.before.before.before.before.slice_known.given)) (Row.get 2 T5.locals (m4 c.before.before.before.before.before.before c.before.before.before.before.before.slice_known.given)) (Row.get 3 T5.locals (m4 c.before.before.before.before.before.before c.before.before.before.before.before.slice_known.given)).now (Row.get 4 T5.locals (m4 c.before.before.before.before.before.before c.before.before.before.before.before.slice_known.given)).now (Row.get 6 T5.locals (m4 c.before.before.before.before.before.before c.before.before.before.before.before.slice_known.given)) (Row.get 7 T5.locals (m4 c.before.before.before.before.before.before c.before.before.before.before.before.slice_known.given)) (Row.get 4 T5.locals (m24 record { before = record { before = c.before; step = c.step }; buffer = record { given = g } } g')).now (Row.get 6 T5.locals (m24 record { before = record { before = c.before; step = c.step }; buffer = record { given = g } } g')) (Row.get 7 T5.locals (m24 record { before = record { before = c.before; step = c.step }; buffer = record { given = g } } g')), loop_less record { before = record { before = record { before = c.before; step = c.step }; buffer = record { given = g } }; slice_known2 = record { given = g' } }, (((Row.get 4 T5.locals (m24 record { before = record { before = c.before; step = c.step }; buffer = record { given = g } } g')).now, Row.get 6 T5.locals (m24 record { before = record { before = c.before; step = c.step }; buffer = record { given = g } } g'), Row.get 7 T5.locals (m24 record { before = record { before = c.before; step = c.step }; buffer = record { given = g } } g')), Path.refl {a = m24 record { before = record { before = c.before; step = c.step }; buffer = record { given = g } } g'}, loop_again record { before = record { before = record { before = c.before; step = c.step }; buffer = record { given = g } }; slice_known2 = record { given = g' } }, Path.refl {a = μ·0 (Row.get 1 T5.locals (m4 c.before.before.before.before.before.before c.before.before.before.before.before.slice_known.given)) (Row.get 2 T5.locals (m4 c.before.before.before.before.before.before c.before.before.before.before.before.slice_known.given)) (Row.get 3 T5.locals (m4 c.before.before.before.before.before.before c.before.before.before.before.before.slice_known.given)).now (Row.get 4 T5.locals (m4 c.before.before.before.before.before.before c.before.before.before.before.before.slice_known.given)).now (Row.get 6 T5.locals (m4 c.before.before.before.before.before.before c.before.before.before.before.before.slice_known.given)) (Row.get 7 T5.locals (m4 c.before.before.before.before.before.before c.before.before.before.before.before.slice_known.given)) (Row.get 4 T5.locals (m24 record { before = record { before = c.before; step = c.step }; buffer = record { given = g } } g')).now (Row.get 6 T5.locals (m24 record { before = record { before = c.before; step = c.step }; buffer = record { given = g } } g')) (Row.get 7 T5.locals (m24 record { before = record { before = c.before; step = c.step }; buffer = record { given = g } } g'))}))))
 
         lay3 : (c : In-loop) → at22 (W3 c.before.before c.before.loop.buffer c.before.loop.course c.before.loop.i) (m9 c.before)
-        lay3 = λ c. (mul-site record { before = c.before; loop-test = c.loop-test }, (tt, ((Path.refl, Path.refl, shared-slice-copy-out-site record { before = c.before; loop-test = c.loop-test }), λ g. λ g'. (Path.refl, (step-requires record { before = record { before = record { before = c.before; loop-test = c.loop-test }; site = record { given = g } }; step-arg = record { given = g' } }, λ g''. lay4 record { before = record { before = record { before = record { before = c.before; loop-test = c.loop-test }; site = record { given = g } }; step-arg = record { given = g' } }; step = Called.called ps·0 r·0 claims·.1 T22 (Num.v_at 1 λ x. x, (Num.v_at 2 λ x. x, (record { pos = 8; st = []; d = 0; at = λ x. x }, (record { pos = 14; ty = Syntax.ty_ref Syntax.erased Syntax.mut type·0; ref = λ x. x }, (record { pos = 6; st = []; d = 0; at = λ x. x }, tt))))) (m19 record { before = record { before = c.before; loop-test = c.loop-test }; site = record { given = g } } g') g'' })))))
+        lay3 = λ c. (mul-site record { before = c.before; loop_test = c.loop_test }, (tt, ((Path.refl, Path.refl, shared-slice-copy-out-site record { before = c.before; loop_test = c.loop_test }), λ g. λ g'. (Path.refl, (step_requires record { before = record { before = record { before = c.before; loop_test = c.loop_test }; site = record { given = g } }; step_arg = record { given = g' } }, λ g''. lay4 record { before = record { before = record { before = record { before = c.before; loop_test = c.loop_test }; site = record { given = g } }; step_arg = record { given = g' } }; step = Called.called ps·0 r·0 claims·.1 T22 (Num.v_at 1 λ x. x, (Num.v_at 2 λ x. x, (record { pos = 8; st = []; d = 0; at = λ x. x }, (record { pos = 14; ty = Syntax.ty_ref Syntax.erased Syntax.mut type·0; ref = λ x. x }, (record { pos = 6; st = []; d = 0; at = λ x. x }, tt))))) (m19 record { before = record { before = c.before; loop_test = c.loop_test }; site = record { given = g } } g') g'' })))))
 
         lay2 : (c : After-loop) → at3 (W4 c.before.before c.before.loop.buffer c.before.loop.course c.before.loop.i) (m8 c.before.before c.before.loop.buffer c.before.loop.course c.before.loop.i)
-        lay2 = λ c. lay5 record { before = c.before; loop-test = c.loop-test }
+        lay2 = λ c. lay5 record { before = c.before; loop_test = c.loop_test }
 
         lay1 : (c : In-loop) → at1 (W4 c.before.before c.before.loop.buffer c.before.loop.course c.before.loop.i) (m8 c.before.before c.before.loop.buffer c.before.loop.course c.before.loop.i)
-        lay1 = λ c. lay3 record { before = c.before; loop-test = c.loop-test }
+        lay1 = λ c. lay3 record { before = c.before; loop_test = c.loop_test }
 
         pub laid : (c : Start) → at38 (W0 c.κs c.args) (m0 c.κs c.args)
-        laid = λ c. λ g. ((((Row.get 4 T5.locals (m4 c g)).now, Row.get 6 T5.locals (m4 c g), Row.get 7 T5.locals (m4 c g)), Path.refl {a = m4 c g}, loop-holds record { before = c; slice-known = record { given = g } }), λ vs inv. (tt, (λ taken. lay1 record { before = record { before = record { before = c; slice-known = record { given = g } }; loop = record { buffer = vs.0; course = vs.1; i = vs.2; inv = inv } }; loop-test = record { taken = Tests.ltb-true (Row.get 7 T7.locals (m6 record { before = c; slice-known = record { given = g } } vs.0 vs.1 vs.2)) (Row.get 9 T7.locals (m6 record { before = c; slice-known = record { given = g } } vs.0 vs.1 vs.2)) taken } }, λ left. lay2 record { before = record { before = record { before = c; slice-known = record { given = g } }; loop = record { buffer = vs.0; course = vs.1; i = vs.2; inv = inv } }; loop-test = record { left = Tests.ltb-false (Row.get 7 T7.locals (m6 record { before = c; slice-known = record { given = g } } vs.0 vs.1 vs.2)) (Row.get 9 T7.locals (m6 record { before = c; slice-known = record { given = g } } vs.0 vs.1 vs.2)) left } })))
+        laid = λ c. λ g. ((((Row.get 4 T5.locals (m4 c g)).now, Row.get 6 T5.locals (m4 c g), Row.get 7 T5.locals (m4 c g)), Path.refl {a = m4 c g}, loop_holds record { before = c; slice_known = record { given = g } }), λ vs inv. (tt, (λ taken. lay1 record { before = record { before = record { before = c; slice_known = record { given = g } }; loop = record { buffer = vs.0; course = vs.1; i = vs.2; inv = inv } }; loop_test = record { taken = Tests.ltb-true (Row.get 7 T7.locals (m6 record { before = c; slice_known = record { given = g } } vs.0 vs.1 vs.2)) (Row.get 9 T7.locals (m6 record { before = c; slice_known = record { given = g } } vs.0 vs.1 vs.2)) taken } }, λ left. lay2 record { before = record { before = record { before = c; slice_known = record { given = g } }; loop = record { buffer = vs.0; course = vs.1; i = vs.2; inv = inv } }; loop_test = record { left = Tests.ltb-false (Row.get 7 T7.locals (m6 record { before = c; slice_known = record { given = g } } vs.0 vs.1 vs.2)) (Row.get 9 T7.locals (m6 record { before = c; slice_known = record { given = g } } vs.0 vs.1 vs.2)) left } })))
 
         module _ (κs : Lifetimes.Lfts 2) (qs : Lifetimes.Shares 2) where
           pub asked : (a : FnKinds.Dens κs ps) → (good : FnKinds.GoodsP κs ps a) → (pre : Pre· κs a) → (bs : List.List Nat.ℕ) → Φ (Any.want_q 2 ps r xs m κs qs a (Post· κs a)) (Function.init 2 ps r xs m κs qs a)

@@ -1402,35 +1402,35 @@ module _ (claims· : Claims) where
 
       pub record After-slice-known : Type 0 where
         pub before : Start
-        pub slice-known : After-slice-known·own before
+        pub slice_known : After-slice-known·own before
 
       abbrev pub Need-is-edition-known-requires : Type 0
-      Need-is-edition-known-requires = (c : After-slice-known) → s2.asks (m2 c.before c.slice-known.given)
+      Need-is-edition-known-requires = (c : After-slice-known) → s2.asks (m2 c.before c.slice_known.given)
 
-      abbrev pub m3 : (before : After-slice-known) → (given : s2.gives (m2 before.before before.slice-known.given)) → Typed.Mo T4
-      m3 = λ before given. s2.next (m2 before.before before.slice-known.given) given
+      abbrev pub m3 : (before : After-slice-known) → (given : s2.gives (m2 before.before before.slice_known.given)) → Typed.Mo T4
+      m3 = λ before given. s2.next (m2 before.before before.slice_known.given) given
 
       module _ (before· : After-slice-known) where
         abbrev pub After-is-edition-known·own : Type 0
-        After-is-edition-known·own = Called.Called ps·0 r·0 claims·.1 T3 (Num.v_at 1 λ x. x, tt) (m2 before·.before before·.slice-known.given)
+        After-is-edition-known·own = Called.Called ps·0 r·0 claims·.1 T3 (Num.v_at 1 λ x. x, tt) (m2 before·.before before·.slice_known.given)
 
       pub record After-is-edition-known : Type 0 where
         pub before : After-slice-known
-        pub is-edition-known : After-is-edition-known·own before
+        pub is_edition_known : After-is-edition-known·own before
 
-      abbrev pub After-is-edition-known·gave : (c : After-is-edition-known) → s2.gives (m2 c.before.before c.before.slice-known.given)
-      After-is-edition-known·gave = λ c. Called.given ps·0 r·0 claims·.1 T3 (Num.v_at 1 λ x. x, tt) (m2 c.before.before c.before.slice-known.given) c.is-edition-known
+      abbrev pub After-is-edition-known·gave : (c : After-is-edition-known) → s2.gives (m2 c.before.before c.before.slice_known.given)
+      After-is-edition-known·gave = λ c. Called.given ps·0 r·0 claims·.1 T3 (Num.v_at 1 λ x. x, tt) (m2 c.before.before c.before.slice_known.given) c.is_edition_known
 
-      abbrev pub m4 : (before : After-slice-known) → (given : s2.gives (m2 before.before before.slice-known.given)) → Typed.Mo T5
+      abbrev pub m4 : (before : After-slice-known) → (given : s2.gives (m2 before.before before.slice_known.given)) → Typed.Mo T5
       m4 = λ before given. s3.next (m3 before given)
 
-      abbrev W1 : (before : After-slice-known) → (given : s2.gives (m2 before.before before.slice-known.given)) → Typed.Want O1
+      abbrev W1 : (before : After-slice-known) → (given : s2.gives (m2 before.before before.slice_known.given)) → Typed.Want O1
       W1 = λ before given. Typed.want_next T6 O0 (at67 (W0 before.before.κs before.before.args)) (W0 before.before.κs before.before.args)
 
-      abbrev pub m5 : (before : After-slice-known) → (given : s2.gives (m2 before.before before.slice-known.given)) → Typed.Mo T7
+      abbrev pub m5 : (before : After-slice-known) → (given : s2.gives (m2 before.before before.slice_known.given)) → Typed.Mo T7
       m5 = λ before given. s4 (m4 before given)
 
-      abbrev pub m6 : (before : After-slice-known) → (given : s2.gives (m2 before.before before.slice-known.given)) → Typed.Mo T8
+      abbrev pub m6 : (before : After-slice-known) → (given : s2.gives (m2 before.before before.slice_known.given)) → Typed.Mo T8
       m6 = λ before given. s5 (m5 before given)
 
       abbrev pub m7 : (before : After-is-edition-known) → Typed.Mo T9
@@ -1491,10 +1491,10 @@ module _ (claims· : Claims) where
 
       pub record After-does-admit : Type 0 where
         pub before : Else1
-        pub does-admit : After-does-admit·own before
+        pub does_admit : After-does-admit·own before
 
       abbrev pub After-does-admit·gave : (c : After-does-admit) → s15.gives (m15 c.before.before)
-      After-does-admit·gave = λ c. Called.given ps·1 r·1 claims·.3 T17 (record { pos = 7; st = []; d = 0; at = λ x. x }, (Num.v_at 12 λ x. x, tt)) (m15 c.before.before) c.does-admit
+      After-does-admit·gave = λ c. Called.given ps·1 r·1 claims·.3 T17 (record { pos = 7; st = []; d = 0; at = λ x. x }, (Num.v_at 12 λ x. x, tt)) (m15 c.before.before) c.does_admit
 
       abbrev pub m17 : (before : Else1) → (given : s15.gives (m15 before.before)) → Typed.Mo T19
       m17 = λ before given. s16 (m16 before given)
@@ -1566,26 +1566,26 @@ module _ (claims· : Claims) where
 
       pub record After-walk-arg : Type 0 where
         pub before : Else2
-        pub walk-arg : After-walk-arg·own before
+        pub walk_arg : After-walk-arg·own before
 
       abbrev pub Need-walk-requires : Type 0
-      Need-walk-requires = (c : After-walk-arg) → s31.asks (m30 c.before c.walk-arg.given)
+      Need-walk-requires = (c : After-walk-arg) → s31.asks (m30 c.before c.walk_arg.given)
 
-      abbrev pub m31 : (before : After-walk-arg) → (given : s31.gives (m30 before.before before.walk-arg.given)) → Typed.Mo T35
-      m31 = λ before given. s31.next (m30 before.before before.walk-arg.given) given
+      abbrev pub m31 : (before : After-walk-arg) → (given : s31.gives (m30 before.before before.walk_arg.given)) → Typed.Mo T35
+      m31 = λ before given. s31.next (m30 before.before before.walk_arg.given) given
 
       module _ (before· : After-walk-arg) where
         abbrev pub After-walk·own : Type 0
-        After-walk·own = Called.Called ps·2 r·2 claims·.5 T34 (Num.v_at 1 λ x. x, (Num.v_at 2 λ x. x, (record { pos = 5; ty = Syntax.ty_ref (Syntax.named 0) Syntax.imm (Memory.pointee (Site.the_row).written); ref = λ x. x }, (record { pos = 14; ty = Syntax.ty_ref Syntax.erased Syntax.mut type·0; ref = λ x. x }, (record { pos = 15; st = []; d = 0; at = λ x. x }, tt))))) (m30 before·.before before·.walk-arg.given)
+        After-walk·own = Called.Called ps·2 r·2 claims·.5 T34 (Num.v_at 1 λ x. x, (Num.v_at 2 λ x. x, (record { pos = 5; ty = Syntax.ty_ref (Syntax.named 0) Syntax.imm (Memory.pointee (Site.the_row).written); ref = λ x. x }, (record { pos = 14; ty = Syntax.ty_ref Syntax.erased Syntax.mut type·0; ref = λ x. x }, (record { pos = 15; st = []; d = 0; at = λ x. x }, tt))))) (m30 before·.before before·.walk_arg.given)
 
       pub record After-walk : Type 0 where
         pub before : After-walk-arg
         pub walk : After-walk·own before
 
-      abbrev pub After-walk·gave : (c : After-walk) → s31.gives (m30 c.before.before c.before.walk-arg.given)
-      After-walk·gave = λ c. Called.given ps·2 r·2 claims·.5 T34 (Num.v_at 1 λ x. x, (Num.v_at 2 λ x. x, (record { pos = 5; ty = Syntax.ty_ref (Syntax.named 0) Syntax.imm (Memory.pointee (Site.the_row).written); ref = λ x. x }, (record { pos = 14; ty = Syntax.ty_ref Syntax.erased Syntax.mut type·0; ref = λ x. x }, (record { pos = 15; st = []; d = 0; at = λ x. x }, tt))))) (m30 c.before.before c.before.walk-arg.given) c.walk
+      abbrev pub After-walk·gave : (c : After-walk) → s31.gives (m30 c.before.before c.before.walk_arg.given)
+      After-walk·gave = λ c. Called.given ps·2 r·2 claims·.5 T34 (Num.v_at 1 λ x. x, (Num.v_at 2 λ x. x, (record { pos = 5; ty = Syntax.ty_ref (Syntax.named 0) Syntax.imm (Memory.pointee (Site.the_row).written); ref = λ x. x }, (record { pos = 14; ty = Syntax.ty_ref Syntax.erased Syntax.mut type·0; ref = λ x. x }, (record { pos = 15; st = []; d = 0; at = λ x. x }, tt))))) (m30 c.before.before c.before.walk_arg.given) c.walk
 
-      abbrev pub m32 : (before : After-walk-arg) → (given : s31.gives (m30 before.before before.walk-arg.given)) → Typed.Mo T36
+      abbrev pub m32 : (before : After-walk-arg) → (given : s31.gives (m30 before.before before.walk_arg.given)) → Typed.Mo T36
       m32 = λ before given. s32 (m31 before given)
 
       abbrev pub m33 : (before : After-walk) → (given : s34.gives (m32 before.before (After-walk·gave before))) → Typed.Mo T38
@@ -1611,46 +1611,46 @@ module _ (claims· : Claims) where
 
       pub record After-slice-known2 : Type 0 where
         pub before : After-buffer
-        pub slice-known2 : After-slice-known2·own before
+        pub slice_known2 : After-slice-known2·own before
 
-      abbrev pub m36 : (before : After-slice-known2) → (given : s39.gives (m35 before.before before.slice-known2.given)) → Typed.Mo T43
-      m36 = λ before given. s39.next (m35 before.before before.slice-known2.given) given
+      abbrev pub m36 : (before : After-slice-known2) → (given : s39.gives (m35 before.before before.slice_known2.given)) → Typed.Mo T43
+      m36 = λ before given. s39.next (m35 before.before before.slice_known2.given) given
 
-      abbrev pub m37 : (before : After-slice-known2) → (given : s39.gives (m35 before.before before.slice-known2.given)) → Typed.Mo T44
+      abbrev pub m37 : (before : After-slice-known2) → (given : s39.gives (m35 before.before before.slice_known2.given)) → Typed.Mo T44
       m37 = λ before given. s40.next (m36 before given)
 
       module _ (before· : After-slice-known2) where
         pub record After-begin-writing-arg·own : Type 0 where
-          pub given : s39.gives (m35 before·.before before·.slice-known2.given)
+          pub given : s39.gives (m35 before·.before before·.slice_known2.given)
 
       pub record After-begin-writing-arg : Type 0 where
         pub before : After-slice-known2
-        pub begin-writing-arg : After-begin-writing-arg·own before
+        pub begin_writing_arg : After-begin-writing-arg·own before
 
       abbrev pub Need-begin-writing-requires : Type 0
-      Need-begin-writing-requires = (c : After-begin-writing-arg) → s41.asks (m37 c.before c.begin-writing-arg.given)
+      Need-begin-writing-requires = (c : After-begin-writing-arg) → s41.asks (m37 c.before c.begin_writing_arg.given)
 
-      abbrev pub m38 : (before : After-begin-writing-arg) → (given : s41.gives (m37 before.before before.begin-writing-arg.given)) → Typed.Mo T45
-      m38 = λ before given. s41.next (m37 before.before before.begin-writing-arg.given) given
+      abbrev pub m38 : (before : After-begin-writing-arg) → (given : s41.gives (m37 before.before before.begin_writing_arg.given)) → Typed.Mo T45
+      m38 = λ before given. s41.next (m37 before.before before.begin_writing_arg.given) given
 
       module _ (before· : After-begin-writing-arg) where
         abbrev pub After-begin-writing·own : Type 0
-        After-begin-writing·own = Called.Called ps·3 r·3 claims·.7 T44 (record { pos = 7; st = []; d = 0; at = λ x. x }, (Num.v_at 12 λ x. x, (record { pos = 17; ty = Syntax.ty_ref Syntax.erased Syntax.mut type·0; ref = λ x. x }, (record { pos = 8; st = []; d = 0; at = λ x. x }, tt)))) (m37 before·.before before·.begin-writing-arg.given)
+        After-begin-writing·own = Called.Called ps·3 r·3 claims·.7 T44 (record { pos = 7; st = []; d = 0; at = λ x. x }, (Num.v_at 12 λ x. x, (record { pos = 17; ty = Syntax.ty_ref Syntax.erased Syntax.mut type·0; ref = λ x. x }, (record { pos = 8; st = []; d = 0; at = λ x. x }, tt)))) (m37 before·.before before·.begin_writing_arg.given)
 
       pub record After-begin-writing : Type 0 where
         pub before : After-begin-writing-arg
-        pub begin-writing : After-begin-writing·own before
+        pub begin_writing : After-begin-writing·own before
 
-      abbrev pub After-begin-writing·gave : (c : After-begin-writing) → s41.gives (m37 c.before.before c.before.begin-writing-arg.given)
-      After-begin-writing·gave = λ c. Called.given ps·3 r·3 claims·.7 T44 (record { pos = 7; st = []; d = 0; at = λ x. x }, (Num.v_at 12 λ x. x, (record { pos = 17; ty = Syntax.ty_ref Syntax.erased Syntax.mut type·0; ref = λ x. x }, (record { pos = 8; st = []; d = 0; at = λ x. x }, tt)))) (m37 c.before.before c.before.begin-writing-arg.given) c.begin-writing
+      abbrev pub After-begin-writing·gave : (c : After-begin-writing) → s41.gives (m37 c.before.before c.before.begin_writing_arg.given)
+      After-begin-writing·gave = λ c. Called.given ps·3 r·3 claims·.7 T44 (record { pos = 7; st = []; d = 0; at = λ x. x }, (Num.v_at 12 λ x. x, (record { pos = 17; ty = Syntax.ty_ref Syntax.erased Syntax.mut type·0; ref = λ x. x }, (record { pos = 8; st = []; d = 0; at = λ x. x }, tt)))) (m37 c.before.before c.before.begin_writing_arg.given) c.begin_writing
 
-      abbrev pub m39 : (before : After-begin-writing-arg) → (given : s41.gives (m37 before.before before.begin-writing-arg.given)) → Typed.Mo T46
+      abbrev pub m39 : (before : After-begin-writing-arg) → (given : s41.gives (m37 before.before before.begin_writing_arg.given)) → Typed.Mo T46
       m39 = λ before given. s42 (m38 before given)
 
-      abbrev pub m40 : (before : After-begin-writing-arg) → (given : s41.gives (m37 before.before before.begin-writing-arg.given)) → Typed.Mo T47
+      abbrev pub m40 : (before : After-begin-writing-arg) → (given : s41.gives (m37 before.before before.begin_writing_arg.given)) → Typed.Mo T47
       m40 = λ before given. s43 (m39 before given)
 
-      abbrev pub m41 : (before : After-begin-writing-arg) → (given : s41.gives (m37 before.before before.begin-writing-arg.given)) → Typed.Mo T48
+      abbrev pub m41 : (before : After-begin-writing-arg) → (given : s41.gives (m37 before.before before.begin_writing_arg.given)) → Typed.Mo T48
       m41 = λ before given. s44 (m40 before given)
 
       abbrev pub m42 : (before : After-begin-writing) → (given : s46.gives (m41 before.before (After-begin-writing·gave before))) → Typed.Mo T50
@@ -1673,40 +1673,40 @@ module _ (claims· : Claims) where
 
       pub record After-slice-known3 : Type 0 where
         pub before : After-buffer2
-        pub slice-known3 : After-slice-known3·own before
+        pub slice_known3 : After-slice-known3·own before
 
-      abbrev pub m44 : (before : After-slice-known3) → (given : s50.gives (m43 before.before before.slice-known3.given)) → Typed.Mo T54
-      m44 = λ before given. s50.next (m43 before.before before.slice-known3.given) given
+      abbrev pub m44 : (before : After-slice-known3) → (given : s50.gives (m43 before.before before.slice_known3.given)) → Typed.Mo T54
+      m44 = λ before given. s50.next (m43 before.before before.slice_known3.given) given
 
-      abbrev pub m45 : (before : After-slice-known3) → (given : s50.gives (m43 before.before before.slice-known3.given)) → Typed.Mo T55
+      abbrev pub m45 : (before : After-slice-known3) → (given : s50.gives (m43 before.before before.slice_known3.given)) → Typed.Mo T55
       m45 = λ before given. s51.next (m44 before given)
 
       module _ (before· : After-slice-known3) where
         pub record After-walk-arg2·own : Type 0 where
-          pub given : s50.gives (m43 before·.before before·.slice-known3.given)
+          pub given : s50.gives (m43 before·.before before·.slice_known3.given)
 
       pub record After-walk-arg2 : Type 0 where
         pub before : After-slice-known3
-        pub walk-arg2 : After-walk-arg2·own before
+        pub walk_arg2 : After-walk-arg2·own before
 
       abbrev pub Need-walk-requires-2 : Type 0
-      Need-walk-requires-2 = (c : After-walk-arg2) → s52.asks (m45 c.before c.walk-arg2.given)
+      Need-walk-requires-2 = (c : After-walk-arg2) → s52.asks (m45 c.before c.walk_arg2.given)
 
-      abbrev pub m46 : (before : After-walk-arg2) → (given : s52.gives (m45 before.before before.walk-arg2.given)) → Typed.Mo T56
-      m46 = λ before given. s52.next (m45 before.before before.walk-arg2.given) given
+      abbrev pub m46 : (before : After-walk-arg2) → (given : s52.gives (m45 before.before before.walk_arg2.given)) → Typed.Mo T56
+      m46 = λ before given. s52.next (m45 before.before before.walk_arg2.given) given
 
       module _ (before· : After-walk-arg2) where
         abbrev pub After-walk2·own : Type 0
-        After-walk2·own = Called.Called ps·2 r·2 claims·.5 T55 (Num.v_at 1 λ x. x, (Num.v_at 2 λ x. x, (record { pos = 5; ty = Syntax.ty_ref (Syntax.named 0) Syntax.imm (Memory.pointee (Site.the_row).written); ref = λ x. x }, (record { pos = 19; ty = Syntax.ty_ref Syntax.erased Syntax.mut type·0; ref = λ x. x }, (record { pos = 9; st = []; d = 0; at = λ x. x }, tt))))) (m45 before·.before before·.walk-arg2.given)
+        After-walk2·own = Called.Called ps·2 r·2 claims·.5 T55 (Num.v_at 1 λ x. x, (Num.v_at 2 λ x. x, (record { pos = 5; ty = Syntax.ty_ref (Syntax.named 0) Syntax.imm (Memory.pointee (Site.the_row).written); ref = λ x. x }, (record { pos = 19; ty = Syntax.ty_ref Syntax.erased Syntax.mut type·0; ref = λ x. x }, (record { pos = 9; st = []; d = 0; at = λ x. x }, tt))))) (m45 before·.before before·.walk_arg2.given)
 
       pub record After-walk2 : Type 0 where
         pub before : After-walk-arg2
         pub walk2 : After-walk2·own before
 
-      abbrev pub After-walk2·gave : (c : After-walk2) → s52.gives (m45 c.before.before c.before.walk-arg2.given)
-      After-walk2·gave = λ c. Called.given ps·2 r·2 claims·.5 T55 (Num.v_at 1 λ x. x, (Num.v_at 2 λ x. x, (record { pos = 5; ty = Syntax.ty_ref (Syntax.named 0) Syntax.imm (Memory.pointee (Site.the_row).written); ref = λ x. x }, (record { pos = 19; ty = Syntax.ty_ref Syntax.erased Syntax.mut type·0; ref = λ x. x }, (record { pos = 9; st = []; d = 0; at = λ x. x }, tt))))) (m45 c.before.before c.before.walk-arg2.given) c.walk2
+      abbrev pub After-walk2·gave : (c : After-walk2) → s52.gives (m45 c.before.before c.before.walk_arg2.given)
+      After-walk2·gave = λ c. Called.given ps·2 r·2 claims·.5 T55 (Num.v_at 1 λ x. x, (Num.v_at 2 λ x. x, (record { pos = 5; ty = Syntax.ty_ref (Syntax.named 0) Syntax.imm (Memory.pointee (Site.the_row).written); ref = λ x. x }, (record { pos = 19; ty = Syntax.ty_ref Syntax.erased Syntax.mut type·0; ref = λ x. x }, (record { pos = 9; st = []; d = 0; at = λ x. x }, tt))))) (m45 c.before.before c.before.walk_arg2.given) c.walk2
 
-      abbrev pub m47 : (before : After-walk-arg2) → (given : s52.gives (m45 before.before before.walk-arg2.given)) → Typed.Mo T57
+      abbrev pub m47 : (before : After-walk-arg2) → (given : s52.gives (m45 before.before before.walk_arg2.given)) → Typed.Mo T57
       m47 = λ before given. s53 (m46 before given)
 
       abbrev pub m48 : (before : After-walk2) → (given : s55.gives (m47 before.before (After-walk2·gave before))) → Typed.Mo T59
@@ -1729,38 +1729,38 @@ module _ (claims· : Claims) where
 
       pub record After-slice-known4 : Type 0 where
         pub before : After-buffer3
-        pub slice-known4 : After-slice-known4·own before
+        pub slice_known4 : After-slice-known4·own before
 
       abbrev pub Need-answer-of-requires : Type 0
-      Need-answer-of-requires = (c : After-slice-known4) → s58.asks (m49 c.before c.slice-known4.given)
+      Need-answer-of-requires = (c : After-slice-known4) → s58.asks (m49 c.before c.slice_known4.given)
 
-      abbrev pub m50 : (before : After-slice-known4) → (given : s58.gives (m49 before.before before.slice-known4.given)) → Typed.Mo T62
-      m50 = λ before given. s58.next (m49 before.before before.slice-known4.given) given
+      abbrev pub m50 : (before : After-slice-known4) → (given : s58.gives (m49 before.before before.slice_known4.given)) → Typed.Mo T62
+      m50 = λ before given. s58.next (m49 before.before before.slice_known4.given) given
 
       module _ (before· : After-slice-known4) where
         abbrev pub After-answer-of·own : Type 0
-        After-answer-of·own = Called.Called ps·4 r·4 claims·.9 T59 (record { pos = 15; st = []; d = 0; at = λ x. x }, tt) (m49 before·.before before·.slice-known4.given)
+        After-answer-of·own = Called.Called ps·4 r·4 claims·.9 T59 (record { pos = 15; st = []; d = 0; at = λ x. x }, tt) (m49 before·.before before·.slice_known4.given)
 
       pub record After-answer-of : Type 0 where
         pub before : After-slice-known4
-        pub answer-of : After-answer-of·own before
+        pub answer_of : After-answer-of·own before
 
-      abbrev pub After-answer-of·gave : (c : After-answer-of) → s58.gives (m49 c.before.before c.before.slice-known4.given)
-      After-answer-of·gave = λ c. Called.given ps·4 r·4 claims·.9 T59 (record { pos = 15; st = []; d = 0; at = λ x. x }, tt) (m49 c.before.before c.before.slice-known4.given) c.answer-of
+      abbrev pub After-answer-of·gave : (c : After-answer-of) → s58.gives (m49 c.before.before c.before.slice_known4.given)
+      After-answer-of·gave = λ c. Called.given ps·4 r·4 claims·.9 T59 (record { pos = 15; st = []; d = 0; at = λ x. x }, tt) (m49 c.before.before c.before.slice_known4.given) c.answer_of
 
-      abbrev pub m51 : (before : After-slice-known4) → (given : s58.gives (m49 before.before before.slice-known4.given)) → Typed.Mo T11
+      abbrev pub m51 : (before : After-slice-known4) → (given : s58.gives (m49 before.before before.slice_known4.given)) → Typed.Mo T11
       m51 = λ before given. s59 (m50 before given)
 
-      abbrev pub m52 : (before : After-slice-known4) → (given : s58.gives (m49 before.before before.slice-known4.given)) → Typed.Mo T12
+      abbrev pub m52 : (before : After-slice-known4) → (given : s58.gives (m49 before.before before.slice_known4.given)) → Typed.Mo T12
       m52 = λ before given. s60 (m51 before given)
 
-      abbrev pub m53 : (before : After-slice-known4) → (given : s58.gives (m49 before.before before.slice-known4.given)) → Typed.Mo T13
+      abbrev pub m53 : (before : After-slice-known4) → (given : s58.gives (m49 before.before before.slice_known4.given)) → Typed.Mo T13
       m53 = λ before given. s61 (m52 before given)
 
-      abbrev pub m54 : (before : After-slice-known4) → (given : s58.gives (m49 before.before before.slice-known4.given)) → Typed.Mo T14
+      abbrev pub m54 : (before : After-slice-known4) → (given : s58.gives (m49 before.before before.slice_known4.given)) → Typed.Mo T14
       m54 = λ before given. s62 (m53 before given)
 
-      abbrev pub m55 : (before : After-slice-known4) → (given : s58.gives (m49 before.before before.slice-known4.given)) → Typed.Mo T1
+      abbrev pub m55 : (before : After-slice-known4) → (given : s58.gives (m49 before.before before.slice_known4.given)) → Typed.Mo T1
       m55 = λ before given. s63 (m54 before given)
 
       abbrev pub Need-same-length : Type 0
@@ -1769,33 +1769,33 @@ module _ (claims· : Claims) where
       abbrev pub Need-returns-3 : Type 0
       Need-returns-3 = (c : After-answer-of) → Post· c.before.before.before.before.before.before.before.before.before.before.before.before.before.before.before.before.before.before.κs (dens c.before.before.before.before.before.before.before.before.before.before.before.before.before.before.before.before.before.before.κs c.before.before.before.before.before.before.before.before.before.before.before.before.before.before.before.before.before.before.args) (Function.res_v r c.before.before.before.before.before.before.before.before.before.before.before.before.before.before.before.before.before.before.κs (m55 c.before (After-answer-of·gave c)).0) (Clauses.at_exit (FnKinds.ended_of 2 ps r) c.before.before.before.before.before.before.before.before.before.before.before.before.before.before.before.before.before.before.κs (dens c.before.before.before.before.before.before.before.before.before.before.before.before.before.before.before.before.before.before.κs c.before.before.before.before.before.before.before.before.before.before.before.before.before.before.before.before.before.before.args) (Enter.lasts_p c.before.before.before.before.before.before.before.before.before.before.before.before.before.before.before.before.before.before.κs 1 ps xs (dens c.before.before.before.before.before.before.before.before.before.before.before.before.before.before.before.before.before.before.κs c.before.before.before.before.before.before.before.before.before.before.before.before.before.before.before.before.before.before.args) (m55 c.before (After-answer-of·gave c)).1))
 
-      module _ (is-edition-known-requires : Need-is-edition-known-requires) (returns : Need-returns) (does-admit-requires : Need-does-admit-requires) (returns-2 : Need-returns-2) (walk-requires : Need-walk-requires) (begin-writing-requires : Need-begin-writing-requires) (walk-requires-2 : Need-walk-requires-2) (answer-of-requires : Need-answer-of-requires) (same_length : Need-same-length) (returns-3 : Need-returns-3) where
+      module _ (is-edition-known-requires : Need-is-edition-known-requires) (returns : Need-returns) (does-admit-requires : Need-does-admit-requires) (returns_2 : Need-returns-2) (walk_requires : Need-walk-requires) (begin_writing_requires : Need-begin-writing-requires) (walk_requires_2 : Need-walk-requires-2) (answer-of-requires : Need-answer-of-requires) (same_length : Need-same-length) (returns_3 : Need-returns-3) where
         lay8 : (c : After-answer-of) → at30 (W0 c.before.before.before.before.before.before.before.before.before.before.before.before.before.before.before.before.before.before.κs c.before.before.before.before.before.before.before.before.before.before.before.before.before.before.before.before.before.before.args) (m50 c.before (After-answer-of·gave c))
-        lay8 = λ c. ((tt, (tt, (tt, (tt, (Path.refl, (MutSlice.fix_len (Row.get 6 T1.locals (m55 c.before (After-answer-of·gave c))).ptr (Row.get 6 T1.locals (m55 c.before (After-answer-of·gave c))).name (Row.get 6 T1.locals (m55 c.before (After-answer-of·gave c))).now (dens c.before.before.before.before.before.before.before.before.before.before.before.before.before.before.before.before.before.before.κs c.before.before.before.before.before.before.before.before.before.before.before.before.before.before.before.before.before.before.args).1.1.1.1.1.0.now (same_length record { before = c.before; answer-of = c.answer-of }), tt)))))), returns-3 record { before = c.before; answer-of = c.answer-of })
+        lay8 = λ c. ((tt, (tt, (tt, (tt, (Path.refl, (MutSlice.fix_len (Row.get 6 T1.locals (m55 c.before (After-answer-of·gave c))).ptr (Row.get 6 T1.locals (m55 c.before (After-answer-of·gave c))).name (Row.get 6 T1.locals (m55 c.before (After-answer-of·gave c))).now (dens c.before.before.before.before.before.before.before.before.before.before.before.before.before.before.before.before.before.before.κs c.before.before.before.before.before.before.before.before.before.before.before.before.before.before.before.before.before.before.args).1.1.1.1.1.0.now (same_length record { before = c.before; answer_of = c.answer_of }), tt)))))), returns_3 record { before = c.before; answer_of = c.answer_of })
 
         lay7 : (c : After-walk2) → at36 (W0 c.before.before.before.before.before.before.before.before.before.before.before.before.before.before.before.κs c.before.before.before.before.before.before.before.before.before.before.before.before.before.before.before.args) (m46 c.before (After-walk2·gave c))
-        lay7 = λ c. (Path.refl, λ g. λ g'. (answer-of-requires record { before = record { before = record { before = c.before; walk2 = c.walk2 }; buffer3 = record { given = g } }; slice-known4 = record { given = g' } }, λ g''. lay8 record { before = record { before = record { before = record { before = c.before; walk2 = c.walk2 }; buffer3 = record { given = g } }; slice-known4 = record { given = g' } }; answer-of = Called.called ps·4 r·4 claims·.9 T59 (record { pos = 15; st = []; d = 0; at = λ x. x }, tt) (m49 record { before = record { before = c.before; walk2 = c.walk2 }; buffer3 = record { given = g } } g') g'' }))
+        lay7 = λ c. (Path.refl, λ g. λ g'. (answer-of-requires record { before = record { before = record { before = c.before; walk2 = c.walk2 }; buffer3 = record { given = g } }; slice_known4 = record { given = g' } }, λ g''. lay8 record { before = record { before = record { before = record { before = c.before; walk2 = c.walk2 }; buffer3 = record { given = g } }; slice_known4 = record { given = g' } }; answer_of = Called.called ps·4 r·4 claims·.9 T59 (record { pos = 15; st = []; d = 0; at = λ x. x }, tt) (m49 record { before = record { before = c.before; walk2 = c.walk2 }; buffer3 = record { given = g } } g') g'' }))
 
         lay6 : (c : After-begin-writing) → at47 (W0 c.before.before.before.before.before.before.before.before.before.before.before.κs c.before.before.before.before.before.before.before.before.before.before.before.args) (m38 c.before (After-begin-writing·gave c))
-        lay6 = λ c. (Path.refl, λ g. λ g'. λ g''. (Path.refl, (walk-requires-2 record { before = record { before = record { before = record { before = c.before; begin-writing = c.begin-writing }; buffer2 = record { given = g } }; slice-known3 = record { given = g' } }; walk-arg2 = record { given = g'' } }, λ g'3. lay7 record { before = record { before = record { before = record { before = record { before = c.before; begin-writing = c.begin-writing }; buffer2 = record { given = g } }; slice-known3 = record { given = g' } }; walk-arg2 = record { given = g'' } }; walk2 = Called.called ps·2 r·2 claims·.5 T55 (Num.v_at 1 λ x. x, (Num.v_at 2 λ x. x, (record { pos = 5; ty = Syntax.ty_ref (Syntax.named 0) Syntax.imm (Memory.pointee (Site.the_row).written); ref = λ x. x }, (record { pos = 19; ty = Syntax.ty_ref Syntax.erased Syntax.mut type·0; ref = λ x. x }, (record { pos = 9; st = []; d = 0; at = λ x. x }, tt))))) (m45 record { before = record { before = record { before = c.before; begin-writing = c.begin-writing }; buffer2 = record { given = g } }; slice-known3 = record { given = g' } } g'') g'3 })))
+        lay6 = λ c. (Path.refl, λ g. λ g'. λ g''. (Path.refl, (walk_requires_2 record { before = record { before = record { before = record { before = c.before; begin_writing = c.begin_writing }; buffer2 = record { given = g } }; slice_known3 = record { given = g' } }; walk_arg2 = record { given = g'' } }, λ g'3. lay7 record { before = record { before = record { before = record { before = record { before = c.before; begin_writing = c.begin_writing }; buffer2 = record { given = g } }; slice_known3 = record { given = g' } }; walk_arg2 = record { given = g'' } }; walk2 = Called.called ps·2 r·2 claims·.5 T55 (Num.v_at 1 λ x. x, (Num.v_at 2 λ x. x, (record { pos = 5; ty = Syntax.ty_ref (Syntax.named 0) Syntax.imm (Memory.pointee (Site.the_row).written); ref = λ x. x }, (record { pos = 19; ty = Syntax.ty_ref Syntax.erased Syntax.mut type·0; ref = λ x. x }, (record { pos = 9; st = []; d = 0; at = λ x. x }, tt))))) (m45 record { before = record { before = record { before = c.before; begin_writing = c.begin_writing }; buffer2 = record { given = g } }; slice_known3 = record { given = g' } } g'') g'3 })))
 
         lay5 : (c : After-walk) → at57 (W0 c.before.before.before.before.before.before.before.κs c.before.before.before.before.before.before.before.args) (m31 c.before (After-walk·gave c))
-        lay5 = λ c. (Path.refl, λ g. λ g'. λ g''. (Path.refl, (begin-writing-requires record { before = record { before = record { before = record { before = c.before; walk = c.walk }; buffer = record { given = g } }; slice-known2 = record { given = g' } }; begin-writing-arg = record { given = g'' } }, λ g'3. lay6 record { before = record { before = record { before = record { before = record { before = c.before; walk = c.walk }; buffer = record { given = g } }; slice-known2 = record { given = g' } }; begin-writing-arg = record { given = g'' } }; begin-writing = Called.called ps·3 r·3 claims·.7 T44 (record { pos = 7; st = []; d = 0; at = λ x. x }, (Num.v_at 12 λ x. x, (record { pos = 17; ty = Syntax.ty_ref Syntax.erased Syntax.mut type·0; ref = λ x. x }, (record { pos = 8; st = []; d = 0; at = λ x. x }, tt)))) (m37 record { before = record { before = record { before = c.before; walk = c.walk }; buffer = record { given = g } }; slice-known2 = record { given = g' } } g'') g'3 })))
+        lay5 = λ c. (Path.refl, λ g. λ g'. λ g''. (Path.refl, (begin_writing_requires record { before = record { before = record { before = record { before = c.before; walk = c.walk }; buffer = record { given = g } }; slice_known2 = record { given = g' } }; begin_writing_arg = record { given = g'' } }, λ g'3. lay6 record { before = record { before = record { before = record { before = record { before = c.before; walk = c.walk }; buffer = record { given = g } }; slice_known2 = record { given = g' } }; begin_writing_arg = record { given = g'' } }; begin_writing = Called.called ps·3 r·3 claims·.7 T44 (record { pos = 7; st = []; d = 0; at = λ x. x }, (Num.v_at 12 λ x. x, (record { pos = 17; ty = Syntax.ty_ref Syntax.erased Syntax.mut type·0; ref = λ x. x }, (record { pos = 8; st = []; d = 0; at = λ x. x }, tt)))) (m37 record { before = record { before = record { before = c.before; walk = c.walk }; buffer = record { given = g } }; slice_known2 = record { given = g' } } g'') g'3 })))
 
         lay4 : (c : Else2) → at62 (W0 c.before.before.before.before.before.κs c.before.before.before.before.before.args) (m27 c.before)
-        lay4 = λ c. λ g. (Path.refl, (walk-requires record { before = record { before = c.before; if2 = c.if2 }; walk-arg = record { given = g } }, λ g'. lay5 record { before = record { before = record { before = c.before; if2 = c.if2 }; walk-arg = record { given = g } }; walk = Called.called ps·2 r·2 claims·.5 T34 (Num.v_at 1 λ x. x, (Num.v_at 2 λ x. x, (record { pos = 5; ty = Syntax.ty_ref (Syntax.named 0) Syntax.imm (Memory.pointee (Site.the_row).written); ref = λ x. x }, (record { pos = 14; ty = Syntax.ty_ref Syntax.erased Syntax.mut type·0; ref = λ x. x }, (record { pos = 15; st = []; d = 0; at = λ x. x }, tt))))) (m30 record { before = c.before; if2 = c.if2 } g) g' }))
+        lay4 = λ c. λ g. (Path.refl, (walk_requires record { before = record { before = c.before; if2 = c.if2 }; walk_arg = record { given = g } }, λ g'. lay5 record { before = record { before = record { before = c.before; if2 = c.if2 }; walk_arg = record { given = g } }; walk = Called.called ps·2 r·2 claims·.5 T34 (Num.v_at 1 λ x. x, (Num.v_at 2 λ x. x, (record { pos = 5; ty = Syntax.ty_ref (Syntax.named 0) Syntax.imm (Memory.pointee (Site.the_row).written); ref = λ x. x }, (record { pos = 14; ty = Syntax.ty_ref Syntax.erased Syntax.mut type·0; ref = λ x. x }, (record { pos = 15; st = []; d = 0; at = λ x. x }, tt))))) (m30 record { before = c.before; if2 = c.if2 } g) g' }))
 
         lay3 : (c : After-does-admit) → at65 (W0 c.before.before.before.before.κs c.before.before.before.before.args) (m16 c.before (After-does-admit·gave c))
-        lay3 = λ c. (tt, (λ taken. ((tt, (tt, (tt, (tt, (Path.refl, (Path.refl, tt)))))), returns-2 record { before = record { before = c.before; does-admit = c.does-admit }; if2 = record { taken = taken } }), λ left. lay4 record { before = record { before = c.before; does-admit = c.does-admit }; if2 = record { left = left } }))
+        lay3 = λ c. (tt, (λ taken. ((tt, (tt, (tt, (tt, (Path.refl, (Path.refl, tt)))))), returns_2 record { before = record { before = c.before; does_admit = c.does_admit }; if2 = record { taken = taken } }), λ left. lay4 record { before = record { before = c.before; does_admit = c.does_admit }; if2 = record { left = left } }))
 
         lay2 : (c : Else1) → at67 (W0 c.before.before.before.κs c.before.before.before.args) (m14 c.before)
-        lay2 = λ c. (does-admit-requires record { before = c.before; if1 = c.if1 }, λ g. lay3 record { before = record { before = c.before; if1 = c.if1 }; does-admit = Called.called ps·1 r·1 claims·.3 T17 (record { pos = 7; st = []; d = 0; at = λ x. x }, (Num.v_at 12 λ x. x, tt)) (m15 c.before) g })
+        lay2 = λ c. (does-admit-requires record { before = c.before; if1 = c.if1 }, λ g. lay3 record { before = record { before = c.before; if1 = c.if1 }; does_admit = Called.called ps·1 r·1 claims·.3 T17 (record { pos = 7; st = []; d = 0; at = λ x. x }, (Num.v_at 12 λ x. x, tt)) (m15 c.before) g })
 
         lay1 : (c : After-is-edition-known) → at69 (W0 c.before.before.κs c.before.before.args) (m3 c.before (After-is-edition-known·gave c))
-        lay1 = λ c. (tt, (λ taken. ((tt, (tt, (tt, (tt, (Path.refl, (Path.refl, tt)))))), returns record { before = record { before = c.before; is-edition-known = c.is-edition-known }; if1 = record { taken = taken } }), λ left. lay2 record { before = record { before = c.before; is-edition-known = c.is-edition-known }; if1 = record { left = left } }))
+        lay1 = λ c. (tt, (λ taken. ((tt, (tt, (tt, (tt, (Path.refl, (Path.refl, tt)))))), returns record { before = record { before = c.before; is_edition_known = c.is_edition_known }; if1 = record { taken = taken } }), λ left. lay2 record { before = record { before = c.before; is_edition_known = c.is_edition_known }; if1 = record { left = left } }))
 
         pub laid : (c : Start) → at72 (W0 c.κs c.args) (m0 c.κs c.args)
-        laid = λ c. λ g. (is-edition-known-requires record { before = c; slice-known = record { given = g } }, λ g'. lay1 record { before = record { before = c; slice-known = record { given = g } }; is-edition-known = Called.called ps·0 r·0 claims·.1 T3 (Num.v_at 1 λ x. x, tt) (m2 c g) g' })
+        laid = λ c. λ g. (is-edition-known-requires record { before = c; slice_known = record { given = g } }, λ g'. lay1 record { before = record { before = c; slice_known = record { given = g } }; is_edition_known = Called.called ps·0 r·0 claims·.1 T3 (Num.v_at 1 λ x. x, tt) (m2 c g) g' })
 
         module _ (κs : Lifetimes.Lfts 2) (qs : Lifetimes.Shares 2) where
           pub asked : (a : FnKinds.Dens κs ps) → (good : FnKinds.GoodsP κs ps a) → (pre : Pre· κs a) → (bs : List.List Nat.ℕ) → Φ (Any.want_q 2 ps r xs m κs qs a (Post· κs a)) (Function.init 2 ps r xs m κs qs a)

@@ -123,4 +123,4 @@ module _ {M : Type 1} where
 
   pub close : Lts.Closed (IsEditionKnownReads.Asked, IsEditionKnownReads.Learnt, Reads.Asked, Reads.Learnt, WalkReads.Asked, WalkReads.Learnt, BeginWritingReads.Asked, BeginWritingReads.Learnt, AnswerOfReads.Asked, AnswerOfReads.Learnt) WriteProjectReads.Pre WriteProjectReads.Post M → Statement.statement M
   unfolding Code.routine Running.tables_of
-  close = λ closed 𝓤 𝓛 𝓜 𝓡. Written.close 2 WriteProjectKinds.ps WriteProjectKinds.r WriteProjectReads.Ghost WriteProjectReads.requires WriteProjectReads.ensures WriteProjectReads.pre_read WriteProjectReads.Pinned WriteProjectReads.Owned WriteProjectReads.post_read record { M = M; 𝓤 = 𝓤; 𝓛 = 𝓛; 𝓜 = 𝓜; 𝓡 = 𝓡 } Code.env Key.name Code.function (Code.unfolded 𝓤 𝓛.H 𝓜 𝓡) (λ κs a g. tt) (λ κs. WriteProjectReads.owns κs record { M = M; 𝓤 = 𝓤; 𝓛 = 𝓛; 𝓜 = 𝓜; 𝓡 = 𝓡 }) (WriteProjectReads.passes record { M = M; 𝓤 = 𝓤; 𝓛 = 𝓛; 𝓜 = 𝓜; 𝓡 = 𝓡 }) λ g. closed 𝓤 𝓛 (Run.Over 𝓛 𝓜 𝓡 Code.env) (IsEditionKnownReads.known record { M = M; 𝓤 = 𝓤; 𝓛 = 𝓛; 𝓜 = 𝓜; 𝓡 = 𝓡 } Code.env IsEditionKnownSymbol.name IsEditionKnownSymbol.routine Code.calls-site::rules::is-edition-known (IsEditionKnownMet.met 𝓤 𝓛 𝓜 𝓡)) (Reads.known record { M = M; 𝓤 = 𝓤; 𝓛 = 𝓛; 𝓜 = 𝓜; 𝓡 = 𝓡 } Code.env Symbol.name Symbol.routine Code.calls-header::does-admit (Met.met 𝓤 𝓛 𝓜 𝓡)) (WalkReads.known record { M = M; 𝓤 = 𝓤; 𝓛 = 𝓛; 𝓜 = 𝓜; 𝓡 = 𝓡 } Code.env WalkSymbol.name WalkSymbol.routine Code.calls-project-writer::walk (WalkMet.met 𝓤 𝓛 𝓜 𝓡)) (BeginWritingReads.known record { M = M; 𝓤 = 𝓤; 𝓛 = 𝓛; 𝓜 = 𝓜; 𝓡 = 𝓡 } Code.env BeginWritingSymbol.name BeginWritingSymbol.routine Code.calls-project-writer::course::begin-writing (BeginWritingMet.met 𝓤 𝓛 𝓜 𝓡)) (AnswerOfReads.known record { M = M; 𝓤 = 𝓤; 𝓛 = 𝓛; 𝓜 = 𝓜; 𝓡 = 𝓡 } Code.env AnswerOfSymbol.name AnswerOfSymbol.routine Code.calls-project-writer::course::answer-of (AnswerOfMet.met 𝓤 𝓛 𝓜 𝓡))
+  close = λ closed 𝓤 𝓛 𝓜 𝓡. Written.close 2 WriteProjectKinds.ps WriteProjectKinds.r WriteProjectReads.Ghost WriteProjectReads.requires WriteProjectReads.ensures WriteProjectReads.pre_read WriteProjectReads.Pinned WriteProjectReads.Owned WriteProjectReads.post_read record { M = M; 𝓤 = 𝓤; 𝓛 = 𝓛; 𝓜 = 𝓜; 𝓡 = 𝓡 } Code.env Key.name Code.function (Code.unfolded 𝓤 𝓛.H 𝓜 𝓡) (λ κs a g. tt) (λ κs. WriteProjectReads.owns κs record { M = M; 𝓤 = 𝓤; 𝓛 = 𝓛; 𝓜 = 𝓜; 𝓡 = 𝓡 }) (WriteProjectReads.passes record { M = M; 𝓤 = 𝓤; 𝓛 = 𝓛; 𝓜 = 𝓜; 𝓡 = 𝓡 }) λ g. closed 𝓤 𝓛 (Run.Over 𝓛 𝓜 𝓡 Code.env) (IsEditionKnownReads.known record { M = M; 𝓤 = 𝓤; 𝓛 = 𝓛; 𝓜 = 𝓜; 𝓡 = 𝓡 } Code.env IsEditionKnownSymbol.name IsEditionKnownSymbol.routine Code.calls-site::rules::is_edition_known (IsEditionKnownMet.met 𝓤 𝓛 𝓜 𝓡)) (Reads.known record { M = M; 𝓤 = 𝓤; 𝓛 = 𝓛; 𝓜 = 𝓜; 𝓡 = 𝓡 } Code.env Symbol.name Symbol.routine Code.calls-header::does_admit (Met.met 𝓤 𝓛 𝓜 𝓡)) (WalkReads.known record { M = M; 𝓤 = 𝓤; 𝓛 = 𝓛; 𝓜 = 𝓜; 𝓡 = 𝓡 } Code.env WalkSymbol.name WalkSymbol.routine Code.calls-project-writer::walk (WalkMet.met 𝓤 𝓛 𝓜 𝓡)) (BeginWritingReads.known record { M = M; 𝓤 = 𝓤; 𝓛 = 𝓛; 𝓜 = 𝓜; 𝓡 = 𝓡 } Code.env BeginWritingSymbol.name BeginWritingSymbol.routine Code.calls-project-writer::course::begin_writing (BeginWritingMet.met 𝓤 𝓛 𝓜 𝓡)) (AnswerOfReads.known record { M = M; 𝓤 = 𝓤; 𝓛 = 𝓛; 𝓜 = 𝓜; 𝓡 = 𝓡 } Code.env AnswerOfSymbol.name AnswerOfSymbol.routine Code.calls-project-writer::course::answer_of (AnswerOfMet.met 𝓤 𝓛 𝓜 𝓡))

@@ -15,8 +15,8 @@ returns c =
     let three : at + 3 ≡ suc (suc (suc at)) = omega arith in
     rw (one, two, three) refl
 
-pub put-line-spec : {M : Type 1} → statement M
-put-line-spec =
+pub put_line_spec : {M : Type 1} → statement M
+put_line_spec =
     tie.close
     (tie.spec
     (λ c. search rules) (λ c. search rules) (λ c. search rules) (λ c. search rules)

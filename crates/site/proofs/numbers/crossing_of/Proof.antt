@@ -5,8 +5,8 @@ use Rattle.site.proofs.numbers.crossing_of.Tie as tie
 returns : tie.Need-returns
 returns c = cc
 
-pub crossing-of-spec : {M : Type 1} → statement M
-crossing-of-spec =
+pub crossing_of_spec : {M : Type 1} → statement M
+crossing_of_spec =
     tie.close
     (tie.spec
     (λ c κs. search rules) (λ c κs. search rules) (λ c κs. search rules) (λ c κs. search rules)

@@ -7,8 +7,8 @@ use Rattle.site.proofs.rules.crossing_entries.Tie as tie
 returns : tie.Need-returns
 returns c = refl
 
-pub crossing-entries-spec : {M : Type 1} → statement M
-crossing-entries-spec =
+pub crossing_entries_spec : {M : Type 1} → statement M
+crossing_entries_spec =
     tie.close
     (tie.spec
     (λ c. search rules) (λ c. search rules) (λ c. search rules) (λ c. search rules) (λ c. search rules) (λ c. search rules) (λ c. search rules)

@@ -3,8 +3,8 @@ use borrow.Author.Rules.{rules}
 use Rattle.site.proofs.rules.does_hold.Statement.{statement}
 use Rattle.site.proofs.rules.does_hold.Tie as tie
 
-returns-2 : tie.Need-returns-2
-returns-2 c = simp c.before.slot.given.1
+returns_2 : tie.Need-returns-2
+returns_2 c = simp c.before.slot.given.1
 
-pub does-hold-spec : {M : Type 1} → statement M
-does-hold-spec = tie.close (tie.spec (λ c. search rules) (λ c. search rules) (λ c. search rules) returns-2)
+pub does_hold_spec : {M : Type 1} → statement M
+does_hold_spec = tie.close (tie.spec (λ c. search rules) (λ c. search rules) (λ c. search rules) returns_2)

@@ -6,5 +6,5 @@ use Rattle.site.proofs.rules.segment_entries.Tie as tie
 returns : tie.Need-returns
 returns c = refl
 
-pub segment-entries-spec : {M : Type 1} → statement M
-segment-entries-spec = tie.close (tie.spec returns)
+pub segment_entries_spec : {M : Type 1} → statement M
+segment_entries_spec = tie.close (tie.spec returns)

@@ -9,8 +9,8 @@ use Rattle.site.proofs.words.put_word.Tie as tie
 returns : tie.Need-returns
 returns c = rw add-one
 
-pub put-word-spec : {M : Type 1} → statement M
-put-word-spec =
+pub put_word_spec : {M : Type 1} → statement M
+put_word_spec =
     tie.close
     (tie.spec
     (λ c. search rules) (λ c. search rules) (λ c. search rules) (λ c. search rules)

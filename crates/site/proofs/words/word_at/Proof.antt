@@ -7,14 +7,14 @@ use borrow.Author.Rules.{rules}
 use Rattle.site.proofs.words.word_at.Statement.{statement}
 use Rattle.site.proofs.words.word_at.Tie as tie
 
-mul-result : tie.Need-overflow-mul-result
-mul-result c =
+mul_result : tie.Need-overflow-mul-result
+mul_result c =
     let at = c.before.before.before.args.at in
     let bytes = c.before.shared-slice-known2.given in
     omega (arith, c.wide.ensures, bytes at, bytes (at + 1))
 
-add-result : tie.Need-overflow-add-result
-add-result c =
+add_result : tie.Need-overflow-add-result
+add_result c =
     let high = c.before.before in
     let at = high.before.before.before.args.at in
     let bytes = c.before.shared-slice-known3.given in
@@ -23,12 +23,12 @@ add-result c =
 returns : tie.Need-returns
 returns c = simp (get_or-drop, add-zero, c.before.before.wide.ensures, c.wide2.ensures)
 
-pub word-at-spec : {M : Type 1} → statement M
-word-at-spec =
+pub word_at_spec : {M : Type 1} → statement M
+word_at_spec =
     tie.close
     (tie.spec
     (λ c. search rules) (λ c. search rules) (λ c κs. search rules)
-    mul-result
+    mul_result
     (λ c. search rules) (λ c κs. search rules)
-    add-result
+    add_result
     returns)

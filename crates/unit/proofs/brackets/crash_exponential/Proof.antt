@@ -5,6 +5,6 @@ use Rattle.unit.proofs.brackets.crash_exponential.Tie as tie
 returns : tie.Need-returns
 returns c = rw c.before.before.before.before.exponential.ensures.0 at c.before.before.lend.ensures
 
-pub crash-exponential-spec : {M : Type 1} → statement M
-crash-exponential-spec =
+pub crash_exponential_spec : {M : Type 1} → statement M
+crash_exponential_spec =
     tie.close (tie.spec (λ c κs. search rules) (λ c κs. search rules) (λ c. search rules) returns)

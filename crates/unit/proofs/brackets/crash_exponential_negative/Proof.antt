@@ -5,6 +5,6 @@ use Rattle.unit.proofs.brackets.crash_exponential_negative.Tie as tie
 returns : tie.Need-returns
 returns c = rw c.before.before.before.before.exponential-negative.ensures.0 at c.before.before.lend.ensures
 
-pub crash-exponential-negative-spec : {M : Type 1} → statement M
-crash-exponential-negative-spec =
+pub crash_exponential_negative_spec : {M : Type 1} → statement M
+crash_exponential_negative_spec =
     tie.close (tie.spec (λ c κs. search rules) (λ c κs. search rules) (λ c. search rules) returns)

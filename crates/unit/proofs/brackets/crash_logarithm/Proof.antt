@@ -5,5 +5,5 @@ use Rattle.unit.proofs.brackets.crash_logarithm.Tie as tie
 returns : tie.Need-returns
 returns c = rw c.before.before.before.before.logarithm.ensures.0 at c.before.before.lend.ensures
 
-pub crash-logarithm-spec : {M : Type 1} → statement M
-crash-logarithm-spec = tie.close (tie.spec (λ c κs. search rules) (λ c κs. search rules) (λ c. search rules) returns)
+pub crash_logarithm_spec : {M : Type 1} → statement M
+crash_logarithm_spec = tie.close (tie.spec (λ c κs. search rules) (λ c κs. search rules) (λ c. search rules) returns)

@@ -5,5 +5,5 @@ use Rattle.unit.proofs.brackets.crash_power.Tie as tie
 returns : tie.Need-returns
 returns c = rw c.before.before.before.before.power.ensures.0 at c.before.before.lend.ensures
 
-pub crash-power-spec : {M : Type 1} → statement M
-crash-power-spec = tie.close (tie.spec (λ c κs. search rules) (λ c κs. search rules) (λ c. search rules) returns)
+pub crash_power_spec : {M : Type 1} → statement M
+crash_power_spec = tie.close (tie.spec (λ c κs. search rules) (λ c κs. search rules) (λ c. search rules) returns)

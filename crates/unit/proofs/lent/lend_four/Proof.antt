@@ -2,15 +2,15 @@
 use native.Mathlib.Omega.{arith}
 use borrow.Author.Rules.{rules}
 use lib.ListN.{length-set}
-use Rattle.unit.proofs.Lending.{no-space, lent}
+use Rattle.unit.proofs.Lending.{no_space, lent}
 use Rattle.unit.proofs.lent.lend_four.Statement.{statement}
 use Rattle.unit.proofs.lent.lend_four.Tie as tie
 
-pub lend-four-spec : {M : Type 1} → statement M
-lend-four-spec =
+pub lend_four_spec : {M : Type 1} → statement M
+lend_four_spec =
     tie.close
     (tie.spec
-    (λ c. no-space _ _ _ c.if1.true)
+    (λ c. no_space _ _ _ c.if1.true)
     (λ c. search rules)
     (λ c. simp length-set (omega arith))
     (λ c. simp length-set (omega arith))

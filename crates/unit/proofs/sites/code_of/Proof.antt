@@ -8,5 +8,5 @@ use Rattle.unit.proofs.sites.code_of.Tie as tie
 returns : tie.Need-returns
 returns c = sym (ap code c.enum_told.given.1)
 
-pub code-of-spec : {M : Type 1} → statement M
-code-of-spec = tie.close (tie.spec (λ c. search rules) (λ c. search rules) (λ c. search rules) returns (λ c. search rules))
+pub code_of_spec : {M : Type 1} → statement M
+code_of_spec = tie.close (tie.spec (λ c. search rules) (λ c. search rules) (λ c. search rules) returns (λ c. search rules))

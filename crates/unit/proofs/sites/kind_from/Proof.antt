@@ -7,8 +7,8 @@ use Rattle.unit.proofs.sites.kind_from.Tie as tie
 returns : tie.Need-returns
 returns c = simp (lt-ltb _ _ c.if1.true)
 
-returns-2 : tie.Need-returns-2
-returns-2 c = simp (le-ltb _ _ c.if1.false)
+returns_2 : tie.Need-returns-2
+returns_2 c = simp (le-ltb _ _ c.if1.false)
 
-pub kind-from-spec : {M : Type 1} → statement M
-kind-from-spec = tie.close (tie.spec (λ c. search rules) returns returns-2)
+pub kind_from_spec : {M : Type 1} → statement M
+kind_from_spec = tie.close (tie.spec (λ c. search rules) returns returns_2)

@@ -2,13 +2,13 @@
 use native.Mathlib.Omega.{arith}
 use mathlib.Core.Path.{◌∙◌}
 use lib.ListN.{length-set}
-use Rattle.unit.proofs.NumberSteps.{all-values}
+use Rattle.unit.proofs.NumberSteps.{all_values}
 use borrow.Author.Rules.{rules}
 use Rattle.unit.proofs.sites.put_site.Statement.{statement}
 use Rattle.unit.proofs.sites.put_site.Tie as tie
 
-put-slots-requires : tie.Need-put-slots-requires
-put-slots-requires c κs = simp length-set (omega arith)
+put_slots_requires : tie.Need-put-slots-requires
+put_slots_requires c κs = simp length-set (omega arith)
 
 same_length : tie.Need-same-length
 same_length c = simp length-set (c.before.before.put-slots.auto.1.0 ∙ simp length-set)
@@ -16,14 +16,14 @@ same_length c = simp length-set (c.before.before.put-slots.auto.1.0 ∙ simp len
 returns : tie.Need-returns
 returns c =
     let args = c.before.before.before.before.before.args in
-    all-values args.site _ args.values.now _ c.before.before.put-slots.ensures
+    all_values args.site _ args.values.now _ c.before.before.put-slots.ensures
 
-pub put-site-spec : {M : Type 1} → statement M
-put-site-spec =
+pub put_site_spec : {M : Type 1} → statement M
+put_site_spec =
     tie.close
     (tie.spec
     (λ c. search rules) (λ c. search rules)
-    put-slots-requires
+    put_slots_requires
     (λ c. search rules)
     same_length
     returns)

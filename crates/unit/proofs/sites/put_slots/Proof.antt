@@ -7,52 +7,52 @@ use Prim.Native.Nat.{◌+◌, ◌≤◌, ◌-◌}
 use lib.ListN.{length, drop, length-set}
 use lib.Seq.{sets}
 use Rattle.site.specs.declared.values.Slot.{Slot}
-use Rattle.unit.specs.SiteNumbers.{allSlots, allCount, code}
-use Rattle.unit.proofs.NumberSteps.{store-more, store-end}
+use Rattle.unit.specs.SiteNumbers.{all_slots, all_count, code}
+use Rattle.unit.proofs.NumberSteps.{store_more, store_end}
 use Rattle.unit.proofs.sites.put_slots.Statement.{statement}
 use Rattle.unit.proofs.sites.put_slots.Tie as tie
 
-abbrev invariant-loop : tie.invariant-loop
-invariant-loop values₀ slots traffic minor i₀ values i =
-    (i ≤ allCount)
+abbrev invariant_loop : tie.invariant_loop
+invariant_loop values₀ slots traffic minor i₀ values i =
+    (i ≤ all_count)
     × (length values ≡ length values₀)
     × (sets values (i + 1) (map code (drop i (slots ++ (traffic ++ minor)))) ≡ sets values₀ 1 (map code (slots ++ (traffic ++ minor))))
 
-abbrev decreases-loop : tie.decreases-loop
-decreases-loop values₀ slots traffic minor i₀ values i = allCount - i
+abbrev decreases_loop : tie.decreases_loop
+decreases_loop values₀ slots traffic minor i₀ values i = all_count - i
 
 -- the three runs are all the slots
-runs : (c : tie.After-later-slots2 invariant-loop decreases-loop) → c.before.before.slots-of.result ++ (c.before.later-slots.result ++ c.later-slots2.result)
-    ≡ allSlots c.before.before.before.before.before.before.args.site
+runs : (c : tie.After-later-slots2 invariant_loop decreases_loop) → c.before.before.slots-of.result ++ (c.before.later-slots.result ++ c.later-slots2.result)
+    ≡ all_slots c.before.before.before.before.before.before.args.site
 runs c = rw (c.before.before.slots-of.ensures, c.before.later-slots.ensures, c.later-slots2.ensures) refl
 
-loop-again : tie.Need-loop-preserved invariant-loop decreases-loop
-loop-again c =
+loop_again : tie.Need-loop-preserved invariant_loop decreases_loop
+loop_again c =
     let at = c.before.before.before in
     let loop = at.loop in (
       omega arith,
       simp length-set loop.invariant.1,
-      store-more code _ _ _ _ _ (ap length (runs at.before)) loop.invariant.2 _ _ c.before.before.loop-test.true
+      store_more code _ _ _ _ _ (ap length (runs at.before)) loop.invariant.2 _ _ c.before.before.loop_test.true
           (c.code_of_lem.ensures ∙ ap code c.before.slot_at.ensures),
     )
 
-returns : tie.Need-returns invariant-loop decreases-loop
+returns : tie.Need-returns invariant_loop decreases_loop
 returns c =
     let start = c.before.before.before.before.before.before.before.before in
     let all = runs c.before.before in
-    store-end code _ _ _ _ _ (ap length all) c.before.loop.invariant.2 c.loop-test.false
+    store_end code _ _ _ _ _ (ap length all) c.before.loop.invariant.2 c.loop_test.false
     ∙ ap (λ (slots : List Slot). sets start.args.values.now 1 (map code slots)) all
 
-pub put-slots-spec : {M : Type 1} → statement M
-put-slots-spec =
+pub put_slots_spec : {M : Type 1} → statement M
+put_slots_spec =
     tie.close
     (tie.spec
-    invariant-loop
-    decreases-loop
+    invariant_loop
+    decreases_loop
     (λ c κs. search rules) (λ c κs. search rules) (λ c κs. search rules)
     (λ c. search rules)
     (λ c κs. search rules)
     (λ c κs. search rules) (λ c. omega arith) (λ c. omega arith) (λ c. omega arith) (λ c. omega arith) (λ c. omega arith)
-    loop-again
+    loop_again
     (λ c. search rules)
     returns)

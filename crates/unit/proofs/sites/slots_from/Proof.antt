@@ -6,41 +6,41 @@ use mathlib.Core.List.{map}
 use Prim.Native.Nat.{◌≤◌, ◌-◌}
 use lib.ListN.{length, drop, length-set}
 use lib.Seq.{sets}
-use Rattle.unit.specs.SiteNumbers.{allCount, slotFrom}
-use Rattle.unit.proofs.NumberSteps.{store-start, store-more, store-end}
+use Rattle.unit.specs.SiteNumbers.{all_count, slot_from}
+use Rattle.unit.proofs.NumberSteps.{store_start, store_more, store_end}
 use Rattle.unit.proofs.sites.slots_from.Statement.{statement}
 use Rattle.unit.proofs.sites.slots_from.Tie as tie
 
-abbrev invariant-loop : tie.invariant-loop
-invariant-loop numbers slots₀ i₀ slots i =
-    (i ≤ allCount) × (length slots ≡ allCount) × (sets slots i (map slotFrom (drop i numbers)) ≡ map slotFrom numbers)
+abbrev invariant_loop : tie.invariant_loop
+invariant_loop numbers slots₀ i₀ slots i =
+    (i ≤ all_count) × (length slots ≡ all_count) × (sets slots i (map slot_from (drop i numbers)) ≡ map slot_from numbers)
 
-abbrev decreases-loop : tie.decreases-loop
-decreases-loop numbers slots₀ i₀ slots i = allCount - i
+abbrev decreases_loop : tie.decreases_loop
+decreases_loop numbers slots₀ i₀ slots i = all_count - i
 
-loop-holds : tie.Need-loop-init invariant-loop decreases-loop
-loop-holds c = (omega arith, refl, store-start slotFrom c.before.args.numbers.now _ (sym c.before.requires))
+loop_holds : tie.Need-loop-init invariant_loop decreases_loop
+loop_holds c = (omega arith, refl, store_start slot_from c.before.args.numbers.now _ (sym c.before.requires))
 
-loop-again : tie.Need-loop-preserved invariant-loop decreases-loop
-loop-again c =
+loop_again : tie.Need-loop-preserved invariant_loop decreases_loop
+loop_again c =
     let at = c.before.before.before in
     let count = at.before.before.requires in
     let loop = at.loop in (
       omega arith,
       simp length-set loop.invariant.1,
-      store-more slotFrom _ _ _ _ _ count loop.invariant.2 _ _ c.before.before.loop-test.true c.slot-from.ensures,
+      store_more slot_from _ _ _ _ _ count loop.invariant.2 _ _ c.before.before.loop_test.true c.slot-from.ensures,
     )
 
-returns : tie.Need-returns invariant-loop decreases-loop
-returns c = store-end slotFrom _ _ _ _ _ c.before.before.before.requires c.before.loop.invariant.2 c.loop-test.false
+returns : tie.Need-returns invariant_loop decreases_loop
+returns c = store_end slot_from _ _ _ _ _ c.before.before.before.requires c.before.loop.invariant.2 c.loop_test.false
 
-pub slots-from-spec : {M : Type 1} → statement M
-slots-from-spec =
+pub slots_from_spec : {M : Type 1} → statement M
+slots_from_spec =
     tie.close
     (tie.spec
-    invariant-loop
-    decreases-loop
-    loop-holds
+    invariant_loop
+    decreases_loop
+    loop_holds
     (λ c. omega arith) (λ c. omega arith) (λ c κs. search rules) (λ c. omega arith) (λ c. omega arith) (λ c. omega arith) (λ c. omega arith)
-    loop-again
+    loop_again
     returns)

@@ -1,7 +1,7 @@
 -- The first twenty slots, and the later years behind them.
 use borrow.Author.Rules.{rules}
 use mathlib.Core.Path.{◌∙◌}
-use Rattle.unit.proofs.NumberSteps.{made-of-all}
+use Rattle.unit.proofs.NumberSteps.{made_of_all}
 use Rattle.unit.proofs.slots.site_of_all.Statement.{statement}
 use Rattle.unit.proofs.slots.site_of_all.Tie as tie
 
@@ -10,10 +10,10 @@ returns c =
     let minor = c.before in
     let tenth = minor.before.before.before.before.before.before.before.before.before.before.before.before in
     let args = tenth.before.before.before.before.before.before.before.before.before.before.args in
-    c.site-of.ensures ∙ made-of-all args.kind args.t2 _ _ minor.before.later-at.ensures minor.later-at2.ensures
+    c.site-of.ensures ∙ made_of_all args.kind args.t2 _ _ minor.before.later_at_lem.ensures minor.later-at2.ensures
 
-pub site-of-all-spec : {M : Type 1} → statement M
-site-of-all-spec =
+pub site_of_all_spec : {M : Type 1} → statement M
+site_of_all_spec =
     tie.close
     (tie.spec
     (λ c. search rules) (λ c. search rules) (λ c. search rules) (λ c. search rules) (λ c. search rules) (λ c. search rules) (λ c. search rules) (λ c. search rules) (λ c. search rules)

@@ -11,25 +11,25 @@ use Rattle.unit.proofs.slots.slot_at.Tie as tie
 returns : tie.Need-returns
 returns c = let args = c.before.before.args in sym (get_or-append args.t1 _ _ args.i (omega arith))
 
-returns-2 : tie.Need-returns-2
-returns-2 c =
+returns_2 : tie.Need-returns-2
+returns_2 c =
     let start = c.before.before.before in
     let args = start.args in
     sym (get_or-append args.t2 _ _ (args.i - 20) (omega arith)) ∙ past args.t1 _ _ _ start.requires.0 (omega arith)
 
-returns-3 : tie.Need-returns-3
-returns-3 c =
+returns_3 : tie.Need-returns-3
+returns_3 c =
     let start = c.before.before.before in
     let args = start.args in
     past args.t2 _ _ _ start.requires.1 (omega arith) ∙ past args.t1 _ _ _ start.requires.0 (omega arith)
 
-pub slot-at-spec : {M : Type 1} → statement M
-slot-at-spec =
+pub slot_at_spec : {M : Type 1} → statement M
+slot_at_spec =
     tie.close
     (tie.spec
     (λ c. search rules) (λ c. search rules)
     returns
     (λ c. search rules) (λ c. search rules)
-    returns-2
+    returns_2
     (λ c. search rules) (λ c. search rules)
-    returns-3)
+    returns_3)

@@ -1,16 +1,16 @@
 -- The quotient rounded down, and one more where there is a rest, is the quotient rounded up.
 use borrow.Author.Rules.{rules}
-use Rattle.laws.specs.Quotient.{quotientUp}
+use Rattle.laws.specs.Quotient.{quotient_up}
 use Rattle.unit.proofs.writing.count_sites.Statement.{statement}
 use Rattle.unit.proofs.writing.count_sites.Tie as tie
 
 returns : tie.Need-returns
-unfolding quotientUp
+unfolding quotient_up
 returns c = search rules
 
-returns-2 : tie.Need-returns-2
-unfolding quotientUp
-returns-2 c = search rules
+returns_2 : tie.Need-returns-2
+unfolding quotient_up
+returns_2 c = search rules
 
-pub count-sites-spec : {M : Type 1} → statement M
-count-sites-spec = tie.close (tie.spec (λ c. search rules) (λ c. search rules) returns returns-2)
+pub count_sites_spec : {M : Type 1} → statement M
+count_sites_spec = tie.close (tie.spec (λ c. search rules) (λ c. search rules) returns returns_2)

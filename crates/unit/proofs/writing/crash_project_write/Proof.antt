@@ -7,30 +7,30 @@ use Rattle.unit.proofs.writing.crash_project_write.Tie as tie
 returns : tie.Need-returns
 returns c = let wrote = c.before.before.before.before in filed _ wrote.before.write-numbers.ensures _ c.before.answer.given.1
 
-returns-2 : tie.Need-returns-2
-returns-2 c = let wrote = c.before.before.before in filed _ wrote.before.write-numbers.ensures _ c.enum_told.given.1
+returns_2 : tie.Need-returns-2
+returns_2 c = let wrote = c.before.before.before in filed _ wrote.before.write-numbers.ensures _ c.enum_told.given.1
 
-returns-3 : tie.Need-returns-3
-returns-3 c = let wrote = c.before.before.before in filed _ wrote.before.write-numbers.ensures _ c.enum-told2.given.1
+returns_3 : tie.Need-returns-3
+returns_3 c = let wrote = c.before.before.before in filed _ wrote.before.write-numbers.ensures _ c.enum-told2.given.1
 
-returns-4 : tie.Need-returns-4
-returns-4 c = let wrote = c.before.before.before.before in filed _ wrote.before.write-numbers.ensures _ c.before.answer2.given.1
+returns_4 : tie.Need-returns-4
+returns_4 c = let wrote = c.before.before.before.before in filed _ wrote.before.write-numbers.ensures _ c.before.answer2.given.1
 
-returns-5 : tie.Need-returns-5
-returns-5 c = let wrote = c.before.before.before in filed _ wrote.before.write-numbers.ensures _ c.enum-told3.given.1
+returns_5 : tie.Need-returns-5
+returns_5 c = let wrote = c.before.before.before in filed _ wrote.before.write-numbers.ensures _ c.enum-told3.given.1
 
-pub crash-project-write-spec : {M : Type 1} → statement M
-crash-project-write-spec =
+pub crash_project_write_spec : {M : Type 1} → statement M
+crash_project_write_spec =
     tie.close
     (tie.spec
     (λ c κs. search rules) (λ c. search rules) (λ c. search rules) (λ c. search rules) (λ c. search rules) (λ c. search rules)
     (λ c. search rules)
     returns
     (λ c. search rules)
-    returns-2
+    returns_2
     (λ c. search rules)
-    returns-3
+    returns_3
     (λ c. search rules)
-    returns-4
+    returns_4
     (λ c. search rules)
-    returns-5)
+    returns_5)

@@ -9,26 +9,26 @@ use Rattle.wide.proofs.division.Laws.{pos, short, first, failed, long, passed, p
 use Rattle.wide.proofs.division.digit.Statement.{statement}
 use Rattle.wide.proofs.division.digit.Tie as tie
 
-abbrev invariant-loop : tie.invariant-loop
-invariant-loop rest next d d1 d0 q₀ r₀ q r = (q * d1 + r ≡ rest) × (rest * 2 ^ 32 + next < q * d + d)
+abbrev invariant_loop : tie.invariant_loop
+invariant_loop rest next d d1 d0 q₀ r₀ q r = (q * d1 + r ≡ rest) × (rest * 2 ^ 32 + next < q * d + d)
 
-abbrev decreases-loop : tie.decreases-loop
-decreases-loop rest next d d1 d0 q₀ r₀ q r = q
+abbrev decreases_loop : tie.decreases_loop
+decreases_loop rest next d d1 d0 q₀ r₀ q r = q
 
-loop-holds : tie.Need-loop-init invariant-loop decreases-loop
-loop-holds c = (div-add-mod' _ _, first _ _ _ (c.args.d / 2 ^ 32) (c.args.d % 2 ^ 32) (omega arith) (omega arith) (omega arith))
+loop_holds : tie.Need-loop-init invariant_loop decreases_loop
+loop_holds c = (div-add-mod' _ _, first _ _ _ (c.args.d / 2 ^ 32) (c.args.d % 2 ^ 32) (omega arith) (omega arith) (omega arith))
 
-mul-if2 : tie.Need-overflow-mul-if2 invariant-loop decreases-loop
-mul-if2 c = omega (arith, top c.before.before.loop.q (c.before.before.before.args.d % 2 ^ 32) (omega arith) (omega arith))
+mul_if2 : tie.Need-overflow-mul-if2 invariant_loop decreases_loop
+mul_if2 c = omega (arith, top c.before.before.loop.q (c.before.before.before.args.d % 2 ^ 32) (omega arith) (omega arith))
 
-returns : tie.Need-returns invariant-loop decreases-loop
+returns : tie.Need-returns invariant_loop decreases_loop
 returns c =
     let l = c.before.before.before.loop in
     let a = c.before.before.before.before.args in
     (passed _ _ _ (a.d / 2 ^ 32) (a.d % 2 ^ 32) (omega arith) l.q l.r l.invariant.0 c.if2.true, l.invariant.1, omega arith)
 
 -- where the turn goes on, the estimate is too large
-large : (c : tie.Joined1 invariant-loop decreases-loop) → let l = c.before.before in let a = l.before.args in a.rest * 2 ^ 32 + a.next < l.loop.q * a.d
+large : (c : tie.Joined1 invariant_loop decreases_loop) → let l = c.before.before in let a = l.before.args in a.rest * 2 ^ 32 + a.next < l.loop.q * a.d
 large c =
     let l = c.before.before.loop in
     let a = c.before.before.before.args in
@@ -37,34 +37,34 @@ large c =
     (λ w. long a.rest a.next a.d (a.d / 2 ^ 32) (a.d % 2 ^ 32) (omega arith) l.q (omega arith) (omega arith) w.left)
     c.if1.branch
 
-above : (c : tie.Joined1 invariant-loop decreases-loop) → 0 < c.before.before.loop.q
+above : (c : tie.Joined1 invariant_loop decreases_loop) → 0 < c.before.before.loop.q
 above c = pos _ _ _ (large c)
 
-loop-again : tie.Need-loop-preserved invariant-loop decreases-loop
-loop-again c = again _ _ _ c.before.before.loop.q _ c.before.before.loop.r _ (omega (arith, above c)) c.before.before.loop.invariant.0 (large c)
+loop_again : tie.Need-loop-preserved invariant_loop decreases_loop
+loop_again c = again _ _ _ c.before.before.loop.q _ c.before.before.loop.r _ (omega (arith, above c)) c.before.before.loop.invariant.0 (large c)
 
-returns-2 : tie.Need-returns-2 invariant-loop decreases-loop
-returns-2 c =
+returns_2 : tie.Need-returns-2 invariant_loop decreases_loop
+returns_2 c =
     let l = c.before.loop in
     let s = c.before.before in
     let a = s.args in
     let p =
-    past a.rest a.next a.d (a.d / 2 ^ 32) (a.d % 2 ^ 32) (omega arith) l.q l.r s.requires.1 (omega arith) l.invariant.0 c.loop-test.false in
+    past a.rest a.next a.d (a.d / 2 ^ 32) (a.d % 2 ^ 32) (omega arith) l.q l.r s.requires.1 (omega arith) l.invariant.0 c.loop_test.false in
     (p, l.invariant.1, short _ _ _ l.q s.requires.1 s.requires.2 p)
 
-pub digit-spec : {M : Type 1} → statement M
-digit-spec =
+pub digit_spec : {M : Type 1} → statement M
+digit_spec =
     tie.close
     (tie.spec
-    invariant-loop
-    decreases-loop
+    invariant_loop
+    decreases_loop
     (λ c. omega arith) (λ c. omega arith)
-    loop-holds
-    mul-if2
+    loop_holds
+    mul_if2
     (λ c. omega arith) (λ c. omega arith)
     returns
     (λ c. omega (arith, above c))
     (λ c. omega arith)
     (λ c. omega (arith, above c))
-    loop-again
-    returns-2)
+    loop_again
+    returns_2)

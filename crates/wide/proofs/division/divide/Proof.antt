@@ -9,9 +9,9 @@ use Rattle.wide.proofs.division.divide.Statement.{statement}
 use Rattle.wide.proofs.division.divide.Tie as tie
 
 -- the scaled high part is below the scaled divisor
-high-below : (c : tie.After-struct-known2) → let t = c.before.before in let n = t.before in let a = n.before.args in
+high_below : (c : tie.After-struct-known2) → let t = c.before.before in let n = t.before in let a = n.before.args in
     a.w.high * n.norm.result + t.product.result.high < a.d * n.norm.result
-high-below c =
+high_below c =
     let t = c.before.before in
     let n = t.before in
     let a = n.before.args in
@@ -21,8 +21,8 @@ high-below c =
 low_fits : (c : tie.After-struct-known2) → c.before.before.product.result.low < 2 ^ 64
 low_fits c = omega (arith, c.struct-known2.given)
 
-mul-top : tie.Need-overflow-mul-top
-mul-top c =
+mul_top : tie.Need-overflow-mul-top
+mul_top c =
     let n = c.before.before in
     Fits-of_lt (lt_of_le_of_lt (mul-le-mul_right n.norm.result (le_of_lt n.before.requires)) n.norm.ensures.1)
 
@@ -37,15 +37,15 @@ returns c =
     (scaled a.w.high a.w.low n.norm.result p.result.high p.result.low p.ensures) o.left_over.ensures
     c.digit2.ensures.0 c.digit2.ensures.1
 
-pub divide-spec : {M : Type 1} → statement M
-divide-spec =
+pub divide_spec : {M : Type 1} → statement M
+divide_spec =
     tie.close
     (tie.spec
     (λ c κs. search rules) (λ c. search rules) (λ c κs. search rules)
-    mul-top
-    (λ c. Fits-of_lt (lt_trans (high-below c) c.before.before.before.norm.ensures.1))
-    (λ c κs. (c.before.before.before.norm.ensures.0, high-below c, upper _ (low_fits c)))
-    (λ c κs. (high-below c.before, upper _ (low_fits c.before), c.digit.ensures.0, c.digit.ensures.1, c.digit.ensures.2))
+    mul_top
+    (λ c. Fits-of_lt (lt_trans (high_below c) c.before.before.before.norm.ensures.1))
+    (λ c κs. (c.before.before.before.norm.ensures.0, high_below c, upper _ (low_fits c)))
+    (λ c κs. (high_below c.before, upper _ (low_fits c.before), c.digit.ensures.0, c.digit.ensures.1, c.digit.ensures.2))
     (λ c κs. search rules)
     (λ c. Fits-shl 32 32 tt c.before.before.digit.ensures.2)
     (λ c. Fits-cat 32 32 tt c.before.before.digit.ensures.2 c.digit2.ensures.2)

@@ -8,19 +8,19 @@ use Rattle.wide.proofs.division.divide_by.Statement.{statement}
 use Rattle.wide.proofs.division.divide_by.Tie as tie
 
 -- the high word stays below the divisor. m is 2 ^ s
-still-below : (x high d m : ℕ) → zero < m → high < d → d / m * m ≡ d → x ≡ high / m → x < d / m
-still-below x high d m p h e q = lt_of_le_of_lt (le_of_eq q) ((div-lt_iff_lt-mul {k = m} {x = high} {y = d / m} p).1 (lt_of_lt_of_le h (le_of_eq (sym e))))
+still_below : (x high d m : ℕ) → zero < m → high < d → d / m * m ≡ d → x ≡ high / m → x < d / m
+still_below x high d m p h e q = lt_of_le_of_lt (le_of_eq q) ((div-lt_iff_lt-mul {k = m} {x = high} {y = d / m} p).1 (lt_of_lt_of_le h (le_of_eq (sym e))))
 
-short-requires : tie.Need-short-requires
-short-requires c κs =
+short_requires : tie.Need-short-requires
+short_requires c κs =
     let s = c.before.before in
     let a = s.before in
     let t = s.twos in
     let m = 2 ^ t.result in
-    (still-below _ a.args.w.high a.args.d m (pow_pos t.result) a.requires t.ensures.1 c.shift.ensures.0, c.before.if1.false)
+    (still_below _ a.args.w.high a.args.d m (pow_pos t.result) a.requires t.ensures.1 c.shift.ensures.0, c.before.if1.false)
 
-returns-2 : tie.Need-returns-2
-returns-2 c =
+returns_2 : tie.Need-returns-2
+returns_2 c =
     let t = c.before.before.before in
     let m = 2 ^ t.twos.result in
     let a = t.before.args in
@@ -29,10 +29,10 @@ returns-2 c =
     ∙ div-div-eq-div-mul _ m (a.d / m)
     ∙ ap (λ (x : ℕ). (a.w.high * 2 ^ 64 + a.w.low) / x) (mul_comm m (a.d / m) ∙ t.twos.ensures.1)
 
-pub divide-by-spec : {M : Type 1} → statement M
-divide-by-spec =
+pub divide_by_spec : {M : Type 1} → statement M
+divide_by_spec =
     tie.close
     (tie.spec
     (λ c κs. search rules) (λ c. search rules) (λ c. search rules) (λ c κs. search rules) (λ c. search rules) (λ c κs. search rules)
-    short-requires
-    returns-2)
+    short_requires
+    returns_2)

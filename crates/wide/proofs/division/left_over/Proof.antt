@@ -15,8 +15,8 @@ parts c = spread _ _ _ _ (omega arith)
 most : (c : tie.Start) → c.args.q * (c.args.d % 2 ^ 32) ≤ (2 ^ 32 - 1) * (2 ^ 32 - 1)
 most c = top _ _ c.requires.4 (omega arith)
 
-pub left-over-spec : {M : Type 1} → statement M
-left-over-spec =
+pub left_over_spec : {M : Type 1} → statement M
+left_over_spec =
     tie.close
     (tie.spec
     (λ c. omega (arith, parts c))

@@ -28,5 +28,5 @@ returns c =
     let t = leading_top 64 c.args.d c.requires c.ranges.d.fits in
     rw (shifted (count_leading_zeros 64 c.args.d) (zeros c)) (normal c.args.d t.0 (count_leading_zeros 64 c.args.d) t.2 t.3 t.1)
 
-pub norm-spec : {M : Type 1} → statement M
-norm-spec = tie.close (tie.spec (λ c. omega (arith, zeros c)) (λ c. zeros c) returns)
+pub norm_spec : {M : Type 1} → statement M
+norm_spec = tie.close (tie.spec (λ c. omega (arith, zeros c)) (λ c. zeros c) returns)

@@ -8,8 +8,8 @@ use Rattle.wide.proofs.division.quotient.Tie as tie
 one_word : (high low : ℕ) → high ≡ 0 → low ≡ high * 2 ^ 64 + low
 one_word high low e = omega arith
 
-pub quotient-spec : {M : Type 1} → statement M
-quotient-spec =
+pub quotient_spec : {M : Type 1} → statement M
+quotient_spec =
     tie.close
     (tie.spec
     (λ c. search rules)

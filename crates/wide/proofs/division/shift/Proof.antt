@@ -19,8 +19,8 @@ halves s h =
 split : (a s : ℕ) → s < 64 → Carried a (2 ^ s) (2 ^ (63 - s)) (2 ^ 64)
 split a s h = carried a (2 ^ s) (2 ^ (63 - s)) (2 ^ 64) (halves s h) (pow_pos s) (pow_pos (63 - s))
 
-add-t11 : tie.Need-overflow-add-t11
-add-t11 c =
+add_t11 : tie.Need-overflow-add-t11
+add_t11 c =
     let b = c.before.before.before in
     let k = split b.args.w.high b.args.s b.requires in
     rw k.bits (Fits-of_lt (k.room b.args.w.low (omega (arith, c.struct-known3.given))))
@@ -31,5 +31,5 @@ returns c =
     let k = split b.args.w.high b.args.s b.requires in
     (refl, rw k.bits (k.shifted b.args.w.low))
 
-pub shift-spec : {M : Type 1} → statement M
-shift-spec = tie.close (tie.spec (λ c. search rules) (λ c. search rules) (λ c. search rules) (λ c. search rules) (λ c. search rules) add-t11 returns)
+pub shift_spec : {M : Type 1} → statement M
+shift_spec = tie.close (tie.spec (λ c. search rules) (λ c. search rules) (λ c. search rules) (λ c. search rules) (λ c. search rules) add_t11 returns)

@@ -18,14 +18,14 @@ words high low = omega arith
 left : (c : tie.Start) (x : ℕ) → x % c.args.d < c.args.d
 left c x = mod-lt x (omega (arith, c.requires))
 
-first-digit : (c : tie.After-struct-known3) → let a = c.before.before.before.args in (a.w.high * 2 ^ 32 + a.w.low / 2 ^ 32) / a.d < 2 ^ 32
-first-digit c = let s = c.before.before.before in digit_lt s.args.w.high _ s.args.d s.requires.0 (upper _ (omega (arith, c.struct-known3.given)))
+first_digit : (c : tie.After-struct-known3) → let a = c.before.before.before.args in (a.w.high * 2 ^ 32 + a.w.low / 2 ^ 32) / a.d < 2 ^ 32
+first_digit c = let s = c.before.before.before in digit_lt s.args.w.high _ s.args.d s.requires.0 (upper _ (omega (arith, c.struct-known3.given)))
 
-add-next : tie.Need-overflow-add-next
-add-next c = let s = c.before.before.before in Fits-cat 32 32 tt (lt_trans (left s _) s.requires.1) (mod-lt _ (pow_pos 32))
+add_next : tie.Need-overflow-add-next
+add_next c = let s = c.before.before.before in Fits-cat 32 32 tt (lt_trans (left s _) s.requires.1) (mod-lt _ (pow_pos 32))
 
-add-result : tie.Need-overflow-add-result
-add-result c = let s = c.before.before.before in Fits-cat 32 32 tt (first-digit c) (digit_lt _ _ s.args.d (left s _) (mod-lt _ (pow_pos 32)))
+add_result : tie.Need-overflow-add-result
+add_result c = let s = c.before.before.before in Fits-cat 32 32 tt (first_digit c) (digit_lt _ _ s.args.d (left s _) (mod-lt _ (pow_pos 32)))
 
 returns : tie.Need-returns
 returns c =
@@ -34,15 +34,15 @@ returns c =
     by_parts (w.high * 2 ^ 32 + w.low / 2 ^ 32) (2 ^ 32) (w.low % 2 ^ 32) s.args.d (omega (arith, s.requires))
     ∙ ap (λ (x : ℕ). x / s.args.d) (words w.high w.low)
 
-pub short-spec : {M : Type 1} → statement M
-short-spec =
+pub short_spec : {M : Type 1} → statement M
+short_spec =
     tie.close
     (tie.spec
     (λ c. search rules) (λ c. search rules) (λ c. search rules)
     (λ c. let s = c.before.before in Fits-shl 32 32 tt (lt_trans (left s _) s.requires.1))
-    add-next
+    add_next
     (λ c. search rules)
-    (λ c. Fits-shl 32 32 tt (first-digit c))
+    (λ c. Fits-shl 32 32 tt (first_digit c))
     (λ c. search rules)
-    add-result
+    add_result
     returns)

@@ -43,5 +43,5 @@ returns c =
     let e = divides 64 d in
     (fewer (count_trailing_zeros 64 d) d (trailing_le 64 d) c.requires c.ranges.d.fits e, e)
 
-pub twos-spec : {M : Type 1} → statement M
-twos-spec = tie.close (tie.spec returns)
+pub twos_spec : {M : Type 1} → statement M
+twos_spec = tie.close (tie.spec returns)

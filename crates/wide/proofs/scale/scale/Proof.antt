@@ -7,8 +7,8 @@ use Rattle.wide.proofs.scale.Laws.{fits, large, room, one}
 use Rattle.wide.proofs.scale.scale.Statement.{statement}
 use Rattle.wide.proofs.scale.scale.Tie as tie
 
-plus-requires : tie.Need-plus-requires
-plus-requires c κs =
+plus_requires : tie.Need-plus-requires
+plus_requires c κs =
     let p = c.product in
     let f = c.before.before.ranges in
     room (2 ^ 64 - 1) p.result.high p.result.low _ _ (omega arith) (omega (arith, f.a)) (omega (arith, f.n)) p.ensures
@@ -17,25 +17,25 @@ plus-requires c κs =
 sum : (c : tie.After-plus) → let a = c.before.before.before.args in c.plus.result.high * 2 ^ 64 + c.plus.result.low ≡ a.a * a.n + a.more
 sum c = c.plus.ensures ∙ ap (λ (x : ℕ). x + c.before.before.before.args.more) c.before.product.ensures
 
-returns-2 : tie.Need-returns-2
-returns-2 c =
+returns_2 : tie.Need-returns-2
+returns_2 c =
     let k = c.before.before in
     let w = k.before in
     fits w.plus.result.high w.plus.result.low _ _ c.quotient.result (sum w) c.before.if2.true (omega (arith, k.struct_known.given))
     c.quotient.ensures
 
-returns-3 : tie.Need-returns-3
-returns-3 c =
+returns_3 : tie.Need-returns-3
+returns_3 c =
     let w = c.before.before in
     large w.plus.result.high w.plus.result.low _ _ (sum w) c.if2.false
 
-pub scale-spec : {M : Type 1} → statement M
-scale-spec =
+pub scale_spec : {M : Type 1} → statement M
+scale_spec =
     tie.close
     (tie.spec
     (λ c. one _ _ _ _ c.if1.true c.before.requires (omega (arith, c.before.ranges.a)))
     (λ c κs. search rules)
-    plus-requires
+    plus_requires
     (λ c κs. search rules)
-    returns-2
-    returns-3)
+    returns_2
+    returns_3)

@@ -14,8 +14,8 @@ parts c = let a = c.args in by_parts a.a a.n a.more a.part c.requires.0
 returns : tie.Need-returns
 returns c = let a = c.args in ap (λ (x : ℕ). x / a.other) (parts c) ∙ div-div-eq-div-mul (a.a * a.n + a.more) a.part a.other
 
-pub scale-by-parts-spec : {M : Type 1} → statement M
-scale-by-parts-spec =
+pub scale_by_parts_spec : {M : Type 1} → statement M
+scale_by_parts_spec =
     tie.close
     (tie.spec
     (λ c. search rules) (λ c. omega (arith, parts c)) (λ c. search rules) (λ c. omega arith) (λ c. omega arith) (λ c. search rules)

@@ -3,5 +3,5 @@ use native.Mathlib.Nat.{add-zero}
 use Rattle.wide.proofs.scale.scale_down.Statement.{statement}
 use Rattle.wide.proofs.scale.scale_down.Tie as tie
 
-pub scale-down-spec : {M : Type 1} → statement M
-scale-down-spec = tie.close (tie.spec (λ c. rw c.if1.true) (λ c κs. search rules) (λ c. rw add-zero at c.scale.ensures))
+pub scale_down_spec : {M : Type 1} → statement M
+scale_down_spec = tie.close (tie.spec (λ c. rw c.if1.true) (λ c κs. search rules) (λ c. rw add-zero at c.scale.ensures))
