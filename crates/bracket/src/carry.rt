@@ -7,7 +7,7 @@ use crate::{Bracket, Ratio, span};
 use wide::scale::{Scaled, scale_down, scale_up};
 
 // The two ends after the factors so far, or that one did not fit 64 bits on the way.
-#[derive(Drop)]
+#[derive(Clone, Copy)]
 pub enum CarryAnswer {
     Carried(u64, u64),
     TooLarge,

@@ -1,18 +1,20 @@
 // Brackets: two fractions that an exact figure stands between, and a bracket carried through a list of factors.
+#![tactic(auto)]
+
 pub mod carry;
 
 ghost use Rattle.std.specs.Prelude.{◌≡◌};
 ghost use Rattle.bracket.specs.Ratio.{spanned};
 
 // The fraction num / den.
-#[derive(Drop)]
+#[derive(Clone, Copy)]
 pub struct Ratio {
     pub num: u64,
     pub den: u64,
 }
 
 // The fractions low_num / low_den and high_num / high_den.
-#[derive(Drop)]
+#[derive(Clone, Copy)]
 pub struct Bracket {
     pub low_num: u64,
     pub low_den: u64,
@@ -21,7 +23,7 @@ pub struct Bracket {
 }
 
 // What a call that makes a bracket answers.
-#[derive(Drop)]
+#[derive(Clone, Copy)]
 pub enum BracketAnswer {
     Between(Bracket),
     OutOfRange,

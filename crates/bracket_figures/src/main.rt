@@ -1,4 +1,6 @@
 // Prints some brackets, the low and the high of each in whole millionths. The stored output was made by the reference.
+#![tactic(auto)]
+
 use bracket::BracketAnswer;
 use exponential::{exponential, exponential_negative};
 use libc::STDOUT_FILENO;

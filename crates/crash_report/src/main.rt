@@ -1,4 +1,6 @@
 // Reads a project file from standard input and prints its report, or why it is refused.
+#![tactic(auto)]
+
 ghost use Rattle.std.specs.Prelude.{◌≡◌, length};
 ghost use Rattle.crash_report.specs.Printed.{input_room, report_room, text_room, project_text, StartsWith};
 ghost use Rattle.crash_report.specs.Input.{InputWithin};
@@ -18,7 +20,7 @@ const REPORT_ROOM: usize = 4 * (MOST_SITES + 1);
 const TEXT_ROOM: usize = 21 * REPORT_ROOM;
 
 // How many bytes were read, or that a read failed.
-#[derive(Drop)]
+#[derive(Clone, Copy)]
 enum Input {
     Bytes(usize),
     Failed,

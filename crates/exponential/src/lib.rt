@@ -1,4 +1,6 @@
 // Brackets of e^(x / 10000) and e^(-x / 10000), x from 0 to 14: the stored e^i of the whole part times e^f of the rest.
+#![tactic(auto)]
+
 pub mod stored;
 pub mod stored_bracket;
 pub mod taylor;

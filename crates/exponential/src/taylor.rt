@@ -5,7 +5,7 @@ ghost use Rattle.exponential.specs.Taylor.{taylor_low, taylor_high};
 use crate::SCALE;
 
 // A number below and a number above, at the scale.
-#[derive(Drop)]
+#[derive(Clone, Copy)]
 pub struct Ends {
     pub low: u64,
     pub high: u64,

@@ -8,7 +8,7 @@ ghost use Rattle.factors.specs.Edition.{Held};
 use bracket::Ratio;
 
 // What an edition sets and no kind changes.
-#[derive(Drop)]
+#[derive(Clone, Copy)]
 pub struct Coefficients {
     // The share of a segment's crashes that lane and shoulder bear on, in thousandths.
     pub related_share: u64,

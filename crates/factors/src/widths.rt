@@ -11,7 +11,7 @@ use bracket::Ratio;
 
 // A column, in hundred-millionths: the value below A = 400, what each vehicle above 400 adds to it or takes from it, and the
 // value above 2,000.
-#[derive(Drop)]
+#[derive(Clone, Copy)]
 struct Column {
     light: u64,
     adds: u64,
@@ -150,7 +150,7 @@ pub fn lane(share: u64, feet: u64, traffic: u64) -> Ratio
 }
 
 // Of a shoulder's two neighbours, the places of their columns, their widths or their types.
-#[derive(Drop)]
+#[derive(Clone, Copy)]
 struct Neighbours {
     below: u64,
     above: u64,

@@ -1,4 +1,6 @@
 // The header of a project file: what it says of every site, the count of sites, their limits, and the first cause to refuse it.
+#![tactic(auto)]
+
 ghost use Rattle.std.specs.Prelude.{◌≡◌, ◌≤◌, true, length};
 ghost use Rattle.std.proofs.lemmas.List.Edits.{sets};
 ghost use Rattle.site.specs.Rules.{inside, edition_known};
@@ -8,7 +10,7 @@ use site::rules::{are_years_known, is_edition_known};
 use site::words::{put_word, word_at};
 
 // What holds for every site: the edition, the years, and the calibrations in thousandths.
-#[derive(Drop)]
+#[derive(Clone, Copy)]
 pub struct Header {
     pub edition: u64,
     pub years: u64,

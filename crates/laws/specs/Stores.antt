@@ -36,7 +36,7 @@ pub part_stored : {A : Type 0} (l : List A) (i : ℕ) (part a : List A) → i + 
 part_stored l i part a h e =
     let long : length (drop i l) ≤ length l - i = omega (arith, length-drop i l) in
     let room : 0 + length a ≤ length (drop i l) = omega (arith, length-drop i l) in
-    rw (e, part_from l i, drop_of_length-le (drop i l) long, append-nil, sets-eq a (drop i l) 0 room, drop-drop, zero-add, sets-eq a l i h, append_assoc)
+    rw (e, part_from l i, drop_of_length-le (drop i l) long, append-nil, sets-eq a (drop i l) 0 room, drop-drop, zero-add, sets-eq a l i h, append_assoc, append_assoc)
 
 -- a text and the text after it
 pub puts_more : {before between after : List ℕ} {at place end : ℕ} {a b : List ℕ} → Puts before at a place between

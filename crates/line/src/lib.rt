@@ -1,4 +1,6 @@
 // The line of a site: its predicted and expected pairs, four whole numbers of millionths.
+#![tactic(auto)]
+
 pub mod expected;
 
 ghost use Rattle.std.specs.Prelude.{◌≡◌};
@@ -24,7 +26,7 @@ use site::values::Site;
 use site_writer::is_sound;
 
 // What a report has for one site.
-#[derive(Drop)]
+#[derive(Clone, Copy)]
 pub struct Line {
     pub predicted_low: u64,
     pub predicted_high: u64,
@@ -34,7 +36,7 @@ pub struct Line {
 
 // A site's line, or that there is no such edition, that a header value is outside its limits, or that the site is outside its
 // range.
-#[derive(Drop)]
+#[derive(Clone, Copy)]
 pub enum LineAnswer {
     Made(Line),
     EditionUnknown,

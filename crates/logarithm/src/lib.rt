@@ -1,5 +1,7 @@
 // Brackets of ln a, for an a from 1 to 20,000. It is split into n * m + r: its logarithm is the stored one of n, and that of m,
 // and the remainder's.
+#![tactic(auto)]
+
 pub mod stored;
 
 ghost use Rattle.std.specs.Prelude.{◌≡◌, ◌≤◌};

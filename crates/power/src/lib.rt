@@ -1,5 +1,7 @@
 // Brackets of base^(num / den), for a base from 1 to 20,000 and five exponents in hundredths. A base is split into n * m + r:
 // its power is the stored power of n, times that of m, times the remainder's.
+#![tactic(auto)]
+
 pub mod stored;
 
 ghost use Rattle.std.specs.Prelude.{◌≡◌, ◌≤◌, ◌<◌};

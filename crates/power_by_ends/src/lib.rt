@@ -1,5 +1,7 @@
 // Brackets of powers with each end by a walk of its own and scaled in two words, and the call that answers them: `power` as it was
 // before request 5. Two programs alone call it, beside the new form: `rounds` times both, and `power_forms` prints what both answer.
+#![tactic(auto)]
+
 ghost use Rattle.std.specs.Prelude.{◌≡◌, ◌≤◌, ◌<◌};
 ghost use Rattle.power.specs.Exponents.{exponent_at};
 ghost use Rattle.power.specs.Stored.{StoredPowers};

@@ -1,6 +1,8 @@
 // What both forms of the call of a power answer. Standard input is arguments of the call, three eight-byte numbers each, high byte
 // first: base, num and den. Prints two lines for each, what `power` answers and what `power_by_ends` does: the numerators and
 // denominators of the bracket's ends, or that it is out of range. A rest of fewer bytes than three numbers is passed over.
+#![tactic(auto)]
+
 ghost use Rattle.std.specs.Prelude.{◌+◌, ◌<◌, ◌≤◌, length};
 
 use bracket::BracketAnswer;

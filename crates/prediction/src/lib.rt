@@ -1,5 +1,7 @@
 // The predicted pair of a site, in millionths of a crash: for each of its terms an exact start carried through the brackets of the
 // site's factors, and rounded outward. The stored numbers of powers, logarithms and exponentials are lent.
+#![tactic(auto)]
+
 pub mod crossing;
 pub mod rounding;
 pub mod segment;
@@ -22,7 +24,7 @@ use header::Header;
 use site::values::{Site, is_yearly};
 
 // The two ends of a bracket of millionths.
-#[derive(Drop)]
+#[derive(Clone, Copy)]
 pub struct Pair {
     pub low: u64,
     pub high: u64,

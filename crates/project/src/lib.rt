@@ -1,4 +1,6 @@
 // The project file: the scan that finds the first cause to refuse it, from the bytes alone.
+#![tactic(auto)]
+
 ghost use Rattle.std.specs.Prelude.{◌≡◌, ◌≤◌, length};
 ghost use Rattle.header.specs.Header.{header_length};
 ghost use Rattle.project.specs.File.{scan_records};
@@ -9,7 +11,7 @@ use site::values::SiteAnswer;
 use site_reader::read_site;
 
 // The count of sites, or document 01's number and place.
-#[derive(Drop)]
+#[derive(Clone, Copy)]
 pub enum ScanAnswer {
     Accepted(usize),
     Refused(u8, usize),

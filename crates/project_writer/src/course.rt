@@ -8,7 +8,7 @@ use site_writer::{measure_site, put_record};
 
 // The count of bytes written, or why nothing is: an edition that is not known, a header value or the count of sites outside its
 // limits, the index of the first site outside its range, or a buffer shorter than the file.
-#[derive(Drop)]
+#[derive(Clone, Copy)]
 pub enum FileAnswer {
     Written(usize),
     EditionUnknown,
@@ -19,7 +19,7 @@ pub enum FileAnswer {
 
 // How far a walk has come: the sites that are measured and the length of the file so far; the place after what is written;
 // or the answer that it stopped with.
-#[derive(Drop)]
+#[derive(Clone, Copy)]
 pub enum Course {
     Measured(usize, usize),
     Placed(usize),

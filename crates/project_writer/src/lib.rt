@@ -1,4 +1,6 @@
 // The writer of a whole project file from a lent list of sites.
+#![tactic(auto)]
+
 pub mod course;
 
 ghost use Rattle.std.specs.Prelude.{◌≡◌, length};

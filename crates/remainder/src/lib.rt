@@ -1,5 +1,7 @@
 // A number up to 65536 as a product of two up to 256 and a small rest, and bounds of what the rest adds to its logarithm
 // and to its powers, in whole numbers over 10^12.
+#![tactic(auto)]
+
 ghost use Rattle.std.specs.Prelude.{◌≡◌, ◌+◌, ◌*◌, ◌^◌, ◌≤◌, ◌<◌};
 ghost use Rattle.laws.specs.Quotient.{quotient_down, quotient_up, RoundedUp};
 ghost use Rattle.remainder.specs.Split.{split_of, Splits};
@@ -10,7 +12,7 @@ ghost use Rattle.remainder.specs.Remainder.{log_bounds_of, exponential_low, expo
 pub const SCALE: u64 = 1_000_000_000_000;
 
 // The number n * m + r.
-#[derive(Drop)]
+#[derive(Clone, Copy)]
 pub struct Parts {
     pub n: u64,
     pub m: u64,
@@ -18,7 +20,7 @@ pub struct Parts {
 }
 
 // Two numbers between which a value is.
-#[derive(Drop)]
+#[derive(Clone, Copy)]
 pub struct Bounds {
     pub low: u64,
     pub high: u64,

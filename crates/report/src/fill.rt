@@ -23,7 +23,7 @@ use site::values::SiteAnswer;
 use site_reader::read_site;
 
 // A record's line and its length in bytes, or that no record was read.
-#[derive(Drop)]
+#[derive(Clone, Copy)]
 pub enum RecordLine {
     Next(Line, usize),
     Unread,

@@ -1,4 +1,6 @@
 // The report of a project: a line for each site, and the totals. All records are read before the first number is written.
+#![tactic(auto)]
+
 pub mod fill;
 
 ghost use Rattle.std.specs.Prelude.{◌≡◌, ◌≤◌};
@@ -11,7 +13,7 @@ use crate::fill::fill;
 use project::{ScanAnswer, scan};
 
 // The count of numbers written, or document 01's number and place.
-#[derive(Drop)]
+#[derive(Clone, Copy)]
 pub enum ProjectAnswer {
     Reported(usize),
     Refused(u8, usize),

@@ -1,4 +1,6 @@
 // The text of a report and of a refusal, written into a lent buffer. Each function answers the place after what it wrote.
+#![tactic(auto)]
+
 ghost use Rattle.std.specs.Prelude.{◌≡◌, ◌+◌, ◌*◌, ◌≤◌, length};
 ghost use Rattle.std.proofs.lemmas.List.Edits.{sets};
 ghost use Rattle.report_text.specs.Text.{decimal_text, ended_text, line_text, report_text, refusal_text};

@@ -3,6 +3,8 @@
 // one by one, of logarithms and of exponentials at every argument, of lines, each with its record read, and of records that are only
 // read; the seventh is the edition of the records. Prints a sum over all ends of the brackets, and one over all numbers of the lines
 // and the kinds of what was only read, so that none is left out.
+#![tactic(auto)]
+
 ghost use Rattle.std.specs.Prelude.{◌≤◌, ◌<◌, length};
 ghost use Rattle.exponential.specs.Stored.{StoredExponentials};
 ghost use Rattle.logarithm.specs.Stored.{StoredLogarithms};

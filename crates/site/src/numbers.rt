@@ -17,7 +17,7 @@ pub fn number(slot: Slot) -> u64
 }
 
 // The numbers that a segment's factors are made of, and whether its road has a curve.
-#[derive(Drop)]
+#[derive(Clone, Copy)]
 pub struct Segment {
     pub traffic: u64,
     pub length: u64,
@@ -73,7 +73,7 @@ pub fn segment_of(site: Site, traffic: u64) -> Segment
 }
 
 // The numbers that a crossing's factors are made of.
-#[derive(Drop)]
+#[derive(Clone, Copy)]
 pub struct Crossing {
     pub kind: u8,
     pub traffic: u64,

@@ -10,7 +10,7 @@ use crate::values::Slot;
 
 // What a kind says of a field. Ranges are from the first number to the second; the third is the
 // default.
-#[derive(Drop)]
+#[derive(Clone, Copy)]
 pub enum Rule {
     // The kind has no such field, and no bit for it.
     Foreign,
@@ -26,7 +26,7 @@ pub enum Rule {
 
 // Whether a rule is that of every site of the kind, or of a site with a curve: a straight road
 // lacks the fields of a curve.
-#[derive(Drop)]
+#[derive(Clone, Copy)]
 pub enum Entry {
     Always(Rule),
     OnCurve(Rule),

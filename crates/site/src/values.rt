@@ -8,14 +8,14 @@ use crate::rules::{LATER_YEARS, SLOTS, is_absent};
 
 // What a field holds. An absent history, the curve of a straight road, and a field that the kind
 // lacks hold no number.
-#[derive(Drop)]
+#[derive(Clone, Copy)]
 pub enum Slot {
     Absent,
     Number(u16),
 }
 
 // A traffic in each year after the first; a year that is not given holds no number.
-#[derive(Drop)]
+#[derive(Clone, Copy)]
 pub struct Later {
     pub second: Slot,
     pub third: Slot,
@@ -32,7 +32,7 @@ pub struct Later {
 // minor_traffic and end at hazard_rating, a crossing's are traffic, minor_traffic, observed and
 // skew to limited_sight. Kinds above 3 can be held, and no record has one. The later years of each
 // traffic stand last.
-#[derive(Drop)]
+#[derive(Clone, Copy)]
 pub struct Site {
     pub kind: u8,
     pub traffic: Slot,
@@ -190,21 +190,21 @@ pub fn slots_of(site: Site) -> [Slot; SLOTS]
 }
 
 // The site and the length of its record, or document 01's number, at place 0.
-#[derive(Drop)]
+#[derive(Clone, Copy)]
 pub enum SiteAnswer {
     Read(Site, usize),
     Refused(u8),
 }
 
 // The length of a site's record, before any of it is written, or that the edition, the years or the site is outside its range.
-#[derive(Drop)]
+#[derive(Clone, Copy)]
 pub enum Measure {
     Length(usize),
     OutsideRange,
 }
 
 // The length of the record that was written, or document 01's number, at place 0.
-#[derive(Drop)]
+#[derive(Clone, Copy)]
 pub enum WriteAnswer {
     Written(usize),
     Unwritten(u8),

@@ -1,4 +1,6 @@
 // The reader of one site's record.
+#![tactic(auto)]
+
 ghost use Rattle.std.specs.Prelude.{◌≡◌, ◌+◌, ◌-◌, ◌*◌, ◌≤◌, ◌<◌, true, cond, ◌&&◌, length, drop, eqb};
 ghost use Rattle.site.specs.Rules.{last_kind, slot_count, later_years, years_known};
 ghost use Rattle.site.specs.Answers.{read_answer};

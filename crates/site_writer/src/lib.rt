@@ -1,4 +1,6 @@
 // The writer of one site's record.
+#![tactic(auto)]
+
 ghost use Rattle.std.specs.Prelude.{◌≡◌, ◌+◌, ◌*◌, ◌≤◌, ◌<◌, length, drop, true, cond, ◌&&◌, not, ◌∷◌};
 ghost use Rattle.std.proofs.lemmas.List.Edits.{sets};
 ghost use Rattle.site.specs.declared.values.Measure.TheVariants.{Length, OutsideRange};

@@ -1,4 +1,6 @@
 // The calls that C and Rust link: numbers and lent runs of numbers only, none with a precondition.
+#![tactic(auto)]
+
 pub mod brackets;
 mod lent;
 pub mod lines;

@@ -6,7 +6,7 @@ use crate::division::quotient;
 use crate::word::{plus, product};
 
 // A quotient that fits 64 bits. A larger one, and a division by 0, is too large.
-#[derive(Drop)]
+#[derive(Clone, Copy)]
 pub enum Scaled {
     Value(u64),
     TooLarge,

@@ -7,13 +7,13 @@ use Rattle.exponential.specs.ExponentialLaws.{exponential_answers}
 use Rattle.exponential.proofs.exponential.Statement.{statement}
 use Rattle.exponential.proofs.exponential.Tie as tie
 
-returns : tie.Need-returns
+returns : tie.Need-returns-then-x-gt-LIMIT
 unfolding exponential_answer
-returns c = refused (exponential_answers c.before.args.x) (λ l. omega arith)
+returns c = refused (exponential_answers c.args.x) (λ l. omega arith)
 
-returns_2 : tie.Need-returns-2
+returns_2 : tie.Need-returns
 unfolding exponential_answer
-returns_2 c = let s = c.before.before.before in given (exponential_answers s.before.args.x) (omega arith) c.exponential-with.ensures
+returns_2 c = given (exponential_answers c.args.x) (omega arith) c.exponential_with.ensures
 
 pub exponential_spec : {M : Type 1} → statement M
 exponential_spec = tie.close (tie.spec returns (λ c κs. search rules) (λ c κs. search rules) returns_2)

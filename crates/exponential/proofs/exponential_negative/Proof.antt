@@ -7,15 +7,14 @@ use Rattle.exponential.specs.ExponentialLaws.{exponential_negative_answers}
 use Rattle.exponential.proofs.exponential_negative.Statement.{statement}
 use Rattle.exponential.proofs.exponential_negative.Tie as tie
 
-returns : tie.Need-returns
+returns : tie.Need-returns-then-x-gt-LIMIT
 unfolding exponential_negative_answer
-returns c = refused (exponential_negative_answers c.before.args.x) (λ l. omega arith)
+returns c = refused (exponential_negative_answers c.args.x) (λ l. omega arith)
 
-returns_2 : tie.Need-returns-2
+returns_2 : tie.Need-returns
 unfolding exponential_negative_answer
 returns_2 c =
-    let s = c.before.before.before in
-    given (exponential_negative_answers s.before.args.x) (omega arith) c.exponential-negative-with.ensures
+    given (exponential_negative_answers c.args.x) (omega arith) c.exponential_negative_with.ensures
 
 pub exponential_negative_spec : {M : Type 1} → statement M
 exponential_negative_spec = tie.close (tie.spec returns (λ c κs. search rules) (λ c κs. search rules) returns_2)

@@ -8,7 +8,7 @@ use Rattle.exponential.proofs.exponential_negative_with.Tie as tie
 
 returns : tie.Need-returns
 unfolding exp_neg_bracket
-returns c = ap reciprocal c.exponential-with.ensures
+returns c = ap reciprocal c.exponential_with-b.ensures
 
 pub exponential_negative_with_spec : {M : Type 1} → statement M
 exponential_negative_with_spec = tie.close (tie.spec (λ c κs. search rules) returns)

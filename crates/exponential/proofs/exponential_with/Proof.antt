@@ -8,11 +8,10 @@ use borrow.Author.Rules.{rules}
 use Rattle.exponential.proofs.exponential_with.Statement.{statement}
 use Rattle.exponential.proofs.exponential_with.Tie as tie
 
-found : (c : tie.After-taylor) → let a = c.before.before.args in let t = c.taylor.result in
+found : (c : tie.After-taylor-t) → let a = c.args in let t = c.taylor-t.result in
     Ends a.x (get_or a.stored.now (a.x / 10000) 0) t.low t.high
 found c =
-    let s = c.before.before in
-    ends s.requires.1 (s.requires.0.entry (s.args.x / 10000) (omega arith)) c.taylor.ensures.0 c.taylor.ensures.1
+    ends c.requires.1 (c.requires.0.entry (c.args.x / 10000) (omega arith)) c.taylor-t.ensures.0 c.taylor-t.ensures.1
 
 pub exponential_with_spec : {M : Type 1} → statement M
 exponential_with_spec =
@@ -22,4 +21,4 @@ exponential_with_spec =
     (λ c κs. (scale_positive, (found c).low_fits))
     (λ c. omega (arith, (found c.before).next_fits))
     (λ c κs. (scale_positive, (found c.before).high_fits))
-    (λ c. rw (c.before.times_down.ensures, c.times-up.ensures) (found c.before.before).bracket_is))
+    (λ c. rw (c.times_down.ensures, c.times_up.ensures) (found c.before.before).bracket_is))

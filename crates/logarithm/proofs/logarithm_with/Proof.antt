@@ -7,12 +7,8 @@ use Rattle.logarithm.proofs.logarithm_with.Tie as tie
 returns : tie.Need-returns
 unfolding logarithm_bracket logarithm_low logarithm_high
 returns c =
-    let h = c.before in
-    let l = h.before.before.before in
-    let b = l.before.before in
-    let s = b.before.before in
-    rw (l.before.Stored-low.ensures.0, l.stored-low2.ensures.0, h.before.stored-high.ensures.0, h.stored-high2.ensures.0)
-    (rw (b.log-bounds.ensures.0, s.split.ensures.0))
+    rw (c.Stored-low.ensures.0, c.stored_low-2.ensures.0, c.stored_high.ensures.0, c.stored_high-2.ensures.0)
+    (rw (c.log_bounds-rest.ensures.0, c.split-s.ensures.0))
 
 pub logarithm_with_spec : {M : Type 1} → statement M
 logarithm_with_spec =

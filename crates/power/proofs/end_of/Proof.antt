@@ -10,14 +10,14 @@ use Rattle.power.proofs.Fitting.{end_fits, with_one}
 use Rattle.power.proofs.end_of.Statement.{statement}
 use Rattle.power.proofs.end_of.Tie as tie
 
-scale_by_parts_requires : tie.Need-scale-by-parts-requires
+scale_by_parts_requires : tie.Need-scale_by_parts-more-requires
 scale_by_parts_requires c κs = let p = c.requires in let f = end_fits p.0 p.1 p.2 in (lit< tt, lit< tt, f.0, f.1)
 
-is : (c : tie.After-scale-by-parts) → let a = c.before.args in a.product + c.scale-by-parts.result ≡ rounded a.up a.product a.remainder scale
-is c = with_one _ _ _ _ c.before.requires.2.from c.scale-by-parts.ensures
+is : (c : tie.After-scale_by_parts-more) → let a = c.args in a.product + c.scale_by_parts-more.result ≡ rounded a.up a.product a.remainder scale
+is c = with_one _ _ _ _ c.requires.2.from c.scale_by_parts-more.ensures
 
-add_result : tie.Need-overflow-add-result
-add_result c = let p = c.before.requires in omega (arith, is c, end_small p.0 p.1 p.2)
+add_result : tie.Need-overflow_add-result
+add_result c = let p = c.requires in omega (arith, is c, end_small p.0 p.1 p.2)
 
 pub end_of_spec : {M : Type 1} → statement M
 end_of_spec =

@@ -7,14 +7,14 @@ use Rattle.remainder.proofs.exponential_high.Statement.{statement}
 use Rattle.remainder.proofs.exponential_high.Tie as tie
 
 -- how large the terms are, where they have been found
-square_up : (c : tie.After-up) → c.up.result ≤ 8000001
-square_up c = square_small c.before.requires c.up.ensures.1.near
+square_up : (c : tie.After-up-square) → c.up-square.result ≤ 8000001
+square_up c = square_small c.before.requires c.up-square.ensures.1.near
 
-cube_up : (c : tie.After-up2) → c.up2.result ≤ 10668
-cube_up c = let s = c.before in cube_small s.before.requires (square_up s) c.up2.ensures.1.near
+cube_up : (c : tie.After-up-cube) → c.up-cube.result ≤ 10668
+cube_up c = let s = c.before in cube_small s.before.requires (square_up s) c.up-cube.ensures.1.near
 
-fourth_up : (c : tie.After-up3) → c.up3.result ≤ 13
-fourth_up c = fourth_small c.before.before.before.requires (cube_up c.before) c.up3.ensures.1.near
+fourth_up : (c : tie.After-up-fourth) → c.up-fourth.result ≤ 13
+fourth_up c = fourth_small c.before.before.before.requires (cube_up c.before) c.up-fourth.ensures.1.near
 
 returns : tie.Need-returns
 unfolding exponential_high

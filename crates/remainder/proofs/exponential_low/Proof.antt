@@ -9,7 +9,7 @@ use borrow.Author.Rules.{rules}
 use Rattle.remainder.proofs.exponential_low.Statement.{statement}
 use Rattle.remainder.proofs.exponential_low.Tie as tie
 
-add_result_3 : tie.Need-overflow-add-result-3
+add_result_3 : tie.Need-overflow_add-result-3
 add_result_3 c =
     let square = square_small c.requires (down_near (c.args.x * c.args.x) (2 * scale) (lit< tt)) in
     omega (arith, square, cube_small c.requires square (down_near _ _ (lit< tt)))

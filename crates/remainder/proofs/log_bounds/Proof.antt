@@ -17,7 +17,7 @@ returns c =
     let b = u.before in
     let N = b.args.product in
     let r = b.args.rest in
-    let high = c.with-cube.ensures ∙ ap with_cube u.up_from.ensures.0 ∙ sym (log_high_with_cube N r b.requires) in
+    let high = c.with_cube.ensures ∙ ap with_cube u.up_from-twice.ensures.0 ∙ sym (log_high_with_cube N r b.requires) in
     (both N r refl high, (log_low_small N r b.requires, rw high (log_high_small N r b.requires)))
 
 pub log_bounds_spec : {M : Type 1} → statement M
@@ -26,5 +26,5 @@ log_bounds_spec =
     (tie.spec
     (λ c. search rules) (λ c. search rules) (λ c. search rules) (λ c. search rules) (λ c. search rules)
     (λ c κs. (omega arith, refl))
-    (λ c κs. twice_small c.before.requires c.up_from.ensures.1)
+    (λ c κs. twice_small c.before.requires c.up_from-twice.ensures.1)
     returns)

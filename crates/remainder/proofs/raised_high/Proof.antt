@@ -11,7 +11,7 @@ small c = let p = c.before.requires in part_small p.1 p.0 c.up.ensures.1.near
 returns : tie.Need-returns
 returns c =
     let u = c.before in
-    (rw (← u.up.ensures.0) c.exponential-high.ensures, rw c.exponential-high.ensures (exponential_high_is _ (small u)).near_one)
+    (rw (← u.up.ensures.0) c.exponential_high.ensures, rw c.exponential_high.ensures (exponential_high_is _ (small u)).near_one)
 
 pub raised_high_spec : {M : Type 1} → statement M
 raised_high_spec =

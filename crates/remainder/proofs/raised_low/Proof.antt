@@ -6,11 +6,11 @@ use Rattle.remainder.specs.RemainderLaws.{part_fits, part_small}
 use Rattle.remainder.proofs.raised_low.Statement.{statement}
 use Rattle.remainder.proofs.raised_low.Tie as tie
 
-exponential_low_requires : tie.Need-exponential-low-requires
+exponential_low_requires : tie.Need-exponential_low-requires
 exponential_low_requires c κs = part_small c.requires.1 c.requires.0 (down_near _ _ c.requires.1.positive)
 
 returns : tie.Need-returns
-returns c = let is = c.exponential-low.ensures in (is, rw is (exponential_low_is _ (exponential_low_requires c.before tt)).near_one)
+returns c = let is = c.exponential_low.ensures in (is, rw is (exponential_low_is _ (exponential_low_requires c.before tt)).near_one)
 
 pub raised_low_spec : {M : Type 1} → statement M
 raised_low_spec =

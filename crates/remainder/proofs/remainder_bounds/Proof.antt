@@ -7,8 +7,8 @@ returns : tie.Need-returns
 unfolding remainder_low remainder_high
 returns c =
     let low = c.before in
-    let l = low.before.log-bounds.ensures.0 in
-    (rw (low.raised-low.ensures.0, c.raised-high.ensures.0, l), (low.raised-low.ensures.1, c.raised-high.ensures.1))
+    let l = low.before.log_bounds-log.ensures.0 in
+    (rw (low.raised_low.ensures.0, c.raised_high.ensures.0, l), (low.raised_low.ensures.1, c.raised_high.ensures.1))
 
 pub remainder_bounds_spec : {M : Type 1} → statement M
 remainder_bounds_spec = tie.close (tie.spec (λ c κs. search rules) (λ c κs. search rules) (λ c κs. search rules) returns)

@@ -7,10 +7,10 @@ use Rattle.exponential.proofs.taylor.Laws.{Terms, none, first, next, fit, done}
 use Rattle.exponential.proofs.taylor.taylor.Statement.{statement}
 use Rattle.exponential.proofs.taylor.taylor.Tie as tie
 
-abbrev invariant_loop : tie.invariant_loop
+abbrev invariant_loop : tie.invariant-loop-k
 invariant_loop f low-term₀ high-term₀ low₀ high₀ k₀ low_term high_term low high k = Terms f k low_term high_term low high
 
-abbrev decreases_loop : tie.decreases_loop
+abbrev decreases_loop : tie.decreases-loop-k
 decreases_loop f low-term₀ high-term₀ low₀ high₀ k₀ low_term high_term low high k = 16 - k
 
 pub taylor_spec : {M : Type 1} → statement M
@@ -19,21 +19,21 @@ taylor_spec =
     (tie.spec
     invariant_loop
     decreases_loop
-    (λ c. none c.if1.true)
-    (λ c. first c.before.requires)
+    (λ c. none c.if-f-eq0.true)
+    (λ c. first c.requires)
     (λ c. search rules) (λ c. search rules)
-    (λ c. omega (arith, fit c.before.loop.invariant))
+    (λ c. omega (arith, fit c.loop-k.invariant))
     (λ c. search rules)
-    (λ c. omega (arith, fit c.before.loop.invariant))
+    (λ c. omega (arith, fit c.loop-k.invariant))
     (λ c. search rules)
-    (λ c. omega (arith, fit c.before.loop.invariant))
+    (λ c. omega (arith, fit c.loop-k.invariant))
     (λ c. search rules)
-    (λ c. omega (arith, fit (next c.before.loop.invariant (omega arith))))
-    (λ c. omega (arith, fit (next c.before.loop.invariant (omega arith))))
+    (λ c. omega (arith, fit (next c.loop-k.invariant (omega arith))))
+    (λ c. omega (arith, fit (next c.loop-k.invariant (omega arith))))
     (λ c. search rules) (λ c. search rules)
-    (λ c. next c.before.loop.invariant (omega arith))
-    (λ c. omega (arith, fit c.before.loop.invariant))
-    (λ c. omega (arith, fit c.before.loop.invariant))
-    (λ c. omega (arith, fit c.before.loop.invariant))
-    (λ c. omega (arith, fit c.before.loop.invariant))
-    (λ c. let e : c.before.loop.k ≡ 16 = omega arith in done (rw e at c.before.loop.invariant)))
+    (λ c. next c.loop-k.invariant (omega arith))
+    (λ c. omega (arith, fit c.loop-k.invariant))
+    (λ c. omega (arith, fit c.loop-k.invariant))
+    (λ c. omega (arith, fit c.loop-k.invariant))
+    (λ c. omega (arith, fit c.loop-k.invariant))
+    (λ c. let e : c.loop-k.k ≡ 16 = omega arith in done (rw e at c.loop-k.invariant)))

@@ -6,17 +6,16 @@ use Rattle.logarithm.specs.Stored.{stored_high, stored_high_one, stored_high_sma
 use Rattle.logarithm.proofs.stored.stored_high.Statement.{statement}
 use Rattle.logarithm.proofs.stored.stored_high.Tie as tie
 
-next : (c : tie.After-stored-low) → c.Stored-low.result + 1 ≡ stored_high c.before.before.args.k
+next : (c : tie.After-stored_low) → c.Stored-low.result + 1 ≡ stored_high c.args.k
 next c =
-    let b = c.before.before in
-    let k = b.args.k in
-    let from : 2 ≤ k = omega (arith, c.before.if1.false) in
-    ap (λ (t : ℕ). t + 1) (c.Stored-low.ensures.0 ∙ sym (b.requires.0.low k b.requires.1 b.requires.2)) ∙ b.requires.0.high k from b.requires.2
+    let k = c.args.k in
+    let from : 2 ≤ k = omega (arith, c.if-k-eq1.false) in
+    ap (λ (t : ℕ). t + 1) (c.Stored-low.ensures.0 ∙ sym (c.requires.0.low k c.requires.1 c.requires.2)) ∙ c.requires.0.high k from c.requires.2
 
 pub stored_high_spec : {M : Type 1} → statement M
 stored_high_spec =
     tie.close
     (tie.spec
-    (λ c. (rw c.if1.true (sym stored_high_one), omega arith))
+    (λ c. (rw c.if-k-eq1.true (sym stored_high_one), omega arith))
     (λ c κs. search rules) (λ c. search rules)
-    (λ c. (next c, omega (arith, next c, stored_high_small c.before.before.args.k (omega arith) (omega arith)))))
+    (λ c. (next c, omega (arith, next c, stored_high_small c.args.k (omega arith) (omega arith)))))

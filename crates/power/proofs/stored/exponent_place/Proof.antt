@@ -11,30 +11,28 @@ use Rattle.power.proofs.stored.exponent_place.Tie as tie
 abbrev Passed : (num j : ℕ) → Type 0
 Passed num j = exponent_at j ≡ num → ⊥
 
-abbrev invariant_loop : tie.invariant_loop
+abbrev invariant_loop : tie.invariant-loop-e
 invariant_loop num e₀ e = (e ≤ 5) × ((j : ℕ) → j < e → Passed num j)
 
-abbrev decreases_loop : tie.decreases_loop
+abbrev decreases_loop : tie.decreases-loop-e
 decreases_loop num e₀ e = 5 - e
 
-returns : tie.Need-returns invariant_loop decreases_loop
+returns : tie.Need-returns-then-hundredths-num invariant_loop decreases_loop
 unfolding place_of
 returns c =
-    let b = c.before.before in
-    let l = b.before.loop in
-    sym (place_is exponents b.before.before.args.num l.e b.loop_test.true (sym c.before.hundredths.ensures ∙ c.if1.true) l.invariant.1)
+    let l = c.loop-e in
+    sym (place_is exponents c.args.num l.e c.loop-e-test.true (sym c.hundredths.ensures ∙ c.if-hundredths-num.true) l.invariant.1)
 
-loop_again : tie.Need-loop-preserved invariant_loop decreases_loop
+loop_again : tie.Need-loop-e-preserved invariant_loop decreases_loop
 loop_again c =
-    let l = c.before.before.before in
-    (search rules, below_more (Passed l.before.args.num) l.loop.e l.loop.invariant.1 (λ q. c.if1.false (c.before.hundredths.ensures ∙ q)))
+    (search rules, below_more (Passed c.args.num) c.loop-e.e c.loop-e.invariant.1 (λ q. c.if-hundredths-num.false (c.hundredths.ensures ∙ q)))
 
-returns_2 : tie.Need-returns-2 invariant_loop decreases_loop
+returns_2 : tie.Need-returns invariant_loop decreases_loop
 unfolding place_of
 returns_2 c =
-    let l = c.before.loop in
+    let l = c.loop-e in
     let last : l.e ≡ 5 = omega arith in
-    last ∙ sym (place_none exponents c.before.before.args.num (λ j h. l.invariant.1 j (omega (arith, last))))
+    last ∙ sym (place_none exponents c.args.num (λ j h. l.invariant.1 j (omega (arith, last))))
 
 pub exponent_place_spec : {M : Type 1} → statement M
 exponent_place_spec =

@@ -13,10 +13,9 @@ both k p q l h = rw (l, h)
 
 returns : tie.Need-returns
 returns c =
-    let b = c.before.before in
-    let e = b.args.exponent in
-    let k = b.args.k in
-    let p = b.requires in
+    let e = c.args.exponent in
+    let k = c.args.k in
+    let p = c.requires in
     let low = p.0.low e k p.1 p.2 p.3 in
     let high = p.0.high e k p.1 p.2 p.3 in
     let small = stored_small e k p.1 p.2 p.3 in

@@ -15,19 +15,19 @@ short_requires : tie.Need-short-requires
 short_requires c κs =
     let s = c.before.before in
     let a = s.before in
-    let t = s.twos in
+    let t = s.twos-s in
     let m = 2 ^ t.result in
-    (still_below _ a.args.w.high a.args.d m (pow_pos t.result) a.requires t.ensures.1 c.shift.ensures.0, c.before.if1.false)
+    (still_below _ a.args.w.high a.args.d m (pow_pos t.result) a.requires t.ensures.1 c.shift.ensures.0, c.before.if-odd-ge-BASE.false)
 
-returns_2 : tie.Need-returns-2
+returns_2 : tie.Need-returns
 returns_2 c =
     let t = c.before.before.before in
-    let m = 2 ^ t.twos.result in
+    let m = 2 ^ t.twos-s.result in
     let a = t.before.args in
     c.short.ensures
     ∙ ap (λ (x : ℕ). x / (a.d / m)) c.before.shift.ensures.1
     ∙ div-div-eq-div-mul _ m (a.d / m)
-    ∙ ap (λ (x : ℕ). (a.w.high * 2 ^ 64 + a.w.low) / x) (mul_comm m (a.d / m) ∙ t.twos.ensures.1)
+    ∙ ap (λ (x : ℕ). (a.w.high * 2 ^ 64 + a.w.low) / x) (mul_comm m (a.d / m) ∙ t.twos-s.ensures.1)
 
 pub divide_by_spec : {M : Type 1} → statement M
 divide_by_spec =

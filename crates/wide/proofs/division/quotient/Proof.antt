@@ -13,5 +13,5 @@ quotient_spec =
     tie.close
     (tie.spec
     (λ c. search rules)
-    (λ c. ap (λ (n : ℕ). n / c.before.before.before.args.d) (one_word _ _ c.before.if1.true))
+    (λ c. ap (λ (n : ℕ). n / c.before.before.before.args.d) (one_word _ _ c.before.if-w-eq0.true))
     (λ c κs. search rules) (λ c. search rules))

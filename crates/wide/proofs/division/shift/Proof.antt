@@ -19,11 +19,11 @@ halves s h =
 split : (a s : ℕ) → s < 64 → Carried a (2 ^ s) (2 ^ (63 - s)) (2 ^ 64)
 split a s h = carried a (2 ^ s) (2 ^ (63 - s)) (2 ^ 64) (halves s h) (pow_pos s) (pow_pos (63 - s))
 
-add_t11 : tie.Need-overflow-add-t11
+add_t11 : tie.Need-overflow_add-result
 add_t11 c =
     let b = c.before.before.before in
     let k = split b.args.w.high b.args.s b.requires in
-    rw k.bits (Fits-of_lt (k.room b.args.w.low (omega (arith, c.struct-known3.given))))
+    rw k.bits (Fits-of_lt (k.room b.args.w.low (omega (arith, c.struct_known-3-1.given))))
 
 returns : tie.Need-returns
 returns c =

@@ -18,13 +18,13 @@ words high low = omega arith
 left : (c : tie.Start) (x : ℕ) → x % c.args.d < c.args.d
 left c x = mod-lt x (omega (arith, c.requires))
 
-first_digit : (c : tie.After-struct-known3) → let a = c.before.before.before.args in (a.w.high * 2 ^ 32 + a.w.low / 2 ^ 32) / a.d < 2 ^ 32
-first_digit c = let s = c.before.before.before in digit_lt s.args.w.high _ s.args.d s.requires.0 (upper _ (omega (arith, c.struct-known3.given)))
+first_digit : (c : tie.After-struct_known-3-1) → let a = c.before.before.before.args in (a.w.high * 2 ^ 32 + a.w.low / 2 ^ 32) / a.d < 2 ^ 32
+first_digit c = let s = c.before.before.before in digit_lt s.args.w.high _ s.args.d s.requires.0 (upper _ (omega (arith, c.struct_known-3-1.given)))
 
-add_next : tie.Need-overflow-add-next
+add_next : tie.Need-overflow_add-next
 add_next c = let s = c.before.before.before in Fits-cat 32 32 tt (lt_trans (left s _) s.requires.1) (mod-lt _ (pow_pos 32))
 
-add_result : tie.Need-overflow-add-result
+add_result : tie.Need-overflow_add-result
 add_result c = let s = c.before.before.before in Fits-cat 32 32 tt (first_digit c) (digit_lt _ _ s.args.d (left s _) (mod-lt _ (pow_pos 32)))
 
 returns : tie.Need-returns

@@ -4,4 +4,4 @@ use Rattle.wide.proofs.scale.scale_down.Statement.{statement}
 use Rattle.wide.proofs.scale.scale_down.Tie as tie
 
 pub scale_down_spec : {M : Type 1} → statement M
-scale_down_spec = tie.close (tie.spec (λ c. rw c.if1.true) (λ c κs. search rules) (λ c. rw add-zero at c.scale.ensures))
+scale_down_spec = tie.close (tie.spec (λ c. rw c.if-d-eq0.true) (λ c κs. search rules) (λ c. rw add-zero at c.scale.ensures))
