@@ -79,9 +79,9 @@ module _ (x : SignedExponent) (within : size x ≤ stored_limit) where
   unfolding stored_bracket
   stored_stands = rounded_outward_stands stored_scale (lit< tt) stored_depth _ _ (signed_under-≤-over x (omega arith))
 
-  stored_width : RelativeWidth stored_width 1 (stored_bracket x)
+  stored_width_lem : RelativeWidth stored_width 1 (stored_bracket x)
   unfolding stored_bracket fraction
-  stored_width =
+  stored_width_lem =
       let o = signed_exp_over stored_depth x in
       let near = rounded_outward_near stored_scale stored_depth nearness (λ d. signed_exp_under d x) (λ d. signed_exp_over d x) (signed_near x within) in
       let large = ≤-ceiling stored_scale o.num o.den fewest_units o.pos (large_over x within) in
@@ -89,7 +89,7 @@ module _ (x : SignedExponent) (within : size x ≤ stored_limit) where
       record { width = omega (arith, close (stored_bracket x).low_num (stored_bracket x).high_num (omega arith) large near) }
 
   pub stored_promised : StoredPromised x (stored_bracket x)
-  stored_promised = record { stands = stored_stands; width = stored_width }
+  stored_promised = record { stands = stored_stands; width = stored_width_lem }
 
 -- its high end bounds it
 pub stored_high_bounds : (x : SignedExponent) → (stored_bracket x).high_num * (stored_high x).den ≤ (stored_high x).num * (stored_bracket x).high_den

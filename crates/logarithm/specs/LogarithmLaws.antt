@@ -127,9 +127,9 @@ module _ (a : ℕ) (from : 1 ≤ a) (to : a ≤ 20000) where
       high_within : decimal 12 (logarithm_high a) ≤ᶠ whole 21
       high_within = unfold decimal whole fraction in omega (arith, logarithm_high_small)
 
-  pub logarithm_width : AbsoluteWidth logarithm_width (logarithm_bracket a)
+  pub logarithm_width_lem : AbsoluteWidth logarithm_width (logarithm_bracket a)
   unfolding logarithm_width logarithm_bracket
-  logarithm_width = record { width = omega (arith, logarithm_near) }
+  logarithm_width_lem = record { width = omega (arith, logarithm_near) }
 
   -- an end is at most 10, over at most 10^12
   pub logarithm_sizes : EndSizes (logarithm_bracket a)
@@ -142,4 +142,4 @@ module _ (a : ℕ) (from : 1 ≤ a) (to : a ≤ 20000) where
   }
 
   pub logarithm_standing : StandingLogarithm a (logarithm_bracket a)
-  logarithm_standing = record { stands = logarithm_stands; narrow = logarithm_width }
+  logarithm_standing = record { stands = logarithm_stands; narrow = logarithm_width_lem }

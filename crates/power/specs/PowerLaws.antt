@@ -120,12 +120,12 @@ module _ (A p q : ℕ) (from : 1 ≤ A) (to : A ≤ 65536) (e : Exponent p q) wh
       by_half (yes to_half) = nearer _ (lit≤ tt) (ends 3833 6021 (remainder_near_to_half _ _ p q parts.rest e to_half) roundings_any)
       by_half (no above) = by_rest (omega arith) (split_rest A) refl
 
-  pub power_width : RelativeWidth power_width 1 (power_bracket A p q)
+  pub power_width_lem : RelativeWidth power_width 1 (power_bracket A p q)
   unfolding power_width power_bracket
-  power_width = let w = ends_near in record { width = omega (arith, w.near, w.first-≤, power_in_order) }
+  power_width_lem = let w = ends_near in record { width = omega (arith, w.near, w.first-≤, power_in_order) }
 
   pub power_standing : StandingPower A p q (power_bracket A p q)
-  power_standing = record { stands = power_stands; narrow = power_width }
+  power_standing = record { stands = power_stands; narrow = power_width_lem }
 
   -- HOW LARGE THE LOW END IS
 

@@ -314,9 +314,9 @@ module _ (edition years : ℕ) (s : List ℕ) (a : Accepted edition years s) whe
       }
 
   -- the later values of a traffic
-  later_years : (b later : ℕ) (values : List ℕ) → later ≤ later_years → later_allowed later values ≡ true
+  later_years_lem : (b later : ℕ) (values : List ℕ) → later ≤ later_years → later_allowed later values ≡ true
       → ((i : ℕ) → word (drop (2 * i) values) ≡ value_at years b (suc i) s) → LaterYears years s b later (later_read later_years later values)
-  later_years b later values few right at =
+  later_years_lem b later values few right at =
       record {
         value_is = λ i h. later_given_lem later_years later values few i h ∙ ap Number (at i);
         at_least = λ i h. rw (← at i) (leb-true 1 (word (drop (2 * i) values)) (and_left _ _ (allowed_at later values right i h)));
@@ -325,8 +325,8 @@ module _ (edition years : ℕ) (s : List ℕ) (a : Accepted edition years s) whe
         not_given = λ i h. later_absent later_years later values i h;
       }
 
-  fields_in : FieldsRead edition years s (site_in edition years s) (length_in edition years s)
-  fields_in =
+  fields_in_lem : FieldsRead edition years s (site_in edition years s) (length_in edition years s)
+  fields_in_lem =
       let c = curved (entries_of edition (kind_in s)) (field_map_in s) in
       let none : (b : ℕ) → bit_at b (field_map_in s) ≡ true → field_in edition s b ≡ lacked → ⊥ = λ b t e. not_both _ t (lacked_unset b e) in
       let both = passes_both edition years s a.passes in
@@ -341,17 +341,17 @@ module _ (edition years : ℕ) (s : List ℕ) (a : Accepted edition years s) whe
         yearly_is = yearly_again edition years s a ∙ sym (yearly_told s);
         later_traffic =
             rw (later_told_lem years s, later_slots_again edition years s a)
-            (later_years 0 (later_in years s) (later_at s) most.0 (and_left (later_allowed (later_in years s) (later_at s)) _ a.later_in) (later_of years s));
+            (later_years_lem 0 (later_in years s) (later_at s) most.0 (and_left (later_allowed (later_in years s) (later_at s)) _ a.later_in) (later_of years s));
         later_minor =
             rw (minor_told years s, minor_slots_again edition years s a)
-            (later_years 1 (later_minor_in years s) (later_minor_at years s) most.1 (and_right (later_allowed (later_in years s) (later_at s)) _ a.later_in) (minor_of years s both));
+            (later_years_lem 1 (later_minor_in years s) (later_minor_at years s) most.1 (and_right (later_allowed (later_in years s) (later_at s)) _ a.later_in) (minor_of years s both));
         length_is = end_of edition years s both (words_standing edition (kind_in s) (field_map_in s) a.passes.head.known none);
       }
 
 -- A RECORD THAT IS READ HAS THE FIELDS OF DOCUMENT 01, bit by bit
 pub fields_read : (edition years : ℕ) (s : List ℕ) (site : Site) (n : ℕ) → read_site edition years s ≡ Read site n → FieldsRead edition years s site n
 fields_read edition years s site n e =
-    let r = reading edition years s site n e in rw (← r.site_is, ← r.length_is) (fields_in edition years s r.accepts)
+    let r = reading edition years s site n e in rw (← r.site_is, ← r.length_is) (fields_in_lem edition years s r.accepts)
 
 -- "Without bit 2 there is no history; a standing 0 is a history of none", of every kind
 pub history_read : (edition years : ℕ) (s : List ℕ) (site : Site) (n : ℕ) → read_site edition years s ≡ Read site n

@@ -147,8 +147,8 @@ module _ (edition years : ℕ) (s : List ℕ) where
     abbrev refused_at : ℕ → ℕ
     refused_at b = bit_number (rules_at edition (kind_in s) true) b (field_map_in s) (fields_in years s)
 
-    refused_at : (b : ℕ) → refused_at b ≡ cond (bit_at b (field_map_in s)) (wrong_number (field_in edition s b) (number_at years b s)) 0
-    refused_at b = rw (wrong_number_lem (field_in edition s b) _, number_of years s both (fields_long edition years s p full) b)
+    refused_at_lem : (b : ℕ) → refused_at b ≡ cond (bit_at b (field_map_in s)) (wrong_number (field_in edition s b) (number_at years b s)) 0
+    refused_at_lem b = rw (wrong_number_lem (field_in edition s b) _, number_of years s both (fields_long edition years s p full) b)
 
     -- a later value that is in its range, and one that is not
     first_later : (i : ℕ) → in_range (field_in edition s 0) (value_at years 0 (suc i) s) ≡ allows traffic (word (drop (2 * i) (later_at s)))
@@ -231,13 +231,13 @@ module _ (edition years : ℕ) (s : List ℕ) where
         where
           right : (c : ℕ) → c < b → bit_at c (field_map_in s) ≡ true
               → (in_range (field_in edition s c) (number_at years c s) ≡ true) × (spells_default (field_in edition s c) (number_at years c s) ≡ false)
-          right c h t = value_taken _ _ (rw t at (sym (refused_at c) ∙ below c h))
+          right c h t = value_taken _ _ (rw t at (sym (refused_at_lem c) ∙ below c h))
 
       field_cause : {number : ℕ} → (number ≡ 0 → ⊥)
           → BitsTell (bits_held (kind_in s)) (rules_at edition (kind_in s) true) (field_map_in s) (fields_in years s) number
           → RecordCause edition years s number
       field_cause ne (none_refused all) = absurd (ne refl)
-      field_cause {number} ne (first_refused some b is below) = by b (right_below b below) _ _ _ refl refl refl (sym (refused_at b) ∙ is)
+      field_cause {number} ne (first_refused some b is below) = by b (right_below b below) _ _ _ refl refl refl (sym (refused_at_lem b) ∙ is)
         where
           by : (b : ℕ) → RightBelow edition years s b → (t i d : Bool) → bit_at b (field_map_in s) ≡ t → in_range (field_in edition s b) (number_at years b s) ≡ i
               → spells_default (field_in edition s b) (number_at years b s) ≡ d → cond t (cond i (cond d 9 0) 8) 0 ≡ number
@@ -267,7 +267,7 @@ module _ (edition years : ℕ) (s : List ℕ) where
     there = omega (arith, r.present, ends passing)
 
     below : (c : ℕ) → c < b → refused_at passing there c ≡ 0
-    below c h = refused_at passing there c ∙ by (bit_at c (field_map_in s)) refl
+    below c h = refused_at_lem passing there c ∙ by (bit_at c (field_map_in s)) refl
       where
         by : (t : Bool) → bit_at c (field_map_in s) ≡ t → cond t (wrong_number (field_in edition s c) (number_at years c s)) 0 ≡ 0
         by true t = rw (r.in_range c h t 0 (some_number years s c), r.not_spelled c h t)
@@ -278,7 +278,7 @@ module _ (edition years : ℕ) (s : List ℕ) where
     field_number number e ne =
         (by_bits edition (kind_in s) (field_map_in s) (fields_in years s) passing.head.known).number
         ∙ refused_first (bits_held (kind_in s)) (rules_at edition (kind_in s) true) (field_map_in s) (fields_in years s) number b (each_has_bit edition (kind_in s) true) ne
-        (among edition (kind_in s) b (r.map_right.none_lacked b stood)) (refused_at passing there b ∙ rw stood e) below
+        (among edition (kind_in s) b (r.map_right.none_lacked b stood)) (refused_at_lem passing there b ∙ rw stood e) below
 
     outside_told : (i : ℕ) → i < numbers_in years s b → in_range (field_in edition s b) (value_at years b i s) ≡ false → Tried edition years s 8
     outside_told i h o = by (all_later_allowed years s) refl i h o
