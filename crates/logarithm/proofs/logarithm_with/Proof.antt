@@ -7,7 +7,7 @@ use Rattle.logarithm.proofs.logarithm_with.Tie as tie
 returns : tie.Need-returns
 unfolding logarithm_bracket logarithm_low logarithm_high
 returns c =
-    rw (c.Stored-low.ensures.0, c.stored_low-2.ensures.0, c.stored_high.ensures.0, c.stored_high-2.ensures.0)
+    rw (c.stored_low.ensures.0, c.stored_low-2.ensures.0, c.stored_high.ensures.0, c.stored_high-2.ensures.0)
     (rw (c.log_bounds-rest.ensures.0, c.split-s.ensures.0))
 
 pub logarithm_with_spec : {M : Type 1} → statement M

@@ -6,11 +6,11 @@ use Rattle.logarithm.specs.Stored.{stored_high, stored_high_one, stored_high_sma
 use Rattle.logarithm.proofs.stored.stored_high.Statement.{statement}
 use Rattle.logarithm.proofs.stored.stored_high.Tie as tie
 
-next : (c : tie.After-stored_low) → c.Stored-low.result + 1 ≡ stored_high c.args.k
+next : (c : tie.After-stored_low) → c.stored_low.result + 1 ≡ stored_high c.args.k
 next c =
     let k = c.args.k in
     let from : 2 ≤ k = omega (arith, c.if-k-eq1.false) in
-    ap (λ (t : ℕ). t + 1) (c.Stored-low.ensures.0 ∙ sym (c.requires.0.low k c.requires.1 c.requires.2)) ∙ c.requires.0.high k from c.requires.2
+    ap (λ (t : ℕ). t + 1) (c.stored_low.ensures.0 ∙ sym (c.requires.0.low k c.requires.1 c.requires.2)) ∙ c.requires.0.high k from c.requires.2
 
 pub stored_high_spec : {M : Type 1} → statement M
 stored_high_spec =
