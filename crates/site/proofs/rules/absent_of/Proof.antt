@@ -5,8 +5,8 @@ use borrow.Author.Rules.{rules}
 use Rattle.site.proofs.rules.absent_of.Statement.{statement}
 use Rattle.site.proofs.rules.absent_of.Tie as tie
 
-returns_5 : tie.Need-returns-5
-returns_5 c = sym (ap absent_of c.before.rule.given.1)
+returns_5 : tie.Need-returns-in-Default
+returns_5 c = sym (ap absent_of c.in-Default.is)
 
 pub absent_of_spec : {M : Type 1} → statement M
 absent_of_spec =

@@ -13,32 +13,27 @@ use Rattle.site.proofs.rules.entries_of.Tie as tie
 same_kind : (edition : ℕ) {kind kind' : ℕ} → kind ≡ kind' → entries_of edition kind' ≡ entries_of edition kind
 same_kind edition e = ap (entries_of edition) (sym e)
 
-returns : tie.Need-returns
+returns : tie.Need-returns-in-0
 unfolding entries_of
-returns c = c.segment-entries.ensures ∙ same_kind c.before.before.args.edition c.before.match.keys1
+returns c = c.segment_entries.ensures ∙ same_kind c.args.edition c.in-0.is
 
-returns_2 : tie.Need-returns-2
+returns_2 : tie.Need-returns-in-1
 unfolding entries_of
 returns_2 c =
-    rw c.before.sight-rule.ensures at c.crossing-entries.ensures
-    ∙ same_kind c.before.before.before.args.edition c.before.before.match.keys2
+    rw c.sight_rule.ensures at c.crossing_entries.ensures
+    ∙ same_kind c.args.edition c.in-1.is
 
-returns_3 : tie.Need-returns-3
+returns_3 : tie.Need-returns-in-2
 unfolding entries_of
 returns_3 c =
-    rw c.before.sight-rule2.ensures at c.crossing-entries2.ensures
-    ∙ same_kind c.before.before.before.args.edition c.before.before.match.keys3
+    rw c.sight_rule-in-2.ensures at c.crossing_entries-in-2.ensures
+    ∙ same_kind c.args.edition c.in-2.is
 
-returns_4 : tie.Need-returns-4
+returns_4 : tie.Need-returns-in_default
 unfolding entries_of
 returns_4 c =
-    let e : c.before.before.args.kind ≡ 3 = omega (
-      arith,
-      c.before.match.rest.1,
-      c.before.match.rest.0.1,
-      c.before.match.rest.0.0.1,
-    ) in
-    c.crossing-entries3.ensures ∙ same_kind c.before.before.args.edition e
+    let e : c.args.kind ≡ 3 = omega arith in
+    c.crossing_entries-in_default.ensures ∙ same_kind c.args.edition e
 
 pub entries_of_spec : {M : Type 1} → statement M
 entries_of_spec =

@@ -9,8 +9,8 @@ use Rattle.site.proofs.words.bit_of.Tie as tie
 
 returns : tie.Need-returns
 returns c = (
-  ap (λ (b : ℕ). c.before.args.map % (1 + b)) c.bits_of.ensures.0,
-  omega (arith, digit_most c.bits_of.result c.before.args.map),
+  ap (λ (b : ℕ). c.args.map % (1 + b)) c.bits_of.ensures.0,
+  omega (arith, digit_most c.bits_of.result c.args.map),
 )
 
 pub bit_of_spec : {M : Type 1} → statement M

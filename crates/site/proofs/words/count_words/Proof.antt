@@ -10,23 +10,22 @@ use Rattle.site.proofs.ReadSteps.{words_turn, words_done}
 use Rattle.site.proofs.words.count_words.Statement.{statement}
 use Rattle.site.proofs.words.count_words.Tie as tie
 
-abbrev invariant_loop : tie.invariant_loop
+abbrev invariant_loop : tie.invariant-loop-i
 invariant_loop map rules rest₀ count₀ i₀ rest count i = (i ≤ slot_count) × (count ≤ i) × (count + words (drop i rules) rest ≡ words rules map)
 
-abbrev decreases_loop : tie.decreases_loop
+abbrev decreases_loop : tie.decreases-loop-i
 decreases_loop map rules rest₀ count₀ i₀ rest count i = slot_count - i
 
-loop_again : tie.Need-loop-preserved invariant_loop decreases_loop
+loop_again : tie.Need-loop-i-preserved invariant_loop decreases_loop
 loop_again c =
-    let turn = c.before.before.before in
-    let count = c.before.field-words.ensures.0 in (
+    let count = c.field_words-count.ensures.0 in (
       omega arith,
       omega arith,
-      words_turn _ _ _ turn.before.before.requires _ _ _ _ _ turn.loop_test.true count c.rest_of.ensures turn.before.loop.invariant.2,
+      words_turn _ _ _ c.requires _ _ _ _ _ c.loop-i-test.true count c.rest_of-rest.ensures c.loop-i.invariant.2,
     )
 
 returns : tie.Need-returns invariant_loop decreases_loop
-returns c = (words_done _ _ _ c.before.before.requires _ _ c.loop_test.false c.before.loop.invariant.2, omega arith)
+returns c = (words_done _ _ _ c.requires _ _ c.loop-i-test.false c.loop-i.invariant.2, omega arith)
 
 pub count_words_spec : {M : Type 1} → statement M
 count_words_spec =

@@ -7,21 +7,20 @@ use borrow.Author.Rules.{rules}
 use Rattle.site.proofs.words.word_at.Statement.{statement}
 use Rattle.site.proofs.words.word_at.Tie as tie
 
-mul_result : tie.Need-overflow-mul-result
+mul_result : tie.Need-overflow_mul-result
 mul_result c =
-    let at = c.before.before.before.args.at in
-    let bytes = c.before.shared-slice-known2.given in
+    let at = c.args.at in
+    let bytes = c.shared_slice_known-2-1.given in
     omega (arith, c.wide.ensures, bytes at, bytes (at + 1))
 
-add_result : tie.Need-overflow-add-result
+add_result : tie.Need-overflow_add-result
 add_result c =
-    let high = c.before.before in
-    let at = high.before.before.before.args.at in
-    let bytes = c.before.shared-slice-known3.given in
-    omega (arith, high.wide.ensures, c.wide2.ensures, bytes at, bytes (at + 1))
+    let at = c.args.at in
+    let bytes = c.shared_slice_known-3-1.given in
+    omega (arith, c.wide.ensures, c.wide-2.ensures, bytes at, bytes (at + 1))
 
 returns : tie.Need-returns
-returns c = simp (get_or-drop, add-zero, c.before.before.wide.ensures, c.wide2.ensures)
+returns c = simp (get_or-drop, add-zero, c.wide.ensures, c.wide-2.ensures)
 
 pub word_at_spec : {M : Type 1} → statement M
 word_at_spec =
