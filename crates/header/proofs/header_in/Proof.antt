@@ -5,8 +5,7 @@ use Rattle.header.proofs.header_in.Tie as tie
 
 returns : tie.Need-returns
 returns c =
-    let years = c.before.before in
-    simp (years.before.before.wide.ensures, years.wide2.ensures, c.before.word_at.ensures, c.word-at2.ensures)
+    simp (c.wide-edition.ensures, c.wide-years.ensures, c.word_at-segments.ensures, c.word_at-crossings.ensures)
 
 pub header_in_spec : {M : Type 1} → statement M
 header_in_spec =

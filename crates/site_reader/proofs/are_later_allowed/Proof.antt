@@ -11,37 +11,30 @@ use Rattle.site_reader.proofs.LaterSteps.{allowed_start, allowed_hit, allowed_ne
 use Rattle.site_reader.proofs.are_later_allowed.Statement.{statement}
 use Rattle.site_reader.proofs.are_later_allowed.Tie as tie
 
-abbrev invariant_loop : tie.invariant_loop
+abbrev invariant_loop : tie.invariant-loop-i
 invariant_loop later s at i₀ i = (i ≤ later) × (later_allowed (later - i) (drop (at + 2 * i) s) ≡ later_allowed later (drop at s))
 
-abbrev decreases_loop : tie.decreases_loop
+abbrev decreases_loop : tie.decreases-loop-i
 decreases_loop later s at i₀ i = later - i
 
-returns : tie.Need-returns invariant_loop decreases_loop
+returns : tie.Need-returns-then-not-does_allow invariant_loop decreases_loop
 returns c =
-    let word = c.before.before in
-    let turn = word.before in
-    let loop = turn.before.loop in
-    let start = turn.before.before.before in
-    let told = c.before.does-allow.ensures ∙ ap (allows traffic) word.word_at.ensures in
-    allowed_hit start.args.later start.args.s.now start.args.at loop.i _ loop.invariant.1 turn.loop_test.true _ told (not-true _ c.if1.true)
+    let loop = c.loop-i in
+    let told = c.does_allow.ensures ∙ ap (allows traffic) c.word_at.ensures in
+    allowed_hit c.args.later c.args.s.now c.args.at loop.i _ loop.invariant.1 c.loop-i-test.true _ told c.if-not-does_allow.true
 
-loop_again : tie.Need-loop-preserved invariant_loop decreases_loop
+loop_again : tie.Need-loop-i-preserved invariant_loop decreases_loop
 loop_again c =
-    let word = c.before.before in
-    let turn = word.before in
-    let loop = turn.before.loop in
-    let start = turn.before.before.before in
-    let told = c.before.does-allow.ensures ∙ ap (allows traffic) word.word_at.ensures in (
+    let loop = c.loop-i in
+    let told = c.does_allow.ensures ∙ ap (allows traffic) c.word_at.ensures in (
       omega arith,
-      allowed_next start.args.later start.args.s.now start.args.at loop.i _ loop.invariant.1 turn.loop_test.true _ told (not-false _ c.if1.false),
+      allowed_next c.args.later c.args.s.now c.args.at loop.i _ loop.invariant.1 c.loop-i-test.true _ told c.if-not-does_allow.false,
     )
 
-returns_2 : tie.Need-returns-2 invariant_loop decreases_loop
+returns_2 : tie.Need-returns invariant_loop decreases_loop
 returns_2 c =
-    let loop = c.before.loop in
-    let start = c.before.before.before in
-    allowed_end start.args.later start.args.s.now start.args.at loop.i _ loop.invariant.1 c.loop_test.false
+    let loop = c.loop-i in
+    allowed_end c.args.later c.args.s.now c.args.at loop.i _ loop.invariant.1 c.loop-i-test.false
 
 pub are_later_allowed_spec : {M : Type 1} → statement M
 are_later_allowed_spec =
@@ -49,7 +42,7 @@ are_later_allowed_spec =
     (tie.spec
     invariant_loop
     decreases_loop
-    (λ c. (omega arith, allowed_start c.before.args.later c.before.args.s.now c.before.args.at))
+    (λ c. (omega arith, allowed_start c.args.later c.args.s.now c.args.at))
     (λ c. omega arith) (λ c. omega arith) (λ c κs. omega arith) (λ c κs. search rules)
     returns
     (λ c. omega arith) (λ c. omega arith)

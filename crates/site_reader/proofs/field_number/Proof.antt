@@ -7,17 +7,17 @@ use borrow.Author.Rules.{rules}
 use Rattle.site_reader.proofs.field_number.Statement.{statement}
 use Rattle.site_reader.proofs.field_number.Tie as tie
 
-word_at_requires : tie.Need-word-at-requires
+word_at_requires : tie.Need-word_at-requires
 word_at_requires c κs =
-    let args = c.before.before.before.args in
-    let b = eqb-true (bit_of args.rule args.map) 1 (sym c.before.does-stand.ensures ∙ c.if1.true) in
+    let args = c.args in
+    let b = eqb-true (bit_of args.rule args.map) 1 (sym c.does_stand.ensures ∙ c.if-does_stand.true) in
     omega arith
 
-returns : tie.Need-returns
-returns c = simp (← c.before.before.before.does-stand.ensures, c.before.before.if1.true, c.value-number.ensures, c.before.word_at.ensures)
+returns : tie.Need-returns-then-does_stand
+returns c = simp (← c.does_stand.ensures, c.if-does_stand.true, c.value_number.ensures, c.word_at.ensures)
 
-returns_2 : tie.Need-returns-2
-returns_2 c = simp (← c.before.does-stand.ensures, c.if1.false)
+returns_2 : tie.Need-returns-else-does_stand
+returns_2 c = simp (← c.does_stand.ensures, c.if-does_stand.false)
 
 pub field_number_spec : {M : Type 1} → statement M
 field_number_spec =

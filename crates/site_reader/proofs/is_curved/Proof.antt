@@ -11,29 +11,26 @@ use Rattle.site.specs.declared.rules.Rule.{Rule}
 use Rattle.site_reader.proofs.is_curved.Statement.{statement}
 use Rattle.site_reader.proofs.is_curved.Tie as tie
 
-abbrev invariant_loop : tie.invariant_loop
+abbrev invariant_loop : tie.invariant-loop-i
 invariant_loop map entries rest₀ i₀ rest i = (i ≤ slot_count) × (curved (drop i entries) rest ≡ curved entries map)
 
-abbrev decreases_loop : tie.decreases_loop
+abbrev decreases_loop : tie.decreases-loop-i
 decreases_loop map entries rest₀ i₀ rest i = slot_count - i
 
-returns : tie.Need-returns invariant_loop decreases_loop
+returns : tie.Need-returns-then-curve_bit_stands invariant_loop decreases_loop
 returns c =
-    let turn = c.before.before.before in
-    let stands = c.before.curve-bit-stands.ensures in
-    any_hit _ _ _ _ _ _ _ turn.before.before.requires turn.before.loop.invariant.1 _ _ turn.loop_test.true stands c.if1.true
+    let stands = c.curve_bit_stands.ensures in
+    any_hit _ _ _ _ _ _ _ c.requires c.loop-i.invariant.1 _ _ c.loop-i-test.true stands c.if-curve_bit_stands.true
 
-loop_again : tie.Need-loop-preserved invariant_loop decreases_loop
+loop_again : tie.Need-loop-i-preserved invariant_loop decreases_loop
 loop_again c =
-    let bit = c.before.before.before in
-    let turn = bit.before.before in
-    let loop = turn.before.loop in
-    let rest = c.rest_of.ensures ∙ ap (λ (x : Rule). rest_of x loop.rest) c.before.rule-of.ensures in
-    let miss = any_miss _ _ _ _ _ _ _ turn.before.before.requires loop.invariant.1 _ _ _ turn.loop_test.true in
-    (omega arith, miss bit.curve-bit-stands.ensures c.before.before.if1.false rest)
+    let loop = c.loop-i in
+    let rest = c.rest_of-rest.ensures ∙ ap (λ (x : Rule). rest_of x loop.rest) c.rule_of.ensures in
+    let miss = any_miss _ _ _ _ _ _ _ c.requires loop.invariant.1 _ _ _ c.loop-i-test.true in
+    (omega arith, miss c.curve_bit_stands.ensures c.if-curve_bit_stands.false rest)
 
-returns_2 : tie.Need-returns-2 invariant_loop decreases_loop
-returns_2 c = any_end _ _ _ _ _ _ _ c.before.before.requires c.before.loop.invariant.1 c.loop_test.false
+returns_2 : tie.Need-returns invariant_loop decreases_loop
+returns_2 c = any_end _ _ _ _ _ _ _ c.requires c.loop-i.invariant.1 c.loop-i-test.false
 
 pub is_curved_spec : {M : Type 1} → statement M
 is_curved_spec =

@@ -13,31 +13,27 @@ use Rattle.site_reader.proofs.LaterSteps.{number_at_lem, read_start, read_more}
 use Rattle.site_reader.proofs.later_at.Statement.{statement}
 use Rattle.site_reader.proofs.later_at.Tie as tie
 
-abbrev invariant_loop : tie.invariant_loop
+abbrev invariant_loop : tie.invariant-loop-i
 invariant_loop later s at slots₀ i₀ slots i = (i ≤ later) × (slots ≡ later_read later_years i (drop at s))
 
-abbrev decreases_loop : tie.decreases_loop
+abbrev decreases_loop : tie.decreases-loop-i
 decreases_loop later s at slots₀ i₀ slots i = later - i
 
 same : {i later : ℕ} (s : List ℕ) → i ≡ later → later_read later_years i s ≡ later_read later_years later s
 same s e = rw e
 
-loop_again : tie.Need-loop-preserved invariant_loop decreases_loop
+loop_again : tie.Need-loop-i-preserved invariant_loop decreases_loop
 loop_again c =
-    let turn = c.before in
-    let loop = turn.before.loop in
-    let start = turn.before.before.before in
-    let value = c.word_at.ensures ∙ number_at_lem start.args.s.now start.args.at loop.i in (
+    let loop = c.loop-i in
+    let value = c.word_at.ensures ∙ number_at_lem c.args.s.now c.args.at loop.i in (
       omega arith,
-      rw (loop.invariant.1, value, add-one) (read_more later_years loop.i _ (omega (arith, start.requires.0))),
+      rw (loop.invariant.1, value, add-one) (read_more later_years loop.i _ (omega (arith, c.requires.0))),
     )
 
 returns : tie.Need-returns invariant_loop decreases_loop
 returns c =
-    let end = c.before in
-    let loop = end.before.loop in
-    let start = end.before.before.before in
-    let e : loop.i ≡ start.args.later = omega (arith, loop.invariant.0, end.loop_test.false) in
+    let loop = c.loop-i in
+    let e : loop.i ≡ c.args.later = omega (arith, loop.invariant.0, c.loop-i-test.false) in
     c.later_of.ensures ∙ ap later_from_slots (loop.invariant.1 ∙ same _ e)
 
 pub later_at_spec : {M : Type 1} → statement M
@@ -48,7 +44,7 @@ later_at_spec =
     decreases_loop
     (λ c. (omega arith, read_start _))
     (λ c. omega arith) (λ c. omega arith) (λ c κs. omega arith) (λ c. omega arith)
-    (λ c. omega (arith, c.before.before.before.before.requires.0))
+    (λ c. omega (arith, c.requires.0))
     (λ c. omega arith) (λ c. omega arith)
     loop_again
     (λ c κs. search rules)

@@ -13,11 +13,11 @@ past_two later minor zero z o = absurd (z refl)
 past_two later minor (suc zero) z o = absurd (o refl)
 past_two later minor (suc (suc count)) z o = refl
 
-returns_2 : tie.Need-returns-2
-returns_2 c = (rw c.if2.true, omega arith)
+returns_2 : tie.Need-returns-then-count-eq1
+returns_2 c = (rw c.if-count-eq1.true, omega arith)
 
-returns_3 : tie.Need-returns-3
-returns_3 c = (past_two _ _ _ c.before.if1.false c.if2.false, omega arith)
+returns_3 : tie.Need-returns-else-count-eq1
+returns_3 c = (past_two _ _ _ c.if-count-eq0.false c.if-count-eq1.false, omega arith)
 
 pub place_of_spec : {M : Type 1} → statement M
 place_of_spec =

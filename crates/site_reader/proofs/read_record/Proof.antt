@@ -17,31 +17,28 @@ use Rattle.site_reader.proofs.RecordSteps.{map_tells, two_words, one_year_tells,
 use Rattle.site_reader.proofs.read_record.Statement.{statement}
 use Rattle.site_reader.proofs.read_record.Tie as tie
 
-abbrev entry : tie.After-rules-read → tie.Start
+abbrev entry : tie.After-rules_read-rules → tie.Start
 entry rules = rules.before.before
 
 -- the rules are those of the part, one for each slot
-rules_are : (c : tie.After-rules-read) → let a = (entry c).args in rules_in a.edition a.part.now ≡ c.rules-read.result
-rules_are c = let parts = (entry c).requires.3 in rw (parts.kind_is, parts.map_is) (sym c.rules-read.ensures)
+rules_are : (c : tie.After-rules_read-rules) → let a = (entry c).args in rules_in a.edition a.part.now ≡ c.rules_read-rules.result
+rules_are c = let parts = (entry c).requires.3 in rw (parts.kind_is, parts.map_is) (sym c.rules_read-rules.ensures)
 
-rules_count : (c : tie.After-rules-read) → length c.rules-read.result ≡ slot_count
-rules_count c = let a = (entry c).args in ap length c.rules-read.ensures ∙ (tested_rules a.edition a.kind _ (entry c).requires.2).count
+rules_count : (c : tie.After-rules_read-rules) → length c.rules_read-rules.result ≡ slot_count
+rules_count c = let a = (entry c).args in ap length c.rules_read-rules.ensures ∙ (tested_rules a.edition a.kind _ (entry c).requires.2).count
 
-returns : tie.Need-returns
+returns : tie.Need-returns-then-fault-ne0
 returns c =
-    let rules = c.before.before in
-    let a = (entry rules).args in
+    let a = (entry c.before.before).args in
     let told =
-    map_tells a.edition a.years a.part.now _ _ _ _ (entry rules).requires.3 (rules_are rules) _ c.before.map-number.ensures c.if1.true in
-    simp (told, ne_eqb _ _ c.if1.true)
+    map_tells a.edition a.years a.part.now _ _ _ _ (entry c.before.before).requires.3 (rules_are c.before.before) _ c.map_number-fault.ensures c.if-fault-ne0.true in
+    simp (told, ne_eqb _ _ c.if-fault-ne0.true)
 
-returns_2 : tie.Need-returns-2
+returns_2 : tie.Need-returns-then-is_yearly_in_one
 returns_2 c =
-    let none = c.before.before in
-    let rules = none.before.before in
-    let a = (entry rules).args in
-    let one = sym c.before.is-yearly-in-one.ensures ∙ c.if2.true in
-    simp (one_year_tells a.edition a.years a.part.now _ _ _ _ (entry rules).requires.3 (rules_are rules) _ none.before.map-number.ensures none.if1.false one)
+    let a = (entry c.before.before.before.before).args in
+    let one = sym c.is_yearly_in_one.ensures ∙ c.if-is_yearly_in_one.true in
+    simp (one_year_tells a.edition a.years a.part.now _ _ _ _ (entry c.before.before.before.before).requires.3 (rules_are c.before.before.before.before) _ c.map_number-fault.ensures c.if-fault-ne0.false one)
 
 -- what is known where the fields' space is tried
 record Tried (edition years : ℕ) (part : List ℕ) (kind map yearly : ℕ) (rules : List Rule) (later minor count : ℕ) : Type 0 where
@@ -53,56 +50,45 @@ record Tried (edition years : ℕ) (part : List ℕ) (kind map yearly : ℕ) (ru
   two : 2 ≤ words rules map
   long : length_in edition years part ≡ 3 + 2 * (count + (later + minor))
 
-tried : (c : tie.After-count-words) → let minor = c.before in let later = minor.before in let one = later.before in let none = one.before.before in
-    let rules = none.before.before in let a = (entry rules).args in
-    Tried a.edition a.years a.part.now a.kind a.map a.yearly rules.rules-read.result later.later_in.result
-    minor.minor_later.result c.count-words.result
+tried : (c : tie.After-count_words) → let a = (entry c.before.before.before.before.before.before.before).args in
+    Tried a.edition a.years a.part.now a.kind a.map a.yearly c.rules_read-rules.result c.later_in-later.result
+    c.minor_later-minor.result c.count_words.result
 tried c =
-    let minor = c.before in
-    let later = minor.before in
-    let one = later.before in
-    let none = one.before.before in
-    let rules = none.before.before in
-    let a = (entry rules).args in
-    let parts = (entry rules).requires.3 in
-    let are = rules_are rules in
-    let fault = none.before.map-number.ensures in
-    let several = sym one.before.is-yearly-in-one.ensures ∙ one.if2.false in
+    let a = (entry c.before.before.before.before.before.before.before).args in
+    let parts = (entry c.before.before.before.before.before.before.before).requires.3 in
+    let are = rules_are c.before.before.before.before.before.before.before in
+    let fault = c.map_number-fault.ensures in
+    let several = sym c.is_yearly_in_one.ensures ∙ c.if-is_yearly_in_one.false in
     record {
-      told = space_tells a.edition a.years a.part.now _ _ _ _ parts are _ fault none.if1.false several;
-      later_is = later.later_in.ensures.0;
-      minor_is = minor.minor_later.ensures.0;
-      count_is = c.count-words.ensures.0;
-      two = two_words a.edition a.years a.part.now _ _ _ _ parts are _ fault (entry rules).requires.2 none.if1.false;
-      long = rw (c.count-words.ensures.0, minor.minor_later.ensures.0, later.later_in.ensures.0)
+      told = space_tells a.edition a.years a.part.now _ _ _ _ parts are _ fault c.if-fault-ne0.false several;
+      later_is = c.later_in-later.ensures.0;
+      minor_is = c.minor_later-minor.ensures.0;
+      count_is = c.count_words.ensures.0;
+      two = two_words a.edition a.years a.part.now _ _ _ _ parts are _ fault (entry c.before.before.before.before.before.before.before).requires.2 c.if-fault-ne0.false;
+      long = rw (c.count_words.ensures.0, c.minor_later-minor.ensures.0, c.later_in-later.ensures.0)
           (length_told a.edition a.years a.part.now _ _ _ _ parts are);
     }
 
-returns_3 : tie.Need-returns-3
+returns_3 : tie.Need-returns-then-part-count_words
 returns_3 c =
     let t = tried c.before in
-    simp (t.told, lt-ltb _ _ (rw (← t.long) at c.if3.true))
+    simp (t.told, lt-ltb _ _ (rw (← t.long) at c.if-part-count_words.true))
 
-read_present_requires : tie.Need-read-present-requires
+read_present_requires : tie.Need-read_present-requires
 read_present_requires c κs =
     let t = tried c.before in
-    let later = c.before.before.before in
-    let none = later.before.before.before in
-    let left = c.if3.false in (
-      (rules_count none.before.before, later.later_in.ensures.1),
+    let left = c.if-part-count_words.false in (
+      (rules_count c.before.before.before.before.before.before.before.before, c.later_in-later.ensures.1),
       (omega (arith, t.minor_is, t.count_is, t.two, left), omega (arith, t.minor_is, t.count_is, left)),
     )
 
-returns_4 : tie.Need-returns-4
+returns_4 : tie.Need-returns
 returns_4 c =
     let t = tried c.before.before in
-    let later = c.before.before.before.before in
-    let none = later.before.before.before in
-    let rules = none.before.before in
-    let a = (entry rules).args in
-    let present = present_told a.edition a.years a.part.now _ _ _ _ (entry rules).requires.3 (rules_are rules) in
-    simp (t.told, le-ltb _ _ (rw (← t.long) at c.before.if3.false))
-    (c.read-present.ensures ∙ rw t.later_is present)
+    let a = (entry c.before.before.before.before.before.before.before.before.before).args in
+    let present = present_told a.edition a.years a.part.now _ _ _ _ (entry c.before.before.before.before.before.before.before.before.before).requires.3 (rules_are c.before.before.before.before.before.before.before.before.before) in
+    simp (t.told, le-ltb _ _ (rw (← t.long) at c.if-part-count_words.false))
+    (c.read_present.ensures ∙ rw t.later_is present)
 
 pub read_record_spec : {M : Type 1} → statement M
 read_record_spec =

@@ -10,68 +10,58 @@ use Rattle.site_reader.proofs.read_site.Statement.{statement}
 use Rattle.site_reader.proofs.read_site.Tie as tie
 
 -- the edition is known, then the years are
-edition_in : (c : tie.After-are-years-known) → edition_known c.before.before.before.before.args.edition ≡ true
-edition_in c = sym c.before.before.is_edition_known.ensures ∙ not-false _ c.before.if1.false
+edition_in : (c : tie.After-are_years_known) → edition_known c.args.edition ≡ true
+edition_in c = sym c.is_edition_known.ensures ∙ c.if-not-is_edition_known.false
 
-returns : tie.Need-returns
+returns : tie.Need-returns-then-not-is_edition_known
 unfolding read_site refusal_of
-returns c = reads_site _ _ _ _ (simp (sym c.before.is_edition_known.ensures ∙ not-true _ c.if1.true))
+returns c = reads_site _ _ _ _ (simp (sym c.is_edition_known.ensures ∙ c.if-not-is_edition_known.true))
 
-returns_2 : tie.Need-returns-2
+returns_2 : tie.Need-returns-then-not-are_years_known
 unfolding read_site refusal_of
-returns_2 c = reads_site _ _ _ _ (simp (edition_in c.before, sym c.before.are-years-known.ensures ∙ not-true _ c.if2.true))
+returns_2 c = reads_site _ _ _ _ (simp (edition_in c.before, sym c.are_years_known.ensures ∙ c.if-not-are_years_known.true))
 
-returns_3 : tie.Need-returns-3
+returns_3 : tie.Need-returns-then-part-lt3
 unfolding read_site refusal_of
 returns_3 c =
-    let years = c.before in
     reads_site _ _ _ _
-    (simp (edition_in years.before, sym years.before.are-years-known.ensures ∙ not-false _ years.if2.false, lt-ltb _ _ c.if3.true))
+    (simp (edition_in c.before.before, sym c.are_years_known.ensures ∙ c.if-not-are_years_known.false, lt-ltb _ _ c.if-part-lt3.true))
 
-returns_4 : tie.Need-returns-4
+returns_4 : tie.Need-returns-then-kind-gt-LAST_KIND
 unfolding read_site refusal_of
 returns_4 c =
-    let short = c.before.before in
-    let years = short.before in
     reads_site _ _ _ _
     (simp (
-      edition_in years.before,
-      sym years.before.are-years-known.ensures ∙ not-false _ years.if2.false,
-      le-ltb _ _ short.if3.false,
-      lt-ltb _ _ c.if4.true,
+      edition_in c.before.before.before.before,
+      sym c.are_years_known.ensures ∙ c.if-not-are_years_known.false,
+      le-ltb _ _ c.if-part-lt3.false,
+      lt-ltb _ _ c.if-kind-gt-LAST_KIND.true,
     ))
 
-read_record_requires : tie.Need-read-record-requires
+read_record_requires : tie.Need-read_record-requires
 read_record_requires c κs =
-    let map = c.before in
-    let word = map.before in
-    let kind = word.before in
-    let short = kind.before.before in
-    let years = short.before in (
-      sym years.before.are-years-known.ensures ∙ not-false _ years.if2.false,
-      c.yearly-bit.ensures.1,
-      kind.if4.false,
+    (
+      sym c.are_years_known.ensures ∙ c.if-not-are_years_known.false,
+      c.yearly_bit.ensures.1,
+      c.if-kind-gt-LAST_KIND.false,
       record {
         kind_is = refl;
-        map_is = sym (map.field-map.ensures ∙ ap field_map word.word_at.ensures);
-        bit_is = sym (c.yearly-bit.ensures.0 ∙ ap yearly_bit word.word_at.ensures);
+        map_is = sym (c.field_map.ensures ∙ ap field_map c.word_at-whole.ensures);
+        bit_is = sym (c.yearly_bit.ensures.0 ∙ ap yearly_bit c.word_at-whole.ensures);
       },
     )
 
-returns_5 : tie.Need-returns-5
+returns_5 : tie.Need-returns
 unfolding read_site refusal_of
 returns_5 c =
-    let kind = c.before.before.before.before in
-    let short = kind.before.before in
-    let years = short.before in
     reads_site _ _ _ _
     (simp (
-      edition_in years.before,
-      sym years.before.are-years-known.ensures ∙ not-false _ years.if2.false,
-      le-ltb _ _ short.if3.false,
-      le-ltb _ _ kind.if4.false,
+      edition_in c.before.before.before.before.before.before.before.before,
+      sym c.are_years_known.ensures ∙ c.if-not-are_years_known.false,
+      le-ltb _ _ c.if-part-lt3.false,
+      le-ltb _ _ c.if-kind-gt-LAST_KIND.false,
     )
-    c.read-record.ensures)
+    c.read_record.ensures)
 
 pub read_site_spec : {M : Type 1} → statement M
 read_site_spec =

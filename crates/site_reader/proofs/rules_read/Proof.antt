@@ -4,7 +4,7 @@ use Rattle.site_reader.proofs.rules_read.Statement.{statement}
 use Rattle.site_reader.proofs.rules_read.Tie as tie
 
 returns : tie.Need-returns
-returns c = simp (c.settle-rules.ensures, c.before.is-curved.ensures, c.before.before.entries-of.ensures)
+returns c = simp (c.settle_rules.ensures, c.is_curved.ensures, c.entries_of-entries.ensures)
 
 pub rules_read_spec : {M : Type 1} → statement M
 rules_read_spec =

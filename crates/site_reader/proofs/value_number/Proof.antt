@@ -3,20 +3,16 @@ use borrow.Author.Rules.{rules}
 use Rattle.site_reader.proofs.value_number.Statement.{statement}
 use Rattle.site_reader.proofs.value_number.Tie as tie
 
-returns : tie.Need-returns
+returns : tie.Need-returns-then-does_hold
 returns c =
-    let held = c.before in
-    let allowed = held.before.before in
-    simp (← allowed.before.does-allow.ensures, allowed.if1.true, ← held.before.absent-of.ensures, ← held.does-hold.ensures, c.if2.true)
+    simp (← c.does_allow.ensures, c.if-does_allow.true, ← c.absent_of.ensures, ← c.does_hold.ensures, c.if-does_hold.true)
 
-returns_2 : tie.Need-returns-2
+returns_2 : tie.Need-returns-else-does_hold
 returns_2 c =
-    let held = c.before in
-    let allowed = held.before.before in
-    simp (← allowed.before.does-allow.ensures, allowed.if1.true, ← held.before.absent-of.ensures, ← held.does-hold.ensures, c.if2.false)
+    simp (← c.does_allow.ensures, c.if-does_allow.true, ← c.absent_of.ensures, ← c.does_hold.ensures, c.if-does_hold.false)
 
-returns_3 : tie.Need-returns-3
-returns_3 c = simp (← c.before.does-allow.ensures, c.if1.false)
+returns_3 : tie.Need-returns-else-does_allow
+returns_3 c = simp (← c.does_allow.ensures, c.if-does_allow.false)
 
 pub value_number_spec : {M : Type 1} → statement M
 value_number_spec =

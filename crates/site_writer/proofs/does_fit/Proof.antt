@@ -3,8 +3,8 @@ use borrow.Author.Rules.{rules}
 use Rattle.site_writer.proofs.does_fit.Statement.{statement}
 use Rattle.site_writer.proofs.does_fit.Tie as tie
 
-returns_3 : tie.Need-returns-3
-returns_3 c = simp (c.before.before.slot.given.1, c.does-allow.ensures)
+returns_3 : tie.Need-returns-in-Number
+returns_3 c = simp (c.in-Number.is, c.does_allow.ensures)
 
 pub does_fit_spec : {M : Type 1} → statement M
 does_fit_spec =

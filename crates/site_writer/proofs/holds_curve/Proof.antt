@@ -13,31 +13,29 @@ use Rattle.site_writer.proofs.WriteSteps.{walk_next, walk_end}
 use Rattle.site_writer.proofs.holds_curve.Statement.{statement}
 use Rattle.site_writer.proofs.holds_curve.Tie as tie
 
-abbrev invariant_loop : tie.invariant_loop
+abbrev invariant_loop : tie.invariant-loop-i
 invariant_loop entries slots i₀ i = (i ≤ slot_count) × (curve_held (drop i entries) (drop i slots) ≡ curve_held entries slots)
 
-abbrev decreases_loop : tie.decreases_loop
+abbrev decreases_loop : tie.decreases-loop-i
 decreases_loop entries slots i₀ i = slot_count - i
 
-returns : tie.Need-returns invariant_loop decreases_loop
+returns : tie.Need-returns-then-is_held invariant_loop decreases_loop
 unfolding curve_held
 returns c =
-    let turn = c.before.before.before.before in
-    let pre = turn.before.before.requires in
-    let step = walk_next curve_held _ _ _ pre.0 pre.1 (Always Foreign) Absent turn.loop_test.true in
-    rw (sym c.before.is_held_lem.ensures ∙ c.if1.true) at (sym step ∙ turn.before.loop.invariant.1)
+    let pre = c.requires in
+    let step = walk_next curve_held _ _ _ pre.0 pre.1 (Always Foreign) Absent c.loop-i-test.true in
+    rw (sym c.is_held.ensures ∙ c.if-is_held.true) at (sym step ∙ c.loop-i.invariant.1)
 
-loop_again : tie.Need-loop-preserved invariant_loop decreases_loop
+loop_again : tie.Need-loop-i-preserved invariant_loop decreases_loop
 unfolding curve_held
 loop_again c =
-    let turn = c.before.before.before.before in
-    let pre = turn.before.before.requires in
-    let step = walk_next curve_held _ _ _ pre.0 pre.1 (Always Foreign) Absent turn.loop_test.true in
-    (omega arith, rw (sym c.before.is_held_lem.ensures ∙ c.if1.false) at (sym step ∙ turn.before.loop.invariant.1))
+    let pre = c.requires in
+    let step = walk_next curve_held _ _ _ pre.0 pre.1 (Always Foreign) Absent c.loop-i-test.true in
+    (omega arith, rw (sym c.is_held.ensures ∙ c.if-is_held.false) at (sym step ∙ c.loop-i.invariant.1))
 
-returns_2 : tie.Need-returns-2 invariant_loop decreases_loop
+returns_2 : tie.Need-returns invariant_loop decreases_loop
 unfolding curve_held
-returns_2 c = sym (walk_end curve_held _ _ _ c.before.before.requires.0 c.before.before.requires.1 c.loop_test.false) ∙ c.before.loop.invariant.1
+returns_2 c = sym (walk_end curve_held _ _ _ c.requires.0 c.requires.1 c.loop-i-test.false) ∙ c.loop-i.invariant.1
 
 pub holds_curve_spec : {M : Type 1} → statement M
 holds_curve_spec =

@@ -10,33 +10,31 @@ use Rattle.site_writer.proofs.WriteSteps.{walk_end, map_more}
 use Rattle.site_writer.proofs.map_of.Statement.{statement}
 use Rattle.site_writer.proofs.map_of.Tie as tie
 
-abbrev invariant_loop : tie.invariant_loop
+abbrev invariant_loop : tie.invariant-loop-i
 invariant_loop rules slots map₀ i₀ map i = (i ≤ slot_count) × (map ≡ map_of (drop i rules) (drop i slots))
 
-abbrev decreases_loop : tie.decreases_loop
+abbrev decreases_loop : tie.decreases-loop-i
 decreases_loop rules slots map₀ i₀ map i = i
 
-loop_holds : tie.Need-loop-init invariant_loop decreases_loop
+loop_holds : tie.Need-loop-i-init invariant_loop decreases_loop
 unfolding map_of
-loop_holds c = (omega arith, sym (walk_end map_of c.args.t1 c.args.t2 slot_count c.requires.0 c.requires.1 (omega arith)))
+loop_holds c = (omega arith, sym (walk_end map_of c.args.rules c.args.slots slot_count c.requires.0 c.requires.1 (omega arith)))
 
-map_with_requires : tie.Need-map-with-requires invariant_loop decreases_loop
+map_with_requires : tie.Need-map_with-map-requires invariant_loop decreases_loop
 map_with_requires c κs =
-    let start = c.before.before.before.before in
-    omega (arith, map_small start.args.t1 start.args.t2 c.before.before.before.loop.i start.requires.2)
+    omega (arith, map_small c.args.rules c.args.slots c.loop-i.i c.requires.2)
 
-loop_again : tie.Need-loop-preserved invariant_loop decreases_loop
+loop_again : tie.Need-loop-i-preserved invariant_loop decreases_loop
 loop_again c =
-    let at = c.before.before.before.before in
-    let loop = at.loop in
-    let pre = at.before.requires in
+    let loop = c.loop-i in
+    let pre = c.requires in
     let e : loop.i - 1 + 1 ≡ loop.i = omega arith in
-    (omega arith, map_more _ _ (loop.i - 1) pre.0 pre.1 _ _ _ _ (omega arith) (rw e loop.invariant.1) c.map_with.ensures)
+    (omega arith, map_more _ _ (loop.i - 1) pre.0 pre.1 _ _ _ _ (omega arith) (rw e loop.invariant.1) c.map_with-map.ensures)
 
 returns : tie.Need-returns invariant_loop decreases_loop
 returns c =
-    let e : c.before.loop.i ≡ 0 = omega arith in
-    rw e at c.before.loop.invariant.1
+    let e : c.loop-i.i ≡ 0 = omega arith in
+    rw e at c.loop-i.invariant.1
 
 pub map_of_spec : {M : Type 1} → statement M
 map_of_spec =

@@ -12,47 +12,42 @@ use Rattle.site_writer.proofs.WriteSteps.{Putting, putting_start, bytes_length, 
 use Rattle.site_writer.proofs.put_fields.Statement.{statement}
 use Rattle.site_writer.proofs.put_fields.Tie as tie
 
-abbrev invariant_loop : tie.invariant_loop
+abbrev invariant_loop : tie.invariant-loop-i
 invariant_loop buffer₀ at rules slots place₀ i₀ buffer place i =
     (3 ≤ i) × (i ≤ slot_count) × (length buffer ≡ length buffer₀)
     × Putting buffer₀ at (bytes_of (drop 3 rules) (drop 3 slots)) (bytes_of (drop i rules) (drop i slots)) place buffer
 
-abbrev decreases_loop : tie.decreases_loop
+abbrev decreases_loop : tie.decreases-loop-i
 decreases_loop buffer₀ at rules slots place₀ i₀ buffer place i = slot_count - i
 
-loop_holds : tie.Need-loop-init invariant_loop decreases_loop
+loop_holds : tie.Need-loop-i-init invariant_loop decreases_loop
 loop_holds c = (omega arith, omega arith, refl, putting_start _ _ _)
 
-put_field_requires : tie.Need-put-field-requires invariant_loop decreases_loop
+put_field_requires : tie.Need-put_field-place-requires invariant_loop decreases_loop
 put_field_requires c κs =
-    let turn = c.before.before.before in
-    let loop = turn.before.loop in
-    let start = turn.before.before.before in
+    let loop = c.loop-i in
     omega (
       arith,
-      start.requires.2,
+      c.requires.2,
       loop.invariant.2,
       loop.invariant.3.place,
-      bytes_length start.args.t1 start.args.t2 loop.i start.requires.0 start.requires.1 Foreign Absent turn.loop_test.true,
+      bytes_length c.args.rules c.args.slots loop.i c.requires.0 c.requires.1 Foreign Absent c.loop-i-test.true,
     )
 
-loop_again : tie.Need-loop-preserved invariant_loop decreases_loop
+loop_again : tie.Need-loop-i-preserved invariant_loop decreases_loop
 loop_again c =
-    let put = c.before.before in
-    let turn = put.before.before.before.before in
-    let loop = turn.before.loop in
-    let start = turn.before.before.before in (
+    let loop = c.loop-i in
+    (
       omega arith,
       omega arith,
-      put.put-field.auto.1.1.0 ∙ loop.invariant.2,
-      put_more _ _ loop.i start.requires.0 start.requires.1 _ _ _ Foreign Absent turn.loop_test.true loop.invariant.3 put.put-field.ensures,
+      c.put_field-place.auto.slot.1.0 ∙ loop.invariant.2,
+      put_more _ _ loop.i c.requires.0 c.requires.1 _ _ _ Foreign Absent c.loop-i-test.true loop.invariant.3 c.put_field-place.ensures,
     )
 
 returns : tie.Need-returns invariant_loop decreases_loop
 returns c =
-    let loop = c.before.loop in
-    let start = c.before.before.before in
-    put_end _ _ loop.i start.requires.0 start.requires.1 _ _ _ c.loop_test.false loop.invariant.3
+    let loop = c.loop-i in
+    put_end _ _ loop.i c.requires.0 c.requires.1 _ _ _ c.loop-i-test.false loop.invariant.3
 
 pub put_fields_spec : {M : Type 1} → statement M
 put_fields_spec =

@@ -6,8 +6,8 @@ use native.Mathlib.Omega.{arith}
 use Rattle.site_writer.proofs.put_head.Statement.{statement}
 use Rattle.site_writer.proofs.put_head.Tie as tie
 
-same_length : tie.Need-same-length
-same_length c = c.before.before.put_word.auto.1.0 ∙ simp length-set
+same_length : tie.Need-shape_of-buffer
+same_length c = c.put_word.auto.buffer ∙ simp length-set
 
 pub put_head_spec : {M : Type 1} → statement M
 put_head_spec = tie.close (tie.spec (λ c. search rules) (λ c κs. simp length-set (omega arith)) same_length (λ c. search rules))

@@ -12,53 +12,48 @@ use Rattle.site_writer.proofs.LaterSteps.{later_start, later_bytes_next, later_f
 use Rattle.site_writer.proofs.put_later.Statement.{statement}
 use Rattle.site_writer.proofs.put_later.Tie as tie
 
-abbrev invariant_loop : tie.invariant_loop
+abbrev invariant_loop : tie.invariant-loop-i
 invariant_loop later buffer₀ at slots place₀ i₀ buffer place i =
     (i ≤ later) × (length buffer ≡ length buffer₀) × (later_fits (later - i) (drop i slots) ≡ true)
     × Putting buffer₀ at (later_bytes slots) (later_bytes (drop i slots)) place buffer
 
-abbrev decreases_loop : tie.decreases_loop
+abbrev decreases_loop : tie.decreases-loop-i
 decreases_loop later buffer₀ at slots place₀ i₀ buffer place i = later - i
 
-loop_holds : tie.Need-loop-init invariant_loop decreases_loop
+loop_holds : tie.Need-loop-i-init invariant_loop decreases_loop
 loop_holds c =
-    let fit = c.before.requires.2 in
+    let fit = c.requires.2 in
     (omega arith, refl, later_start _ _ ∙ fit, putting_start _ _ _)
 
-put_slot_requires : tie.Need-put-slot-requires invariant_loop decreases_loop
+put_slot_requires : tie.Need-put_slot-place-requires invariant_loop decreases_loop
 put_slot_requires c κs =
-    let turn = c.before.before in
-    let loop = turn.before.loop in
-    let start = turn.before.before.before in
-    let slots = start.args.t2 in
-    let h : loop.i < length slots = omega (arith, start.requires.0, start.requires.1, turn.loop_test.true) in
+    let loop = c.loop-i in
+    let slots = c.args.slots in
+    let h : loop.i < length slots = omega (arith, c.requires.0, c.requires.1, c.loop-i-test.true) in
     omega (
       arith,
-      start.requires.3,
+      c.requires.3,
       loop.invariant.1,
       loop.invariant.3.place,
-      ap length (later_bytes_next start.args.later slots loop.i h),
+      ap length (later_bytes_next c.args.later slots loop.i h),
       length-append (slot_bytes (get_or slots loop.i Absent)) (later_bytes (drop (loop.i + 1) slots)),
     )
 
-loop_again : tie.Need-loop-preserved invariant_loop decreases_loop
+loop_again : tie.Need-loop-i-preserved invariant_loop decreases_loop
 loop_again c =
-    let put = c.before.before in
-    let turn = put.before.before.before in
-    let loop = turn.before.loop in
-    let start = turn.before.before.before in
-    let more = turn.loop_test.true in
-    let h : loop.i < length start.args.t2 = omega (arith, start.requires.0, start.requires.1) in (
+    let loop = c.loop-i in
+    let more = c.loop-i-test.true in
+    let h : loop.i < length c.args.slots = omega (arith, c.requires.0, c.requires.1) in (
       omega arith,
-      put.put-slot.auto.1.0 ∙ loop.invariant.1,
+      c.put_slot-place.auto.buffer ∙ loop.invariant.1,
       later_fits_next _ _ _ more h loop.invariant.2,
-      putting_more loop.invariant.3 (later_bytes_next start.args.later _ loop.i h) put.put-slot.ensures,
+      putting_more loop.invariant.3 (later_bytes_next c.args.later _ loop.i h) c.put_slot-place.ensures,
     )
 
 returns : tie.Need-returns invariant_loop decreases_loop
 returns c =
-    let loop = c.before.loop in
-    putting_end loop.invariant.3 (later_written _ _ loop.i c.loop_test.false loop.invariant.2)
+    let loop = c.loop-i in
+    putting_end loop.invariant.3 (later_written _ _ loop.i c.loop-i-test.false loop.invariant.2)
 
 pub put_later_spec : {M : Type 1} → statement M
 put_later_spec =

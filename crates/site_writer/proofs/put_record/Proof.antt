@@ -12,73 +12,54 @@ use Rattle.site_writer.proofs.WriteWhole.{Found, found, bits_few, spread_long, a
 use Rattle.site_writer.proofs.put_record.Statement.{statement}
 use Rattle.site_writer.proofs.put_record.Tie as tie
 
-held : (c : tie.After-rules-held) → let slots = c.before in
-    Found slots.before.before.before.before.args.edition slots.before.before.before.before.args.site slots.slots-of.result c.rules-held.result
+held : (c : tie.After-rules_held-rules) → Found c.args.edition c.args.site c.slots_of-slots.result c.rules_held-rules.result
 held c =
-    let slots = c.before in
-    found _ _ _ _ (valid_kind _ _ _ slots.before.before.before.before.requires.0) slots.slots-of.ensures c.rules-held.ensures
+    found _ _ _ _ (valid_kind _ _ _ c.requires.0) c.slots_of-slots.ensures c.rules_held-rules.ensures
 
-later_given_requires : tie.Need-later-given-requires
-later_given_requires c κs = (tests _ _ _ c.before.before.before.before.before.requires.0).years_in
+later_given_requires : tie.Need-later_given-later-requires
+later_given_requires c κs = (tests _ _ _ c.requires.0).years_in
 
 -- bit 15
 fifteen : (b : Bool) → cond b 32768 0 ≤ 32768
 fifteen true = omega arith
 fifteen false = omega arith
 
-add_put_head : tie.Need-overflow-add-put-head
+add_put_head : tie.Need-overflow_add-map_of
 add_put_head c =
-    let map = c.before.before in
-    let rules = map.before.before in
-    let small = map_small rules.rules-held.result rules.before.slots-of.result 0 (bits_few (held rules)) in
-    record { fits = omega (arith, map.map_of.ensures, c.bit-of-years.ensures, fifteen c.before.is-yearly.result) }
+    let small = map_small c.rules_held-rules.result c.slots_of-slots.result 0 (bits_few (held c.before.before.before.before)) in
+    record { fits = omega (arith, c.map_of.ensures, c.bit_of_years.ensures, fifteen c.is_yearly.result) }
 
-put_head_requires : tie.Need-put-head-requires
+put_head_requires : tie.Need-put_head-requires
 put_head_requires c κs =
-    let start = c.before.before.before.before.before.before.before.before.before.before in
-    omega (arith, start.requires.1, (record_length _ _ _ start.requires.0).at_least)
+    omega (arith, c.requires.1, (record_length _ _ _ c.requires.0).at_least)
 
-put_spread_requires : tie.Need-put-spread-requires
+put_spread_requires : tie.Need-put_spread-requires
 put_spread_requires c κs =
-    let minor = c.before.before in
-    let traffic = minor.before in
-    let head = traffic.before.before.before in
-    let given = head.before.before.before.before.before in
-    let rules = given.before in
-    let start = rules.before.before.before.before.before in
-    let valid = tests _ _ _ start.requires.0 in
-    let most = given.later_given_lem.ensures.1 in
-    let is = given.later_given_lem.ensures.0 in
-    let few = minor.minor_later.ensures.1 in
-    let slots = traffic.later-slots.ensures in
-    let minor-slots = c.before.later-slots2.ensures in (
-      (search rules, ap length rules.before.slots-of.ensures, most, ap length slots, rw (slots, is) valid.later_traffic),
+    let valid = tests _ _ _ c.requires.0 in
+    let most = c.later_given-later.ensures.1 in
+    let is = c.later_given-later.ensures.0 in
+    let few = c.minor_later.ensures.1 in
+    let slots = c.later_slots.ensures in
+    let minor-slots = c.later_slots-2.ensures in (
+      (search c.before.before.before.before.before.before.before.before.before.before.before.before, ap length c.slots_of-slots.ensures, most, ap length slots, rw (slots, is) valid.later_traffic),
       (
-        (omega arith, ap length minor-slots, rw (minor-slots, minor.minor_later.ensures.0, is) valid.later_minor),
-        rw (slots, minor-slots) (omega (arith, spread_long (held rules), start.requires.1, head.put-head.auto.1.1.0)),
+        (omega arith, ap length minor-slots, rw (minor-slots, c.minor_later.ensures.0, is) valid.later_minor),
+        rw (slots, minor-slots) (omega (arith, spread_long (held c.before.before.before.before.before.before.before.before.before.before.before.before), c.requires.1, c.put_head.auto.map.1.0)),
       ),
     )
 
 returns : tie.Need-returns
 returns c =
-    let put = c.before.before in
-    let minor = put.before.before.before in
-    let traffic = minor.before in
-    let head = traffic.before.before.before in
-    let bits = head.before.before in
-    let given = bits.before.before.before in
-    let rules = given.before in
-    let start = rules.before.before.before.before.before in
-    let map = rw bits.before.is-yearly.ensures at bits.bit-of-years.ensures in
-    all_put (held rules) start.args.buffer.now (bits.before.before.map_of.result + bits.bit-of-years.result)
-    (rw (bits.before.before.map_of.ensures, map)) head.put-head.ensures (rw (traffic.later-slots.ensures, put.before.before.later-slots2.ensures) at put.put-spread.ensures)
+    let map = rw c.is_yearly.ensures at c.bit_of_years.ensures in
+    all_put (held c.before.before.before.before.before.before.before.before.before.before.before.before.before.before.before) c.args.buffer.now (c.map_of.result + c.bit_of_years.result)
+    (rw (c.map_of.ensures, map)) c.put_head.ensures (rw (c.later_slots.ensures, c.later_slots-2.ensures) at c.put_spread.ensures)
 
 pub put_record_spec : {M : Type 1} → statement M
 put_record_spec =
     tie.close
     (tie.spec
     (λ c κs. search rules)
-    (λ c κs. (valid_kind _ _ _ c.before.before.before.before.requires.0, search rules))
+    (λ c κs. (valid_kind _ _ _ c.requires.0, search rules))
     later_given_requires
     (λ c κs. (search rules, search rules, bits_few (held c.before)))
     (λ c κs. search rules) (λ c κs. search rules)

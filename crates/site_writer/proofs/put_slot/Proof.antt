@@ -8,16 +8,15 @@ use Rattle.site_writer.proofs.WriteSteps.{put_none}
 use Rattle.site_writer.proofs.put_slot.Statement.{statement}
 use Rattle.site_writer.proofs.put_slot.Tie as tie
 
-put_word_requires : tie.Need-put-word-requires
-put_word_requires c κs = omega (arith, ap (λ x. length (slot_bytes x)) c.before.before.slot.given.1)
+put_word_requires : tie.Need-put_word-requires
+put_word_requires c κs = omega (arith, ap (λ x. length (slot_bytes x)) c.in-Number.is)
 
-returns : tie.Need-returns
-returns c = put_none _ _ _ (ap slot_bytes c.enum_told.given.1)
+returns : tie.Need-returns-in-Absent
+returns c = put_none _ _ _ (ap slot_bytes c.in-Absent.is)
 
-returns_2 : tie.Need-returns-2
+returns_2 : tie.Need-returns-in-Number
 returns_2 c =
-    let put = c.before.before in
-    rw (ap slot_bytes put.before.before.before.slot.given.1) (record { place_is = refl; stored = put.put_word.ensures })
+    rw (ap slot_bytes c.in-Number.is) (record { place_is = refl; stored = c.put_word.ensures })
 
 pub put_slot_spec : {M : Type 1} → statement M
 put_slot_spec =

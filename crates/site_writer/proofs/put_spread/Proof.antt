@@ -37,101 +37,87 @@ all rules slots traffic minor = spread_bytes rules slots (later_bytes traffic) (
 abbrev Reached : List ℕ → List ℕ → List ℕ → ℕ → List ℕ → Type 0
 Reached before whole left at buffer = Putting before 3 whole left at buffer × (length buffer ≡ length before)
 
-first : (c : tie.After-put-field) → let a = c.before.before.before.before.before.args in
+first : (c : tie.After-put_field-after_traffic) → let a = c.args in
     Reached a.buffer.now (all a.t1 a.t2 a.traffic a.minor) (after_traffic a.t1 a.t2 a.traffic a.minor)
-    c.put-field.result c.put-field.new.1.1.0
+    c.put_field-after_traffic.result c.put_field-after_traffic.new.1.1.0
 unfolding spread_bytes
-first c = (putting_more (putting_start _ _ _) refl c.put-field.ensures, c.put-field.auto.1.1.0)
+first c = (putting_more (putting_start _ _ _) refl c.put_field-after_traffic.ensures, c.put_field-after_traffic.auto.slot.1.0)
 
-later : (c : tie.After-put-later) → let a = c.before.before.before.before.before.before.before.before.before.args in
+later : (c : tie.After-put_later-after_later) → let a = c.args in
     Reached a.buffer.now (all a.t1 a.t2 a.traffic a.minor) (after_later a.t1 a.t2 a.minor)
-    c.put-later.result c.put-later.new.1.1.0
+    c.put_later-after_later.result c.put_later-after_later.new.1.1.0
 later c =
     let r = first c.before.before.before.before in
-    (putting_more r.0 refl c.put-later.ensures, c.put-later.auto.1.1.0 ∙ r.1)
+    (putting_more r.0 refl c.put_later-after_later.ensures, c.put_later-after_later.auto.slots.1.0 ∙ r.1)
 
-second : (c : tie.After-put-field2) → let a = c.before.before.before.before.before.before.before.before.before.before.before.before.before.before.before.args in
+second : (c : tie.After-put_field-after_length) → let a = c.args in
     Reached a.buffer.now (all a.t1 a.t2 a.traffic a.minor) (after_length a.t1 a.t2 a.minor)
-    c.put-field2.result c.put-field2.new.1.1.0
+    c.put_field-after_length.result c.put_field-after_length.new.1.1.0
 second c =
     let r = later c.before.before.before.before.before.before in
-    (putting_more r.0 refl c.put-field2.ensures, c.put-field2.auto.1.1.0 ∙ r.1)
+    (putting_more r.0 refl c.put_field-after_length.ensures, c.put_field-after_length.auto.slot.1.0 ∙ r.1)
 
-third : (c : tie.After-put-field3) → let s = c.before.before.before.before.before.before in
-    let a = s.before.before.before.before.before.before.before.before.before.before.before.before.before.before.before.args in
+third : (c : tie.After-put_field-after_minor) → let a = c.args in
     Reached a.buffer.now (all a.t1 a.t2 a.traffic a.minor) (after_minor a.t1 a.t2 a.minor)
-    c.put-field3.result c.put-field3.new.1.1.0
+    c.put_field-after_minor.result c.put_field-after_minor.new.1.1.0
 third c =
     let r = second c.before.before.before.before.before.before in
-    (putting_more r.0 refl c.put-field3.ensures, c.put-field3.auto.1.1.0 ∙ r.1)
+    (putting_more r.0 refl c.put_field-after_minor.ensures, c.put_field-after_minor.auto.slot.1.0 ∙ r.1)
 
-minor_later : (c : tie.After-put-later2) → let s = c.before.before.before.before.before.before.before.before.before.before in
-    let a = s.before.before.before.before.before.before.before.before.before.before.before.before.before.before.before.args in
+minor_later : (c : tie.After-put_later-after_later_minor) → let a = c.args in
     Reached a.buffer.now (all a.t1 a.t2 a.traffic a.minor) (bytes_of (drop 3 a.t1) (drop 3 a.t2))
-    c.put-later2.result c.put-later2.new.1.1.0
+    c.put_later-after_later_minor.result c.put_later-after_later_minor.new.1.1.0
 minor_later c =
     let r = third c.before.before.before.before in
-    (putting_more r.0 refl c.put-later2.ensures, c.put-later2.auto.1.1.0 ∙ r.1)
+    (putting_more r.0 refl c.put_later-after_later_minor.ensures, c.put_later-after_later_minor.auto.slots.1.0 ∙ r.1)
 
-put_field_requires : tie.Need-put-field-requires
+put_field_requires : tie.Need-put_field-after_traffic-requires
 unfolding spread_bytes
 put_field_requires c κs =
-    let start = c.before.before.before.before in
-    let a = start.args in
+    let a = c.args in
     putting_room (field a.t1 a.t2 0) (after_traffic a.t1 a.t2 a.traffic a.minor)
-    (putting_start a.buffer.now 3 (all a.t1 a.t2 a.traffic a.minor)) start.requires.1.1
+    (putting_start a.buffer.now 3 (all a.t1 a.t2 a.traffic a.minor)) c.requires.1.1
 
-put_later_requires : tie.Need-put-later-requires
+put_later_requires : tie.Need-put_later-after_later-requires
 put_later_requires c κs =
     let r = first c.before.before.before in
-    let start = c.before.before.before.before.before.before.before.before in
-    let a = start.args in
-    let pre = start.requires in
+    let a = c.args in
+    let pre = c.requires in
     (pre.0.2, pre.0.3, pre.0.4, putting_room (later_bytes a.traffic) (after_later a.t1 a.t2 a.minor) r.0 (omega (arith, pre.1.1, r.1)))
 
-put_field_requires_2 : tie.Need-put-field-requires-2
+put_field_requires_2 : tie.Need-put_field-after_length-requires
 put_field_requires_2 c κs =
     let r = later c.before.before.before.before.before in
-    let start = c.before.before.before.before.before.before.before.before.before.before.before.before.before.before in
-    let a = start.args in
-    putting_room (field a.t1 a.t2 1) (after_length a.t1 a.t2 a.minor) r.0 (omega (arith, start.requires.1.1, r.1))
+    let a = c.args in
+    putting_room (field a.t1 a.t2 1) (after_length a.t1 a.t2 a.minor) r.0 (omega (arith, c.requires.1.1, r.1))
 
-put_field_requires_3 : tie.Need-put-field-requires-3
+put_field_requires_3 : tie.Need-put_field-after_minor-requires
 put_field_requires_3 c κs =
-    let s = c.before.before.before.before.before in
-    let r = second s in
-    let start = s.before.before.before.before.before.before.before.before.before.before.before.before.before.before.before in
-    let a = start.args in
-    putting_room (field a.t1 a.t2 2) (after_minor a.t1 a.t2 a.minor) r.0 (omega (arith, start.requires.1.1, r.1))
+    let r = second c.before.before.before.before.before in
+    let a = c.args in
+    putting_room (field a.t1 a.t2 2) (after_minor a.t1 a.t2 a.minor) r.0 (omega (arith, c.requires.1.1, r.1))
 
-put_later_requires_2 : tie.Need-put-later-requires-2
+put_later_requires_2 : tie.Need-put_later-after_later_minor-requires
 put_later_requires_2 c κs =
-    let t = c.before.before.before in
-    let r = third t in
-    let s = t.before.before.before.before.before.before in
-    let start = s.before.before.before.before.before.before.before.before.before.before.before.before.before.before.before in
-    let a = start.args in
-    let pre = start.requires in (
+    let r = third c.before.before.before in
+    let a = c.args in
+    let pre = c.requires in (
       pre.1.0.0,
       pre.1.0.1,
       pre.1.0.2,
       putting_room (later_bytes a.minor) (bytes_of (drop 3 a.t1) (drop 3 a.t2)) r.0 (omega (arith, pre.1.1, r.1)),
     )
 
-put_fields_requires : tie.Need-put-fields-requires
+put_fields_requires : tie.Need-put_fields-requires
 put_fields_requires c κs =
-    let m = c.before.before.before in
-    let r = minor_later m in
-    let s = m.before.before.before.before.before.before.before.before.before.before in
-    let start = s.before.before.before.before.before.before.before.before.before.before.before.before.before.before.before in
-    let pre = start.requires in
+    let r = minor_later c.before.before.before in
+    let pre = c.requires in
     (pre.0.0, pre.0.1, omega (arith, r.0.place, pre.1.1, r.1))
 
 returns : tie.Need-returns
 returns c =
-    let put = c.before.before in
-    let r = minor_later put.before.before.before.before in
-    putting_end (putting_more r.0 (sym (append-nil _)) put.put-fields.ensures) refl
+    let r = minor_later c.before.before.before.before.before.before in
+    putting_end (putting_more r.0 (sym (append-nil _)) c.put_fields.ensures) refl
 
 pub put_spread_spec : {M : Type 1} → statement M
 put_spread_spec =

@@ -4,7 +4,7 @@ use Rattle.site_writer.proofs.rules_held.Statement.{statement}
 use Rattle.site_writer.proofs.rules_held.Tie as tie
 
 returns : tie.Need-returns
-returns c = simp (c.settle-rules.ensures, c.before.holds-curve.ensures, c.before.before.entries-of.ensures)
+returns c = simp (c.settle_rules.ensures, c.holds_curve.ensures, c.entries_of-entries.ensures)
 
 pub rules_held_spec : {M : Type 1} → statement M
 rules_held_spec =

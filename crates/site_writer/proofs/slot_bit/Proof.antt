@@ -3,20 +3,17 @@ use borrow.Author.Rules.{rules}
 use Rattle.site_writer.proofs.slot_bit.Statement.{statement}
 use Rattle.site_writer.proofs.slot_bit.Tie as tie
 
-returns_2 : tie.Need-returns-2
+returns_2 : tie.Need-returns-then-does_hold
 returns_2 c =
-    let default = c.before.before in
-    simp (default.before.before.slot.given.1, ← default.absent-of.ensures, ← c.before.does-hold.ensures, c.if1.true)
+    simp (c.in-Number.is, ← c.absent_of.ensures, ← c.does_hold.ensures, c.if-does_hold.true)
 
-returns_3 : tie.Need-returns-3
+returns_3 : tie.Need-returns-else-does_hold
 returns_3 c =
-    let held = c.before.before in
-    let default = held.before in
     simp (
-      default.before.before.slot.given.1,
-      ← default.absent-of.ensures,
-      ← held.does-hold.ensures,
-      c.before.if1.false,
+      c.in-Number.is,
+      ← c.absent_of.ensures,
+      ← c.does_hold.ensures,
+      c.if-does_hold.false,
       c.bits_of.ensures.0,
     )
 

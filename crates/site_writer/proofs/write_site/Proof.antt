@@ -12,37 +12,34 @@ use Rattle.site_writer.proofs.WriteWhole.{edition_refused, years_refused, outsid
 use Rattle.site_writer.proofs.write_site.Statement.{statement}
 use Rattle.site_writer.proofs.write_site.Tie as tie
 
-edition_in : (c : tie.After-are-years-known) → let edition = c.before in edition_known edition.before.before.before.args.edition ≡ true
-edition_in c = sym c.before.before.is_edition_known.ensures ∙ not-false _ c.before.if1.false
+edition_in : (c : tie.After-are_years_known) → edition_known c.args.edition ≡ true
+edition_in c = sym c.is_edition_known.ensures ∙ c.if-not-is_edition_known.false
 
-measured : (c : tie.After-measure) → let years = c.before.before.before in let a = years.before.before.before.before.before.args in
-    Valid a.edition a.years a.site × (c.measure.given.0.0 ≡ length (record_of a.edition a.site))
-measured c = measured_length _ _ _ _ (sym c.before.before.measure-site.ensures.answer_is ∙ c.measure.given.1)
+measured : (c : tie.In-Length-2) → let a = c.args in
+    Valid a.edition a.years a.site × (c.in-Length.n ≡ length (record_of a.edition a.site))
+measured c = measured_length _ _ _ _ (sym c.measure_site-measure.ensures.answer_is ∙ c.in-Length.is)
 
-returns : tie.Need-returns
-returns c = edition_refused _ _ _ _ (sym c.before.is_edition_known.ensures ∙ not-true _ c.if1.true)
+returns : tie.Need-returns-then-not-is_edition_known
+returns c = edition_refused _ _ _ _ (sym c.is_edition_known.ensures ∙ c.if-not-is_edition_known.true)
 
-returns_2 : tie.Need-returns-2
-returns_2 c = years_refused _ _ _ _ (edition_in c.before) (sym c.before.are-years-known.ensures ∙ not-true _ c.if2.true)
+returns_2 : tie.Need-returns-then-not-are_years_known
+returns_2 c = years_refused _ _ _ _ (edition_in c.before) (sym c.are_years_known.ensures ∙ c.if-not-are_years_known.true)
 
-returns_3 : tie.Need-returns-3
+returns_3 : tie.Need-returns-then-buffer-n
 returns_3 c = room_refused _ _ _ _ (measured c.before.before).0 (omega (arith, (measured c.before.before).1))
 
-put_record_requires : tie.Need-put-record-requires
+put_record_requires : tie.Need-put_record-requires
 put_record_requires c κs = let m = measured c.before.before.before in (m.0, omega (arith, m.1))
 
-returns_4 : tie.Need-returns-4
+returns_4 : tie.Need-returns-in-OutsideRange
 returns_4 c =
-    let measure = c.before.before in
-    let years = measure.before in
-    outside _ _ _ _ (edition_in years.before) (sym years.before.are-years-known.ensures ∙ not-false _ years.if2.false)
-    (measured_outside _ _ _ (sym measure.measure-site.ensures.answer_is ∙ c.enum_told.given.1))
+    outside _ _ _ _ (edition_in c.before.before.before) (sym c.are_years_known.ensures ∙ c.if-not-are_years_known.false)
+    (measured_outside _ _ _ (sym c.measure_site-measure.ensures.answer_is ∙ c.in-OutsideRange.is))
 
-returns_5 : tie.Need-returns-5
+returns_5 : tie.Need-returns-else-buffer-n
 returns_5 c =
-    let put = c.before.before in
-    let m = measured put.before.before.before.before in
-    rw (put.put_record.ensures.0, put.put_record.ensures.1) (all_written _ _ _ _ m.0 (omega (arith, m.1)))
+    let m = measured c.before.before.before.before.before.before in
+    rw (c.put_record.ensures.0, c.put_record.ensures.1) (all_written _ _ _ _ m.0 (omega (arith, m.1)))
 
 pub write_site_spec : {M : Type 1} → statement M
 write_site_spec =
