@@ -45,8 +45,8 @@ module _ (header : Header) (sites : â„•) (known : edition_known header.edition â
       }
 
   -- they fit their bytes
-  pub header_bytes : Bytes (header_bytes header sites)
-  header_bytes =
+  pub header_bytes_lem : Bytes (header_bytes header sites)
+  header_bytes_lem =
       let a = admitted header sites e in
       let segments = two_bytes header.segments in
       let crossings = two_bytes header.crossings in

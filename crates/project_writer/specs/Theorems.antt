@@ -20,7 +20,7 @@ use Rattle.site.specs.ReadWrite.{read_write}
 use Rattle.header.specs.declared.Header.{Header}
 use Rattle.header.specs.Header.{header_length, edition_in, header_in, count_in, most_sites, header_bytes}
 use Rattle.header.specs.HeaderLaws.{accepted_header, limits_of}
-use Rattle.header.specs.HeaderBytes.{written_header, header_bytes, header_again}
+use Rattle.header.specs.HeaderBytes.{written_header, header_bytes_lem, header_again}
 use Rattle.project.specs.declared.ScanAnswer.TheVariants.{Accepted, Refused}
 use Rattle.project.specs.File.{years_in, after_record, taken, scan_records, scan_file, sites_from, sites_in}
 use Rattle.project.specs.Scan.{scan_past_header, accepted_exactly}
@@ -80,7 +80,7 @@ module _ (header : Header) (sites : List Site) where
       let body = records_read header.edition header.years (length sites) front sites all in
       record {
         bytes =
-            bytes_append front (records_of header.edition sites) (header_bytes header (length sites) w.edition admit) (records_bytes header.edition header.years sites all);
+            bytes_append front (records_of header.edition sites) (header_bytes_lem header (length sites) w.edition admit) (records_bytes header.edition header.years sites all);
         accepted = scan_past_header (front ++ records_of header.edition sites) (accepted_header _ head.accepted) ∙ rw head.count_is body.scanned;
         header_is = head.header_is;
         count_is = head.count_is;

@@ -150,14 +150,14 @@ module _ (edition years : ℕ) (numbers : List ℕ) (within : sound edition year
   unfolding site_from
   from_parts = rw (le-leb site_numbers (length numbers) enough)
 
-  kind_from : (site_from numbers).kind ≡ kind_from (get_or numbers 0 0)
-  kind_from = ap (λ (site : Site). site.kind) from_parts
+  kind_from_lem : (site_from numbers).kind ≡ kind_from (get_or numbers 0 0)
+  kind_from_lem = ap (λ (site : Site). site.kind) from_parts
 
   pub kind_small : get_or numbers 0 0 < 256
   kind_small =
       lt_of_not-le (λ h.
       let e : kind_from (get_or numbers 0 0) ≡ 255 = rw (le-ltb (get_or numbers 0 0) 256 h) in
-      omega (arith, e, kind_from, valid_kind edition years (site_from numbers) valid))
+      omega (arith, e, kind_from_lem, valid_kind edition years (site_from numbers) valid))
 
   slots_again : all_slots (site_from numbers) ≡ map slot_from (slot_numbers numbers)
   slots_again = rw from_parts (slots_of_all (kind_from (get_or numbers 0 0)) (map slot_from (slot_numbers numbers)) slots_count)
@@ -178,7 +178,7 @@ module _ (edition years : ℕ) (numbers : List ℕ) (within : sound edition year
 
   pub values_again : (n : ℕ) → read_values (Read (site_from numbers) n) ≡ take site_numbers numbers ++ (n ∷ [])
   values_again n =
-      let kind : (site_from numbers).kind ≡ get_or numbers 0 0 = kind_from ∙ rw (lt-ltb (get_or numbers 0 0) 256 kind_small) in
+      let kind : (site_from numbers).kind ≡ get_or numbers 0 0 = kind_from_lem ∙ rw (lt-ltb (get_or numbers 0 0) 256 kind_small) in
       ap (λ (k : ℕ). k ∷ (map code (all_slots (site_from numbers)) ++ (n ∷ []))) kind
       ∙ ap (λ (codes : List ℕ). get_or numbers 0 0 ∷ (codes ++ (n ∷ []))) (ap (map code) slots_again ∙ numbers_kept)
       ∙ by numbers enough

@@ -12,7 +12,7 @@ returns_2 : tie.Need-returns-2
 returns_2 c =
     let kind = c.before.before.before in
     let numbers = kind.before.before.before.before.args.values.now in
-    c.site-of-all2.ensures ∙ enough_numbers numbers kind.before.before.if1.false _ _ kind.kind_from.ensures c.before.slots-from.ensures
+    c.site-of-all2.ensures ∙ enough_numbers numbers kind.before.before.if1.false _ _ kind.kind_from_lem.ensures c.before.slots-from.ensures
 
 pub site_from_spec : {M : Type 1} → statement M
 site_from_spec =
