@@ -43,7 +43,7 @@ returns : tie.Need-returns-then-number-ne0 invariant_loop decreases_loop
 returns c =
     let loop = c.loop-i in
     let a = c.args in
-    let told = c.field_number-number.ensures ∙ number_there a.later a.minor a.s.now c.requires.1.0 loop.count _ c.place_of-place.ensures.0 (get_or a.t2 loop.i Foreign) loop.rest in
+    let told = c.field_number-number.ensures ∙ number_there a.later a.minor a.s.now c.requires.1.0 loop.count _ c.place_of-place.ensures.0 (get_or a.rules loop.i Foreign) loop.rest in
     let hit = number_hit _ _ _ c.requires.0.0 _ (2 * loop.count) _ loop.invariant.3 Foreign _ c.loop-i-test.true told c.if-number-ne0.true in
     simp (← hit, ne_eqb _ _ c.if-number-ne0.true)
 
@@ -59,8 +59,8 @@ loop_again c =
     let rules = c.requires.0.0 in
     let more = c.loop-i-test.true in
     let at = c.place_of-place.ensures.0 in
-    let told = c.field_number-number.ensures ∙ number_there a.later a.minor a.s.now c.requires.1.0 loop.count _ at (get_or a.t2 loop.i Foreign) loop.rest in
-    let held = c.field_value.ensures ∙ value_there a.later a.minor a.s.now c.requires.1.0 loop.count _ at (get_or a.t2 loop.i Foreign) loop.rest in
+    let told = c.field_number-number.ensures ∙ number_there a.later a.minor a.s.now c.requires.1.0 loop.count _ at (get_or a.rules loop.i Foreign) loop.rest in
+    let held = c.field_value.ensures ∙ value_there a.later a.minor a.s.now c.requires.1.0 loop.count _ at (get_or a.rules loop.i Foreign) loop.rest in
     let further = bytes_more loop.count c.field_words-count.result in (
       omega arith,
       omega (arith, c.field_words-count.ensures.1),

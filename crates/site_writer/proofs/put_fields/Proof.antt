@@ -40,7 +40,7 @@ loop_again c =
     (
       omega arith,
       omega arith,
-      c.put_field-place.auto.slot.1.0 ∙ loop.invariant.2,
+      c.put_field-place.auto.buffer ∙ loop.invariant.2,
       put_more _ _ loop.i c.requires.0 c.requires.1 _ _ _ Foreign Absent c.loop-i-test.true loop.invariant.3 c.put_field-place.ensures,
     )
 

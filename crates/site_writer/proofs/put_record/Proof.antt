@@ -44,7 +44,7 @@ put_spread_requires c κs =
       (search c.before.before.before.before.before.before.before.before.before.before.before.before, ap length c.slots_of-slots.ensures, most, ap length slots, rw (slots, is) valid.later_traffic),
       (
         (omega arith, ap length minor-slots, rw (minor-slots, c.minor_later.ensures.0, is) valid.later_minor),
-        rw (slots, minor-slots) (omega (arith, spread_long (held c.before.before.before.before.before.before.before.before.before.before.before.before), c.requires.1, c.put_head.auto.map.1.0)),
+        rw (slots, minor-slots) (omega (arith, spread_long (held c.before.before.before.before.before.before.before.before.before.before.before.before), c.requires.1, c.put_head.auto.buffer)),
       ),
     )
 

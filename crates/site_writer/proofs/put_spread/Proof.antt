@@ -38,64 +38,64 @@ abbrev Reached : List ℕ → List ℕ → List ℕ → ℕ → List ℕ → Typ
 Reached before whole left at buffer = Putting before 3 whole left at buffer × (length buffer ≡ length before)
 
 first : (c : tie.After-put_field-after_traffic) → let a = c.args in
-    Reached a.buffer.now (all a.t1 a.t2 a.traffic a.minor) (after_traffic a.t1 a.t2 a.traffic a.minor)
-    c.put_field-after_traffic.result c.put_field-after_traffic.new.1.1.0
+    Reached a.buffer.now (all a.rules a.slots a.traffic a.minor) (after_traffic a.rules a.slots a.traffic a.minor)
+    c.put_field-after_traffic.result c.put_field-after_traffic.new.buffer
 unfolding spread_bytes
-first c = (putting_more (putting_start _ _ _) refl c.put_field-after_traffic.ensures, c.put_field-after_traffic.auto.slot.1.0)
+first c = (putting_more (putting_start _ _ _) refl c.put_field-after_traffic.ensures, c.put_field-after_traffic.auto.buffer)
 
 later : (c : tie.After-put_later-after_later) → let a = c.args in
-    Reached a.buffer.now (all a.t1 a.t2 a.traffic a.minor) (after_later a.t1 a.t2 a.minor)
-    c.put_later-after_later.result c.put_later-after_later.new.1.1.0
+    Reached a.buffer.now (all a.rules a.slots a.traffic a.minor) (after_later a.rules a.slots a.minor)
+    c.put_later-after_later.result c.put_later-after_later.new.buffer
 later c =
     let r = first c.before.before.before.before in
-    (putting_more r.0 refl c.put_later-after_later.ensures, c.put_later-after_later.auto.slots.1.0 ∙ r.1)
+    (putting_more r.0 refl c.put_later-after_later.ensures, c.put_later-after_later.auto.buffer ∙ r.1)
 
 second : (c : tie.After-put_field-after_length) → let a = c.args in
-    Reached a.buffer.now (all a.t1 a.t2 a.traffic a.minor) (after_length a.t1 a.t2 a.minor)
-    c.put_field-after_length.result c.put_field-after_length.new.1.1.0
+    Reached a.buffer.now (all a.rules a.slots a.traffic a.minor) (after_length a.rules a.slots a.minor)
+    c.put_field-after_length.result c.put_field-after_length.new.buffer
 second c =
     let r = later c.before.before.before.before.before.before in
-    (putting_more r.0 refl c.put_field-after_length.ensures, c.put_field-after_length.auto.slot.1.0 ∙ r.1)
+    (putting_more r.0 refl c.put_field-after_length.ensures, c.put_field-after_length.auto.buffer ∙ r.1)
 
 third : (c : tie.After-put_field-after_minor) → let a = c.args in
-    Reached a.buffer.now (all a.t1 a.t2 a.traffic a.minor) (after_minor a.t1 a.t2 a.minor)
-    c.put_field-after_minor.result c.put_field-after_minor.new.1.1.0
+    Reached a.buffer.now (all a.rules a.slots a.traffic a.minor) (after_minor a.rules a.slots a.minor)
+    c.put_field-after_minor.result c.put_field-after_minor.new.buffer
 third c =
     let r = second c.before.before.before.before.before.before in
-    (putting_more r.0 refl c.put_field-after_minor.ensures, c.put_field-after_minor.auto.slot.1.0 ∙ r.1)
+    (putting_more r.0 refl c.put_field-after_minor.ensures, c.put_field-after_minor.auto.buffer ∙ r.1)
 
 minor_later : (c : tie.After-put_later-after_later_minor) → let a = c.args in
-    Reached a.buffer.now (all a.t1 a.t2 a.traffic a.minor) (bytes_of (drop 3 a.t1) (drop 3 a.t2))
-    c.put_later-after_later_minor.result c.put_later-after_later_minor.new.1.1.0
+    Reached a.buffer.now (all a.rules a.slots a.traffic a.minor) (bytes_of (drop 3 a.rules) (drop 3 a.slots))
+    c.put_later-after_later_minor.result c.put_later-after_later_minor.new.buffer
 minor_later c =
     let r = third c.before.before.before.before in
-    (putting_more r.0 refl c.put_later-after_later_minor.ensures, c.put_later-after_later_minor.auto.slots.1.0 ∙ r.1)
+    (putting_more r.0 refl c.put_later-after_later_minor.ensures, c.put_later-after_later_minor.auto.buffer ∙ r.1)
 
 put_field_requires : tie.Need-put_field-after_traffic-requires
 unfolding spread_bytes
 put_field_requires c κs =
     let a = c.args in
-    putting_room (field a.t1 a.t2 0) (after_traffic a.t1 a.t2 a.traffic a.minor)
-    (putting_start a.buffer.now 3 (all a.t1 a.t2 a.traffic a.minor)) c.requires.1.1
+    putting_room (field a.rules a.slots 0) (after_traffic a.rules a.slots a.traffic a.minor)
+    (putting_start a.buffer.now 3 (all a.rules a.slots a.traffic a.minor)) c.requires.1.1
 
 put_later_requires : tie.Need-put_later-after_later-requires
 put_later_requires c κs =
     let r = first c.before.before.before in
     let a = c.args in
     let pre = c.requires in
-    (pre.0.2, pre.0.3, pre.0.4, putting_room (later_bytes a.traffic) (after_later a.t1 a.t2 a.minor) r.0 (omega (arith, pre.1.1, r.1)))
+    (pre.0.2, pre.0.3, pre.0.4, putting_room (later_bytes a.traffic) (after_later a.rules a.slots a.minor) r.0 (omega (arith, pre.1.1, r.1)))
 
 put_field_requires_2 : tie.Need-put_field-after_length-requires
 put_field_requires_2 c κs =
     let r = later c.before.before.before.before.before in
     let a = c.args in
-    putting_room (field a.t1 a.t2 1) (after_length a.t1 a.t2 a.minor) r.0 (omega (arith, c.requires.1.1, r.1))
+    putting_room (field a.rules a.slots 1) (after_length a.rules a.slots a.minor) r.0 (omega (arith, c.requires.1.1, r.1))
 
 put_field_requires_3 : tie.Need-put_field-after_minor-requires
 put_field_requires_3 c κs =
     let r = second c.before.before.before.before.before in
     let a = c.args in
-    putting_room (field a.t1 a.t2 2) (after_minor a.t1 a.t2 a.minor) r.0 (omega (arith, c.requires.1.1, r.1))
+    putting_room (field a.rules a.slots 2) (after_minor a.rules a.slots a.minor) r.0 (omega (arith, c.requires.1.1, r.1))
 
 put_later_requires_2 : tie.Need-put_later-after_later_minor-requires
 put_later_requires_2 c κs =
@@ -105,7 +105,7 @@ put_later_requires_2 c κs =
       pre.1.0.0,
       pre.1.0.1,
       pre.1.0.2,
-      putting_room (later_bytes a.minor) (bytes_of (drop 3 a.t1) (drop 3 a.t2)) r.0 (omega (arith, pre.1.1, r.1)),
+      putting_room (later_bytes a.minor) (bytes_of (drop 3 a.rules) (drop 3 a.slots)) r.0 (omega (arith, pre.1.1, r.1)),
     )
 
 put_fields_requires : tie.Need-put_fields-requires
