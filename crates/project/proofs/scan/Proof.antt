@@ -16,32 +16,29 @@ use Rattle.project.proofs.scan.Tie as tie
 long : (file : List ℕ) (number : ℕ) → number ≡ header_number file → number ≡ 0 → header_length ≤ length file
 long file number is none = (header_accepted file (sym is ∙ none)).long
 
-returns : tie.Need-returns
+returns : tie.Need-returns-then-number-ne0
 unfolding scan_file
-returns c = scans_file _ _ (simp (← c.before.header-number.ensures, ne_eqb _ _ c.if1.true))
+returns c = scans_file _ _ (simp (← c.header_number-number.ensures, ne_eqb _ _ c.if-number-ne0.true))
 
-header_in_requires : tie.Need-header-in-requires
-header_in_requires c κs = long _ _ c.before.header-number.ensures c.if1.false
+header_in_requires : tie.Need-header_in-header-requires
+header_in_requires c κs = long _ _ c.header_number-number.ensures c.if-number-ne0.false
 
-count_in_requires : tie.Need-count-in-requires
-count_in_requires c κs = let else = c.before in long _ _ else.before.header-number.ensures else.if1.false
+count_in_requires : tie.Need-count_in-requires
+count_in_requires c κs = long _ _ c.header_number-number.ensures c.if-number-ne0.false
 
-scan_records_requires : tie.Need-scan-records-requires
-scan_records_requires c κs = let else = c.before.before in long _ _ else.before.header-number.ensures else.if1.false
+scan_records_requires : tie.Need-scan_records-requires
+scan_records_requires c κs = long _ _ c.header_number-number.ensures c.if-number-ne0.false
 
-returns_2 : tie.Need-returns-2
+returns_2 : tie.Need-returns
 unfolding scan_file
 returns_2 c =
-    let count = c.before in
-    let header = count.before in
-    let else = header.before in
     scans_file _ _ (simp (
-      ← else.before.header-number.ensures,
-      eq-eqb _ _ else.if1.false,
-      ← ap (λ (h : Header). h.edition) header.header-in.ensures,
-      ← ap (λ (h : Header). h.years) header.header-in.ensures,
-      ← count.count-in.ensures,
-      c.scan-records.ensures,
+      ← c.header_number-number.ensures,
+      eq-eqb _ _ c.if-number-ne0.false,
+      ← ap (λ (h : Header). h.edition) c.header_in-header.ensures,
+      ← ap (λ (h : Header). h.years) c.header_in-header.ensures,
+      ← c.count_in.ensures,
+      c.scan_records.ensures,
     ))
 
 pub scan_spec : {M : Type 1} → statement M

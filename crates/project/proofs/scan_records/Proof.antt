@@ -56,46 +56,41 @@ module _ (s : List ℕ) (edition years sites i at : ℕ) (whole : ScanAnswer) (i
   unfolding scan_records
   none_after h k = let e : sites - i ≡ 0 = omega arith in rw (e, le-ltb at (length s) k) at inv
 
-abbrev invariant_loop : tie.invariant_loop
+abbrev invariant_loop : tie.invariant-loop-i
 invariant_loop file edition years sites at₀ i₀ at i =
     (i ≤ sites) × (at ≤ length file) × (scan_records edition years sites (sites - i) at file ≡ scan_records edition years sites sites header_length file)
 
-abbrev decreases_loop : tie.decreases_loop
+abbrev decreases_loop : tie.decreases-loop-i
 decreases_loop file edition years sites at₀ i₀ at i = sites - i
 
-loop_holds : tie.Need-loop-init invariant_loop decreases_loop
+loop_holds : tie.Need-loop-i-init invariant_loop decreases_loop
 loop_holds c = (search rules, search rules, start _ _ _ _ _)
 
-returns : tie.Need-returns invariant_loop decreases_loop
+returns : tie.Need-returns-in-Refused invariant_loop decreases_loop
 returns c =
-    let read = c.before.before.before in
-    let turn = read.before.before in
-    record_refused _ _ _ _ _ _ _ turn.before.loop.invariant.2 _ read.read-site.ensures _ turn.loop_test.true c.before.answer.given.1
+    record_refused _ _ _ _ _ _ _ c.loop-i.invariant.2 _ c.read_site-answer.ensures _ c.loop-i-test.true c.in-Refused.is
 
-add_at : tie.Need-overflow-add-at invariant_loop decreases_loop
+add_at : tie.Need-overflow_add-at invariant_loop decreases_loop
 add_at c =
-    let read = c.before.before.before in
-    let inv = read.before.before.before.loop.invariant in
-    let w = record_within _ _ _ _ _ _ _ inv.2 _ read.read-site.ensures _ _ inv.1 c.before.answer2.given.1 in
+    let inv = c.loop-i.invariant in
+    let w = record_within _ _ _ _ _ _ _ inv.2 _ c.read_site-answer.ensures _ _ inv.1 c.in-Read.is in
     omega arith
 
-loop_again : tie.Need-loop-preserved invariant_loop decreases_loop
+loop_again : tie.Need-loop-i-preserved invariant_loop decreases_loop
 loop_again c =
-    let read = c.before.before.before in
-    let turn = read.before.before in
-    let inv = turn.before.loop.invariant in
-    let reads = read.read-site.ensures in
-    let is = c.before.answer2.given.1 in (
+    let inv = c.loop-i.invariant in
+    let reads = c.read_site-answer.ensures in
+    let is = c.in-Read.is in (
       omega arith,
       record_within _ _ _ _ _ _ _ inv.2 _ reads _ _ inv.1 is,
-      record_read _ _ _ _ _ _ _ inv.2 _ reads _ _ turn.loop_test.true is,
+      record_read _ _ _ _ _ _ _ inv.2 _ reads _ _ c.loop-i-test.true is,
     )
 
-returns_2 : tie.Need-returns-2 invariant_loop decreases_loop
-returns_2 c = bytes_after _ _ _ _ _ _ _ c.before.before.loop.invariant.2 c.before.loop_test.false c.if1.true
+returns_2 : tie.Need-returns-then-at-file invariant_loop decreases_loop
+returns_2 c = bytes_after _ _ _ _ _ _ _ c.loop-i.invariant.2 c.loop-i-test.false c.if-at-file.true
 
-returns_3 : tie.Need-returns-3 invariant_loop decreases_loop
-returns_3 c = none_after _ _ _ _ _ _ _ c.before.before.loop.invariant.2 c.before.loop_test.false c.if1.false
+returns_3 : tie.Need-returns invariant_loop decreases_loop
+returns_3 c = none_after _ _ _ _ _ _ _ c.loop-i.invariant.2 c.loop-i-test.false c.if-at-file.false
 
 pub scan_records_spec : {M : Type 1} → statement M
 scan_records_spec =
