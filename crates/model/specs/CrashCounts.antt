@@ -138,9 +138,9 @@ module _ (edition years : ℕ) (site : Site) where
   second_of true = ≤ᶠ-refl (whole counted *ᶠ on_segment)
   second_of false = at_most_once counted (whole 1) refl
 
-  crashes_of : crashes_counted (coefficients_of edition) years site ≤ᶠ crashes_of edition years site
+  crashes_of_lem : crashes_counted (coefficients_of edition) years site ≤ᶠ crashes_of edition years site
   unfolding crashes_counted sites_counted coefficients_of edition_one edition_two
-  crashes_of = by (leb edition 1)
+  crashes_of_lem = by (leb edition 1)
     where
       by : (first : Bool) → whole counted *ᶠ (cond first edition_one edition_two).crash_count site.kind (number site.length)
           ≤ᶠ cond first (whole counted) (cond (eqb site.kind 0) (whole counted *ᶠ on_segment) (whole counted))
@@ -150,7 +150,7 @@ module _ (edition years : ℕ) (site : Site) where
 crashes_over_lem : (edition years : ℕ) (sites : List Site) → added_up (crashes_counted (coefficients_of edition) years) sites ≤ᶠ crashes_over edition years sites
 unfolding added_up crashes_over
 crashes_over_lem edition years [] = ≤ᶠ-refl (whole 0)
-crashes_over_lem edition years (site ∷ sites) = +ᶠ-mono (crashes_of edition years site) (crashes_over_lem edition years sites)
+crashes_over_lem edition years (site ∷ sites) = +ᶠ-mono (crashes_of_lem edition years site) (crashes_over_lem edition years sites)
 
 -- the crashes of a list count for no more than any whole number that is not below
 pub counted_at_most : (edition years : ℕ) (sites : List Site) (t : ℕ) → crashes_over edition years sites ≤ᶠ whole t

@@ -43,7 +43,7 @@ module _ (s : List ℕ) (edition years sites n : ℕ) where
 
   valid_from : (left at : ℕ) → scan_records edition years sites left at s ≡ Accepted n → ValidSites edition years left (sites_from edition years left at s)
   unfolding scan_records sites_from
-  valid_from zero at e = record { count_is = refl; valid = λ value m. absurd (Memᴰ.not_nil m) }
+  valid_from zero at e = record { count_is = refl; valid = λ value m. absurd (Memᴰ.not-nil m) }
   valid_from (suc left) at e = valid_step left at (λ next q. valid_from left next q) (read_site edition years (drop at s)) refl e
 
 -- a file that has a site has years that the site reader takes, accepted or not
