@@ -254,8 +254,8 @@ module _ (k : Coefficients) (count traffic : ℕ) (from : 1 ≤ traffic) (to : t
       driveway_bracket_width k.driveway_constant k.fewest_driveways count few (logarithm_bracket traffic) ln.stands.low_den ln.stands.high_den
       large logarithm_width ln.narrow
 
-  pub driveways_most : 0 < k.driveway_constant → count ≤ 50
+  pub driveways_most_lem : 0 < k.driveway_constant → count ≤ 50
       → let b = driveways_of k.driveway_constant k.fewest_driveways count traffic in
       let most = driveways_most k.driveway_constant in
       b.high_num * most.den ≤ most.num * b.high_den
-  driveways_most positive few = driveway_bracket_most k.driveway_constant k.fewest_driveways count few (logarithm_bracket traffic) positive
+  driveways_most_lem positive few = driveway_bracket_most k.driveway_constant k.fewest_driveways count few (logarithm_bracket traffic) positive

@@ -16,7 +16,7 @@ use Rattle.exponential.specs.StoredBrackets.{stored_bracket, stored_limit, store
 use Rattle.exponential.specs.StoredBracketLaws.{stored_promised, stored_high_bounds, stored_bounded}
 use Rattle.power.specs.Power.{power_bracket}
 use Rattle.power.specs.PowerMost.{hundredths_standing, hundredths_below}
-use Rattle.driveways.specs.DrivewayLaws.{driveways_stand, driveways_width, driveways_most}
+use Rattle.driveways.specs.DrivewayLaws.{driveways_stand, driveways_width, driveways_most_lem}
 use Rattle.site.specs.declared.numbers.Segment.{Segment}
 use Rattle.site.specs.declared.numbers.Crossing.{Crossing}
 use Rattle.site.specs.Rules.{most_years}
@@ -194,7 +194,7 @@ module _ (k : Coefficients) (rated : Rated k) where
       record {
         stands = driveways_stand k count traffic from to positive;
         narrow = in_shares logarithm_width logarithm_shares (driveways_width k count traffic from to rated.constant_least few);
-        bounded = driveways_most k count traffic from to positive few;
+        bounded = driveways_most_lem k count traffic from to positive few;
       }
 
   factor_kept : (factor : Factor) → FactorSized factor → Kept parts (piece_of k factor)
@@ -230,7 +230,7 @@ straight_sized : (v : Segment) → SegmentSizes v → AllSized (straight_factors
 unfolding straight_factors
 straight_sized v s =
     lit≤ tt ∷ˢ tt ∷ˢ s.type_most ∷ˢ s.grade_most ∷ˢ s.grade_most ∷ˢ tt ∷ˢ tt
-    ∷ˢ (s.rating_least, s.rating_most) ∷ˢ (s.driveways_most, s.traffic) ∷ˢ tt
+    ∷ˢ (s.rating_least, s.rating_most) ∷ˢ (s.driveways_most_lem, s.traffic) ∷ˢ tt
 
 curve_sized : (v : Segment) → CurveSizes v → AllSized (curve_factors v)
 unfolding curve_factors

@@ -104,7 +104,7 @@ pub record SegmentSizes (v : Segment) : Type 0 where
   pub length_most : v.length ≤ 20000
   pub type_most : v.shoulder_type ≤ 3
   pub grade_most : v.grade ≤ 12
-  pub driveways_most : v.driveways ≤ 50
+  pub driveways_most_lem : v.driveways ≤ 50
   pub passing_most : v.passing ≤ 2
   pub rating_least : 1 ≤ v.hazard_rating
   pub rating_most : v.hazard_rating ≤ 7
@@ -146,7 +146,7 @@ module _ (edition years : ℕ) (site : Site) (valid : Valid edition years site) 
     length_most = obeys_most rules.segment_length site.length r.length;
     type_most = obeys_most rules.shoulder_type site.shoulder_type r.shoulder_type;
     grade_most = obeys_most rules.grade site.grade r.grade;
-    driveways_most = obeys_most rules.driveways site.driveways r.driveways;
+    driveways_most_lem = obeys_most rules.driveways site.driveways r.driveways;
     passing_most = obeys_most rules.passing site.passing r.passing;
     rating_least = obeys_least rules.hazard_rating site.hazard_rating r.hazard_rating;
     rating_most = obeys_most rules.hazard_rating site.hazard_rating r.hazard_rating;

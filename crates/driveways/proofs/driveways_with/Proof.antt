@@ -9,38 +9,34 @@ use Rattle.driveways.proofs.Cases.{low_fits, high_fits, rising_ends, falling_end
 use Rattle.driveways.proofs.driveways_with.Statement.{statement}
 use Rattle.driveways.proofs.driveways_with.Tie as tie
 
-returns : tie.Need-returns
+returns : tie.Need-returns-then-driveways-fewest
 unfolding whole fraction
 returns c =
-    let a = c.before.before.args in
+    let a = c.args in
     c.span.ensures ∙ sym (bracket_below a.constant a.fewest a.driveways (logarithm_bracket a.traffic) (omega arith))
 
-value_at_requires : tie.Need-value-at-requires
+value_at_requires : tie.Need-value_at-at_low-requires
 value_at_requires c κs =
-    let s = c.before.before in
-    let f = low_fits s.args.traffic s.requires.4 s.requires.5 c.logarithm-with.ensures in
-    (s.requires.2, s.requires.1, s.requires.3, f.0, f.1, f.2)
+    let f = low_fits c.args.traffic c.requires.4 c.requires.5 c.logarithm_with-ln.ensures in
+    (c.requires.2, c.requires.1, c.requires.3, f.0, f.1, f.2)
 
-value_at_requires_2 : tie.Need-value-at-requires-2
+value_at_requires_2 : tie.Need-value_at-at_high-requires
 value_at_requires_2 c κs =
-    let s = c.before.before.before in
-    let f = high_fits s.args.traffic s.requires.4 s.requires.5 c.before.logarithm-with.ensures in
-    (s.requires.2, s.requires.1, s.requires.3, f.0, f.1, f.2)
+    let f = high_fits c.args.traffic c.requires.4 c.requires.5 c.logarithm_with-ln.ensures in
+    (c.requires.2, c.requires.1, c.requires.3, f.0, f.1, f.2)
 
-returns_2 : tie.Need-returns-2
+returns_2 : tie.Need-returns-then-driveways-lt5
 returns_2 c =
-    let v = c.before.before in
-    let a = v.before.before.before.before.args in
-    c.span2.ensures
-    ∙ rising_ends a.constant a.fewest a.driveways v.before.before.logarithm-with.ensures v.before.value_at_lem.ensures v.value-at2.ensures
+    let a = c.args in
+    c.span-then-driveways-lt5.ensures
+    ∙ rising_ends a.constant a.fewest a.driveways c.logarithm_with-ln.ensures c.value_at-at_low.ensures c.value_at-at_high.ensures
     (omega arith) (omega arith)
 
-returns_3 : tie.Need-returns-3
+returns_3 : tie.Need-returns
 returns_3 c =
-    let v = c.before.before in
-    let a = v.before.before.before.before.args in
-    c.span3.ensures
-    ∙ falling_ends a.constant a.fewest a.driveways v.before.before.logarithm-with.ensures v.before.value_at_lem.ensures v.value-at2.ensures
+    let a = c.args in
+    c.span-2.ensures
+    ∙ falling_ends a.constant a.fewest a.driveways c.logarithm_with-ln.ensures c.value_at-at_low.ensures c.value_at-at_high.ensures
     (omega arith) (omega arith)
 
 pub driveways_with_spec : {M : Type 1} → statement M

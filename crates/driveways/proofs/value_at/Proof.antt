@@ -13,16 +13,16 @@ fixed_fits c = mul-le-mul c.requires.1 c.requires.4
 rest_fits : (c : tie.Start) → c.args.driveways * (50 * c.args.den - 5 * c.args.num) ≤ 50 * 50000000000000
 rest_fits c = let most : 50 * c.args.den - 5 * c.args.num ≤ 50000000000000 = omega arith in mul-le-mul c.requires.2 most
 
-mul_fixed : tie.Need-overflow-mul-fixed
+mul_fixed : tie.Need-overflow_mul-fixed
 mul_fixed c = omega (arith, fixed_fits c)
 
-mul_t7 : tie.Need-overflow-mul-t7
+mul_t7 : tie.Need-overflow_mul-result
 mul_t7 c = omega (arith, rest_fits c)
 
-add_t8 : tie.Need-overflow-add-t8
+add_t8 : tie.Need-overflow_add-result
 add_t8 c = omega (arith, fixed_fits c, rest_fits c)
 
-add_t10 : tie.Need-overflow-add-t10
+add_t10 : tie.Need-overflow_add-result-2
 add_t10 c = omega (arith, fixed_fits c)
 
 returns : tie.Need-returns

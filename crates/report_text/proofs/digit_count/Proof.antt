@@ -9,26 +9,26 @@ use Rattle.report_text.specs.Decimal.{decimal_short, decimal_one, length_digits,
 use Rattle.report_text.proofs.digit_count.Statement.{statement}
 use Rattle.report_text.proofs.digit_count.Tie as tie
 
-abbrev invariant_loop : tie.invariant_loop
+abbrev invariant_loop : tie.invariant-loop-rest
 invariant_loop n rest₀ count₀ rest count = (count + length (decimal_text rest) ≡ 1 + length (decimal_text n)) × (rest ≤ n)
 
-abbrev decreases_loop : tie.decreases_loop
+abbrev decreases_loop : tie.decreases-loop-rest
 decreases_loop n rest₀ count₀ rest count = rest
 
-add_count : tie.Need-overflow-add-count invariant_loop decreases_loop
-add_count c = omega (arith, decimal_short c.before.before.args.n (search rules))
+add_count : tie.Need-overflow_add-count invariant_loop decreases_loop
+add_count c = omega (arith, decimal_short c.args.n (search rules))
 
-loop_less : tie.Need-loop-smaller invariant_loop decreases_loop
-loop_less c = tenth_less c.before.loop.rest (search rules)
+loop_less : tie.Need-loop-rest-smaller invariant_loop decreases_loop
+loop_less c = tenth_less c.loop-rest.rest (search rules)
 
-loop_again : tie.Need-loop-preserved invariant_loop decreases_loop
+loop_again : tie.Need-loop-rest-preserved invariant_loop decreases_loop
 loop_again c = (
-  omega (arith, length_digits c.before.loop.rest (search rules)),
-  omega (arith, tenth_less c.before.loop.rest (search rules)),
+  omega (arith, length_digits c.loop-rest.rest (search rules)),
+  omega (arith, tenth_less c.loop-rest.rest (search rules)),
 )
 
 returns : tie.Need-returns invariant_loop decreases_loop
-returns c = let one = decimal_one c.before.loop.rest (search rules) in let e = rw one at c.before.loop.invariant.0 in omega arith
+returns c = let one = decimal_one c.loop-rest.rest (search rules) in let e = rw one at c.loop-rest.invariant.0 in omega arith
 
 pub digit_count_spec : {M : Type 1} → statement M
 digit_count_spec =

@@ -8,12 +8,8 @@ use Rattle.report_text.proofs.put_line.Tie as tie
 returns : tie.Need-returns
 unfolding line_text
 returns c =
-    let fourth = c.before.before in
-    let third = fourth.before.before.before.before in
-    let second = third.before.before.before.before in
-    let first = second.before.before.before.before in
-    let rest = puts_more third.put-ended3.ensures.0 fourth.put-ended4.ensures.0 in
-    (puts_more first.put_ended.ensures.0 (puts_more second.put-ended2.ensures.0 rest), omega arith)
+    let rest = puts_more c.put_ended-third.ensures.0 c.put_ended.ensures.0 in
+    (puts_more c.put_ended-first.ensures.0 (puts_more c.put_ended-second.ensures.0 rest), omega arith)
 
 pub put_line_spec : {M : Type 1} → statement M
 put_line_spec =

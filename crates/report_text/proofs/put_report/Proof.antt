@@ -7,23 +7,21 @@ use Rattle.report_text.specs.Lines.{LinesLeft, lines_start, lines_on, lines_end}
 use Rattle.report_text.proofs.put_report.Statement.{statement}
 use Rattle.report_text.proofs.put_report.Tie as tie
 
-abbrev invariant_loop : tie.invariant_loop
+abbrev invariant_loop : tie.invariant-loop-i
 invariant_loop numbers out₀ at₀ i₀ out at i = LinesLeft numbers out₀ i at out
 
-abbrev decreases_loop : tie.decreases_loop
+abbrev decreases_loop : tie.decreases-loop-i
 decreases_loop numbers out₀ at₀ i₀ out at i = length numbers - i
 
-loop_holds : tie.Need-loop-init invariant_loop decreases_loop
+loop_holds : tie.Need-loop-i-init invariant_loop decreases_loop
 loop_holds c = lines_start _ _
 
-loop_again : tie.Need-loop-preserved invariant_loop decreases_loop
+loop_again : tie.Need-loop-i-preserved invariant_loop decreases_loop
 loop_again c =
-    let put = c.before.before in
-    let turn = put.before.before.before in
-    lines_on _ _ _ _ _ _ _ turn.before.before.before.before.loop.invariant turn.before.before.before.loop_test.true put.put-line.ensures
+    lines_on _ _ _ _ _ _ _ c.loop-i.invariant c.loop-i-test.true c.put_line-at.ensures
 
 returns : tie.Need-returns invariant_loop decreases_loop
-returns c = (lines_end _ _ _ _ _ c.before.loop.invariant c.loop_test.false, omega arith)
+returns c = (lines_end _ _ _ _ _ c.loop-i.invariant c.loop-i-test.false, omega arith)
 
 pub put_report_spec : {M : Type 1} → statement M
 put_report_spec =

@@ -9,22 +9,22 @@ use Rattle.bracket.specs.Ratio.{coded_quotient}
 use Rattle.factors.proofs.alignment.curve.Statement.{statement}
 use Rattle.factors.proofs.alignment.curve.Tie as tie
 
-mul_spiral_2 : tie.Need-overflow-mul-spiral-2
+mul_spiral_2 : tie.Need-overflow_mul-spiral-2
 mul_spiral_2 c = omega (arith, mul-le-mul c.requires.4 c.requires.3)
 
-returns : tie.Need-returns
+returns : tie.Need-returns-then-spiral-gt8020000
 unfolding curve whole fraction
-returns c = simp (lt-ltb _ _ c.if1.true)
+returns c = simp (lt-ltb _ _ c.if-spiral-gt8020000.true)
 
-mul_straight_2 : tie.Need-overflow-mul-straight-2
-mul_straight_2 c = omega (arith, mul-le-mul c.before.requires.1 c.before.requires.3)
+mul_straight_2 : tie.Need-overflow_mul-straight-2
+mul_straight_2 c = omega (arith, mul-le-mul c.requires.1 c.requires.3)
 
-add_t8 : tie.Need-overflow-add-t8
-add_t8 c = omega (arith, mul-le-mul c.before.requires.1 c.before.requires.3)
+add_t8 : tie.Need-overflow_add-result
+add_t8 c = omega (arith, mul-le-mul c.requires.1 c.requires.3)
 
-returns_2 : tie.Need-returns-2
+returns_2 : tie.Need-returns
 unfolding curve
-returns_2 c = simp (le-ltb _ _ c.if1.false) (sym (coded_quotient _ _ (omega (arith, mul-le-mul c.before.requires.0 c.before.requires.2))))
+returns_2 c = simp (le-ltb _ _ c.if-spiral-gt8020000.false) (sym (coded_quotient _ _ (omega (arith, mul-le-mul c.requires.0 c.requires.2))))
 
 pub curve_spec : {M : Type 1} → statement M
 curve_spec =

@@ -6,19 +6,19 @@ use Rattle.model.specs.Coefficients.{edition_one}
 use Rattle.factors.proofs.alignment.power_to_six.Statement.{statement}
 use Rattle.factors.proofs.alignment.power_to_six.Tie as tie
 
-returns : tie.Need-returns
+returns : tie.Need-returns-then-percent-lt6
 unfolding edition_one
 returns c =
-    let percent = c.before.before.args.percent in
-    let e : min percent 6 ≡ percent = omega (arith, c.before.if1.true) in
-    rw e c.grade-power.ensures
+    let percent = c.args.percent in
+    let e : min percent 6 ≡ percent = omega (arith, c.if-percent-lt6.true) in
+    rw e c.grade_power.ensures
 
-returns_2 : tie.Need-returns-2
+returns_2 : tie.Need-returns
 unfolding edition_one
 returns_2 c =
-    let percent = c.before.before.args.percent in
-    let e : min percent 6 ≡ 6 = omega (arith, c.before.if1.false) in
-    rw e c.grade-power2.ensures
+    let percent = c.args.percent in
+    let e : min percent 6 ≡ 6 = omega (arith, c.if-percent-lt6.false) in
+    rw e c.grade_power-2.ensures
 
 pub power_to_six_spec : {M : Type 1} → statement M
 power_to_six_spec =

@@ -7,17 +7,15 @@ use Rattle.factors.specs.TurnLanes.{turn_lanes_lem}
 use Rattle.factors.proofs.crossings.left_turn.Statement.{statement}
 use Rattle.factors.proofs.crossings.left_turn.Tie as tie
 
-returns : tie.Need-returns
+returns : tie.Need-returns-then-edition-le1
 unfolding left_turn edition_one all_below
 returns c =
-    let s = c.before.before in
-    rw (first_edition _ c.before.if1.true) (turn_lanes_lem left_turn_one tt s.args.kind s.args.lanes s.requires)
+    rw (first_edition _ c.if-edition-le1.true) (turn_lanes_lem left_turn_one tt c.args.kind c.args.lanes c.requires)
 
-returns_2 : tie.Need-returns-2
+returns_2 : tie.Need-returns
 unfolding left_turn edition_two all_below
 returns_2 c =
-    let s = c.before.before in
-    rw (second_edition _ c.before.if1.false) (turn_lanes_lem left_turn_two tt s.args.kind s.args.lanes s.requires)
+    rw (second_edition _ c.if-edition-le1.false) (turn_lanes_lem left_turn_two tt c.args.kind c.args.lanes c.requires)
 
 pub left_turn_spec : {M : Type 1} → statement M
 left_turn_spec =

@@ -8,20 +8,20 @@ use Rattle.bracket.specs.Ratio.{coded}
 use Rattle.factors.proofs.widths.lane.Statement.{statement}
 use Rattle.factors.proofs.widths.lane.Tie as tie
 
-value : (c : tie.After-at-traffic) → c.at_traffic.result ≡ lane_value c.before.before.args.feet c.before.before.args.traffic
+value : (c : tie.After-at_traffic) → c.at_traffic.result ≡ lane_value c.args.feet c.args.traffic
 unfolding lane_value
-value c = c.at_traffic.ensures ∙ ap (λ column. at_traffic column c.before.before.args.traffic) c.before.lane-column.ensures
+value c = c.at_traffic.ensures ∙ ap (λ column. at_traffic column c.args.traffic) c.lane_column.ensures
 
-at_traffic_requires : tie.Need-at-traffic-requires
-at_traffic_requires c κs = rw c.lane-column.ensures (lane_column_within c.before.args.feet)
+at_traffic_requires : tie.Need-at_traffic-requires
+at_traffic_requires c κs = rw c.lane_column.ensures (lane_column_within c.args.feet)
 
-of_related_requires : tie.Need-of-related-requires
+of_related_requires : tie.Need-of_related-requires
 of_related_requires c κs =
-    let a = c.before.before.args in
-    (c.before.before.requires, lit< tt, lit≤ tt, rw (value c) (omega (arith, (lane_value_within a.feet a.traffic).1)))
+    let a = c.args in
+    (c.requires, lit< tt, lit≤ tt, rw (value c) (omega (arith, (lane_value_within a.feet a.traffic).1)))
 
 returns : tie.Need-returns
-returns c = c.of-related.ensures ∙ ap (λ r. coded (of_related c.before.before.before.args.share r width_unit)) (value c.before)
+returns c = c.of_related.ensures ∙ ap (λ r. coded (of_related c.args.share r width_unit)) (value c.before)
 
 pub lane_spec : {M : Type 1} → statement M
 lane_spec =

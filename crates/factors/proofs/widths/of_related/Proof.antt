@@ -14,13 +14,13 @@ products c =
     let few : c.args.r ≤ 3 * shoulder_unit = omega arith in
     (mul-le-mul rest c.requires.2, mul-le-mul c.requires.0 few)
 
-mul_t5 : tie.Need-overflow-mul-t5
+mul_t5 : tie.Need-overflow_mul-result
 mul_t5 c = omega (arith, (products c).0)
 
-mul_t6 : tie.Need-overflow-mul-t6
+mul_t6 : tie.Need-overflow_mul-result-2
 mul_t6 c = omega (arith, (products c).1)
 
-add_t7 : tie.Need-overflow-add-t7
+add_t7 : tie.Need-overflow_add-result
 add_t7 c = omega (arith, (products c).0, (products c).1)
 
 returns : tie.Need-returns

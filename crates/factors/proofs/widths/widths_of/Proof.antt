@@ -12,18 +12,17 @@ use Rattle.factors.proofs.widths.widths_of.Tie as tie
 within : (place : ℕ) → place < 5 → ColumnWithin (column_of (get_or (map held shoulder_columns) place (held none)))
 within place h = rw (column_at shoulder_columns place) (shoulder_column_within place h)
 
-at_traffic_requires : tie.Need-at-traffic-requires
-at_traffic_requires c κs = let s = c.before in within s.args.columns.below s.requires.0
+at_traffic_requires : tie.Need-at_traffic-requires
+at_traffic_requires c κs = within c.args.columns.below c.requires.0
 
-at_traffic_requires_2 : tie.Need-at-traffic-requires-2
-at_traffic_requires_2 c κs = let s = c.before.before.before in within s.args.columns.above s.requires.1
+at_traffic_requires_2 : tie.Need-at_traffic-requires-2
+at_traffic_requires_2 c κs = within c.args.columns.above c.requires.1
 
 returns : tie.Need-returns
 returns c =
-    let first = c.before.before in
-    let a = first.before.before.args in
+    let a = c.args in
     let width : (place : ℕ) → _ ≡ width_at a.traffic place = λ place. ap (λ column. at_traffic column a.traffic) (column_at shoulder_columns place) in
-    (first.at_traffic.ensures ∙ width a.columns.below, c.at-traffic2.ensures ∙ width a.columns.above)
+    (c.at_traffic.ensures ∙ width a.columns.below, c.at_traffic-2.ensures ∙ width a.columns.above)
 
 pub widths_of_spec : {M : Type 1} → statement M
 widths_of_spec =

@@ -40,7 +40,7 @@ shoulder_requires c κs =
     (omega (arith, edition.coefficients-of.ensures.share_is, most), edition.before.pre.1.type_most)
 
 two_way_lane_requires : tie.Need-two-way-lane-requires
-two_way_lane_requires c κs = (edition_at_two_way c).before.requires.1.driveways_most
+two_way_lane_requires c κs = (edition_at_two_way c).before.requires.1.driveways_most_lem
 
 passing_requires : tie.Need-passing-requires
 passing_requires c κs = (edition_at_passing c).before.requires.1.passing_most
@@ -56,7 +56,7 @@ driveways_with_requires c κs =
     let rated = edition_rated edition.before.args.edition in
     let least = rated.constant_least in
     let most = rated.constant_most in
-    (pre.0, omega (arith, is, most), omega (arith, is, least), pre.1.driveways_most, pre.1.traffic.least, pre.1.traffic.most)
+    (pre.0, omega (arith, is, most), omega (arith, is, least), pre.1.driveways_most_lem, pre.1.traffic.least, pre.1.traffic.most)
 
 returns : tie.Need-returns
 unfolding straight_factors
