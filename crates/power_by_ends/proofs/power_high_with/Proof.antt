@@ -11,34 +11,25 @@ use Rattle.power.specs.Power.{power_high}
 use Rattle.power_by_ends.proofs.power_high_with.Statement.{statement}
 use Rattle.power_by_ends.proofs.power_high_with.Tie as tie
 
-raised_high_requires : tie.Need-raised-high-requires
+raised_high_requires : tie.Need-raised_high-remainder-requires
 raised_high_requires c κs =
-    let l = c.before in
-    let a = l.before.before.before.before.before.args in
-    (l.log-bounds.ensures.1.1, rw c.hundredths.ensures (exponent_is a.exponent (omega arith)), lit≤ tt)
+    let a = c.args in
+    (c.log_bounds-log.ensures.1.1, rw c.hundredths.ensures (exponent_is a.exponent (omega arith)), lit≤ tt)
 
-product : (c : tie.After-raised-high) → let t = c.before.before.before.before in
-    ceiling t.before.stored_bounds_lem.result.high t.stored-bounds2.result.high billion ≤ most_product
+product : (c : tie.After-raised_high-remainder) → ceiling c.stored_bounds-first.result.high c.stored_bounds-second.result.high billion ≤ most_product
 product c =
-    let t = c.before.before.before.before in
-    omega (arith, product_small {up = 1} (lit≤ tt) t.before.stored_bounds_lem.ensures.1.1 t.stored-bounds2.ensures.1.1)
+    omega (arith, product_small {up = 1} (lit≤ tt) c.stored_bounds-first.ensures.1.1 c.stored_bounds-second.ensures.1.1)
 
-times_up_requires_2 : tie.Need-times-up-requires-2
+times_up_requires_2 : tie.Need-times_up-requires-2
 times_up_requires_2 c κs =
-    let r = c.before in
-    let small = rw (← c.times-up.ensures) at (product r) in
-    (lit< tt, omega (arith, end_small {up = 1} (lit≤ tt) small r.raised-high.ensures.1))
+    let small = rw (← c.times_up.ensures) at (product c.before) in
+    (lit< tt, omega (arith, end_small {up = 1} (lit≤ tt) small c.raised_high-remainder.ensures.1))
 
 returns : tie.Need-returns
 unfolding power_high remainder_high
 returns c =
-    let r = c.before.before in
-    let h = r.before in
-    let l = h.before in
-    let t = l.before.before in
-    let f = t.before in
-    rw (c.times-up2.ensures, c.before.times-up.ensures, r.raised-high.ensures.0, h.hundredths.ensures, l.log-bounds.ensures.0)
-    (rw (f.stored_bounds_lem.ensures.0, t.stored-bounds2.ensures.0, f.before.split.ensures.0))
+    rw (c.times_up-2.ensures, c.times_up.ensures, c.raised_high-remainder.ensures.0, c.hundredths.ensures, c.log_bounds-log.ensures.0)
+    (rw (c.stored_bounds-first.ensures.0, c.stored_bounds-second.ensures.0, c.split-s.ensures.0))
 
 pub power_high_with_spec : {M : Type 1} → statement M
 power_high_with_spec =

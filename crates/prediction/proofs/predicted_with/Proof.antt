@@ -18,88 +18,78 @@ use Rattle.prediction.specs.Carrying.{Summed, none_summed, next_summed, all_summ
 use Rattle.prediction.proofs.predicted_with.Statement.{statement}
 use Rattle.prediction.proofs.predicted_with.Tie as tie
 
-abbrev invariant_loop : tie.invariant_loop
+abbrev invariant_loop : tie.invariant-loop-year
 invariant_loop powers logarithms exponentials header site traffic minor later later_minor each years count sum₀ year₀ sum year =
     (year ≤ count) × Summed (coefficients_of header.edition) header site year sum
 
-abbrev decreases_loop : tie.decreases_loop
+abbrev decreases_loop : tie.decreases-loop-year
 decreases_loop powers logarithms exponentials header site traffic minor later later_minor each years count sum₀ year₀ sum year = count - year
 
-abbrev entry : tie.At-loop invariant_loop decreases_loop → tie.Start invariant_loop decreases_loop
+abbrev entry : tie.At-loop-year invariant_loop decreases_loop → tie.Start invariant_loop decreases_loop
 entry loop = loop.before.before.before.before.before.before
 
 -- how many terms there are
-count_is : (loop : tie.At-loop invariant_loop decreases_loop) → let a = (entry loop).args in loop.before.count_of.result ≡ length (terms_of a.header a.site)
+count_is : (loop : tie.At-loop-year invariant_loop decreases_loop) → let a = (entry loop).args in loop.count_of-count.result ≡ length (terms_of a.header a.site)
 unfolding sites_counted
 count_is loop =
-    let count = loop.before in
     let start = entry loop in
-    rw count.before.before.is-yearly.ensures at count.count_of.ensures ∙ sites_counted_lem start.args.header start.args.site start.pre.3.years_least
+    rw loop.is_yearly-yearly.ensures at loop.count_of-count.ensures ∙ sites_counted_lem start.args.header start.args.site start.pre.3.years_least
 
 count_few : (each : Bool) (years : ℕ) → years ≤ 10 → cond each years 1 ≤ 10
 count_few true years h = h
 count_few false years h = omega arith
 
-in_year : (c : tie.In-loop invariant_loop decreases_loop) → c.before.loop.year ≤ 9
+in_year : (c : tie.In-loop-year invariant_loop decreases_loop) → c.loop-year.year ≤ 9
 in_year c =
-    let count = c.before.before in
     let start = entry c.before in
-    omega (arith, c.loop_test.true, count.count_of.ensures, count_few count.before.before.is-yearly.result start.args.header.years start.pre.3.years_most)
+    omega (arith, c.loop-year-test.true, c.count_of-count.ensures, count_few c.is_yearly-yearly.result start.args.header.years start.pre.3.years_most)
 
 same_term : {years traffic minor years' traffic' minor' : ℕ} → years ≡ years' → traffic ≡ traffic' → minor ≡ minor'
     → term_at years traffic minor ≡ term_at years' traffic' minor'
 same_term y t m = rw (y, t, m)
 
 -- the term of a turn
-term_is : (c : tie.After-traffic-in2 invariant_loop decreases_loop) → let first = c.before in let loop = first.before.before in let a = (entry loop).args in
-    get_or (terms_of a.header a.site) loop.loop.year no_term
-    ≡ term_at loop.before.before.years-of.result first.traffic-in.result c.traffic-in2.result
+term_is : (c : tie.After-traffic_in-in-loop-year invariant_loop decreases_loop) → let a = (entry c.before.before.before).args in
+    get_or (terms_of a.header a.site) c.loop-year.year no_term
+    ≡ term_at c.years_of-years.result c.traffic_in.result c.traffic_in-in-loop-year.result
 term_is c =
-    let first = c.before in
-    let turn = first.before in
-    let loop = turn.before in
-    let a = (entry loop).args in
-    let yearly_is = loop.before.before.before.is-yearly.ensures in
-    let count = rw yearly_is at loop.before.count_of.ensures in
-    let years = rw yearly_is at loop.before.before.years-of.ensures in
-    let more : loop.loop.year < cond (yearly a.site) a.header.years 1 = rw (← count) turn.loop_test.true in
-    term_at_lem a.header a.site loop.loop.year more
-    ∙ same_term (sym years) (sym first.traffic-in.ensures) (sym c.traffic-in2.ensures)
+    let a = (entry c.before.before.before).args in
+    let yearly_is = c.is_yearly-yearly.ensures in
+    let count = rw yearly_is at c.count_of-count.ensures in
+    let years = rw yearly_is at c.years_of-years.ensures in
+    let more : c.loop-year.year < cond (yearly a.site) a.header.years 1 = rw (← count) c.loop-year-test.true in
+    term_at_lem a.header a.site c.loop-year.year more
+    ∙ same_term (sym years) (sym c.traffic_in.ensures) (sym c.traffic_in-in-loop-year.ensures)
 
-term_pair_requires : tie.Need-term-pair-requires invariant_loop decreases_loop
+term_pair_requires : tie.Need-term_pair-next-requires invariant_loop decreases_loop
 term_pair_requires c κs =
-    let turn = c.before.before in
-    let loop = turn.before in
-    let start = entry loop in
+    let start = entry c.before.before.before in
     let p = start.pre in
-    let sized = sized_at start.args.site (terms_of start.args.header start.args.site) (terms_sized _ p.3 _ p.4) loop.loop.year
-    (rw (← count_is loop) turn.loop_test.true) in
+    let sized = sized_at start.args.site (terms_of start.args.header start.args.site) (terms_sized _ p.3 _ p.4) c.loop-year.year
+    (rw (← count_is c.before.before.before) c.loop-year-test.true) in
     (p.0, p.1, p.2, p.3, p.4, rw (term_is c) at sized)
 
 -- the sum with its pair
-summed : (c : tie.After-term-pair invariant_loop decreases_loop) → let loop = c.before.before.before.before in let a = (entry loop).args in
-    Summed (coefficients_of a.header.edition) a.header a.site (loop.loop.year + 1) (plus loop.loop.sum c.term-pair.result)
+summed : (c : tie.After-term_pair-next invariant_loop decreases_loop) → let a = (entry c.before.before.before.before).args in
+    Summed (coefficients_of a.header.edition) a.header a.site (c.loop-year.year + 1) (plus c.loop-year.sum c.term_pair-next.result)
 summed c =
-    let turn = c.before.before.before in
-    let loop = turn.before in
-    let a = (entry loop).args in
-    rw (c.term-pair.ensures, ← term_is c.before)
-    (next_summed (coefficients_of a.header.edition) a.header a.site loop.loop.year loop.loop.sum
-    (rw (← count_is loop) turn.loop_test.true) loop.loop.invariant.1)
+    let a = (entry c.before.before.before.before).args in
+    rw (c.term_pair-next.ensures, ← term_is c.before)
+    (next_summed (coefficients_of a.header.edition) a.header a.site c.loop-year.year c.loop-year.sum
+    (rw (← count_is c.before.before.before.before) c.loop-year-test.true) c.loop-year.invariant.1)
 
-add_pair_requires : tie.Need-add-pair-requires invariant_loop decreases_loop
+add_pair_requires : tie.Need-add_pair-sum-requires invariant_loop decreases_loop
 add_pair_requires c κs =
     let start = entry c.before.before.before.before in
     summed_small _ start.args.header start.args.site (edition_rated start.args.header.edition) start.pre.3 start.pre.4 (summed c)
 
-loop_again : tie.Need-loop-preserved invariant_loop decreases_loop
-loop_again c = (omega arith, rw c.add-pair.ensures (summed c.before))
+loop_again : tie.Need-loop-year-preserved invariant_loop decreases_loop
+loop_again c = (omega arith, rw c.add_pair-sum.ensures (summed c.before))
 
 returns : tie.Need-returns invariant_loop decreases_loop
 returns c =
-    let loop = c.before in
-    let a = (entry loop).args in
-    all_summed _ a.header a.site loop.loop.year loop.loop.sum (rw (← count_is loop) c.loop_test.false) loop.loop.invariant.1
+    let a = (entry c.before).args in
+    all_summed _ a.header a.site c.loop-year.year c.loop-year.sum (rw (← count_is c.before) c.loop-year-test.false) c.loop-year.invariant.1
 
 pub predicted_with_spec : {M : Type 1} → statement M
 predicted_with_spec =
@@ -108,7 +98,7 @@ predicted_with_spec =
     invariant_loop
     decreases_loop
     (λ c κs. search rules) (λ c κs. search rules) (λ c κs. search rules)
-    (λ c. let start = c.before.before.before.before.before in (omega arith, none_summed _ start.args.header start.args.site))
+    (λ c. (omega arith, none_summed _ c.args.header c.args.site))
     (λ c κs. in_year c)
     (λ c κs. in_year c.before)
     term_pair_requires

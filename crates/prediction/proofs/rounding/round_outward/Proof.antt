@@ -4,11 +4,11 @@ use borrow.Author.Rules.{rules}
 use Rattle.prediction.proofs.rounding.round_outward.Statement.{statement}
 use Rattle.prediction.proofs.rounding.round_outward.Tie as tie
 
-returns : tie.Need-returns
-returns c = simp (c.before.before.before.answer.given.1, ← c.before.down.ensures, ← c.up.ensures)
+returns : tie.Need-returns-in-Carried
+returns c = simp (c.in-Carried.is, ← c.down.ensures, ← c.up.ensures)
 
-returns_2 : tie.Need-returns-2
-returns_2 c = sym (ap outward c.enum_told.given.1)
+returns_2 : tie.Need-returns-in-TooLarge
+returns_2 c = sym (ap outward c.in-TooLarge.is)
 
 pub round_outward_spec : {M : Type 1} → statement M
 round_outward_spec =

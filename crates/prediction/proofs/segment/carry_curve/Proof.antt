@@ -10,12 +10,10 @@ use Rattle.prediction.proofs.segment.carry_curve.Tie as tie
 returns : tie.Need-returns
 unfolding curve_factors
 returns c k =
-    let banked = c.before in
-    let bent = banked.before.before in
-    let a = bent.before.args in
-    let to-curve = further_exact {a = a.straight} (curve _ _ _) refl bent.curve.ensures banked.before.through-exact.ensures in
+    let a = c.args in
+    let to-curve = further_exact {a = a.straight} (curve _ _ _) refl c.curve.ensures c.through_exact-after_curve.ensures in
     through_all k a.straight (curve_factors a.v)
-    (further_exact (superelevation _) to-curve banked.superelevation.ensures c.through-exact2.ensures)
+    (further_exact (superelevation _) to-curve c.superelevation.ensures c.through_exact.ensures)
 
 pub carry_curve_spec : {M : Type 1} → statement M
 carry_curve_spec =

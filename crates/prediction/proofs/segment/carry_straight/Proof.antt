@@ -14,41 +14,40 @@ use Rattle.prediction.proofs.segment.carry_straight.Statement.{statement}
 use Rattle.prediction.proofs.segment.carry_straight.Tie as tie
 
 -- the places from which the numbers of the edition are known, as seen from further on
-abbrev edition_at_shoulder : tie.After-through-exact → tie.After-coefficients-of
+abbrev edition_at_shoulder : tie.After-through_exact-after_lane → tie.After-coefficients_of-k
 edition_at_shoulder c = c.before.before.before.before
 
-abbrev edition_at_two_way : tie.After-through-exact4 → tie.After-coefficients-of
+abbrev edition_at_two_way : tie.After-through_exact-after_steep_grade → tie.After-coefficients_of-k
 edition_at_two_way c =
     let grade = c.before.before.before.before in
     edition_at_shoulder grade.before.before
 
-abbrev edition_at_passing : tie.After-through-exact5 → tie.After-coefficients-of
+abbrev edition_at_passing : tie.After-through_exact-after_two_way → tie.After-coefficients_of-k
 edition_at_passing c = edition_at_two_way c.before.before
 
-abbrev edition_at_driveways : tie.After-through2 → tie.After-coefficients-of
+abbrev edition_at_driveways : tie.After-through-after_hazard → tie.After-coefficients_of-k
 edition_at_driveways c = edition_at_passing c.before.before.before.before
 
-lane_requires : tie.Need-lane-requires
+lane_requires : tie.Need-lane-lane_factor-requires
 lane_requires c κs =
-    let edition = c.before.before in
-    omega (arith, edition.coefficients-of.ensures.share_is, (edition_rated edition.before.args.edition).bounded.share_most)
+    omega (arith, c.coefficients_of-k.ensures.share_is, (edition_rated c.args.edition).bounded.share_most)
 
-shoulder_requires : tie.Need-shoulder-requires
+shoulder_requires : tie.Need-shoulder-shoulder_factor-requires
 shoulder_requires c κs =
     let edition = edition_at_shoulder c in
     let most = (edition_rated edition.before.args.edition).bounded.share_most in
     (omega (arith, edition.coefficients-of.ensures.share_is, most), edition.before.pre.1.type_most)
 
-two_way_lane_requires : tie.Need-two-way-lane-requires
+two_way_lane_requires : tie.Need-two_way_lane-requires
 two_way_lane_requires c κs = (edition_at_two_way c).before.requires.1.driveways_most_lem
 
 passing_requires : tie.Need-passing-requires
 passing_requires c κs = (edition_at_passing c).before.requires.1.passing_most
 
-hazard_factor_requires : tie.Need-hazard-factor-requires
+hazard_factor_requires : tie.Need-hazard_factor-requires
 hazard_factor_requires c κs = let sizes = (edition_at_passing c.before.before).before.requires.1 in (sizes.rating_least, sizes.rating_most)
 
-driveways_with_requires : tie.Need-driveways-with-requires
+driveways_with_requires : tie.Need-driveways_with-driveway_factor-requires
 driveways_with_requires c κs =
     let edition = edition_at_driveways c in
     let pre = edition.before.pre in
@@ -61,9 +60,7 @@ driveways_with_requires c κs =
 returns : tie.Need-returns
 unfolding straight_factors
 returns c =
-    let driveways = c.before in
-    let hazard = driveways.before.before in
-    let passing-lane = hazard.before.before in
+    let passing-lane = c.before.before.before.before.before in
     let two_way = passing-lane.before.before in
     let steep = two_way.before.before in
     let grade = steep.before.before in
@@ -82,10 +79,10 @@ returns c =
     let to-grade = further_exact (k.grade _) to-shoulder grade.grade.ensures steep.before.through-exact3.ensures in
     let to-steep = further_exact (k.steep_grade _) to-grade steep.steep_grade.ensures two_way.before.through-exact4.ensures in
     let to-two-way = further_exact (two_way_lane _ _) to-steep two_way.two-way-lane.ensures passing-lane.before.through-exact5.ensures in
-    let to-passing = further_exact (passing _) to-two-way passing-lane.passing.ensures hazard.before.through-exact6.ensures in
-    let to-hazard = further to-passing hazard.hazard-factor.ensures driveways.before.through2.ensures in
-    let bracket = rw (held.constant_is, held.fewest_is) at driveways.driveways-with.ensures in
-    through_all k (Carried start start) (straight_factors a.v) (further to-hazard bracket c.through3.ensures)
+    let to-passing = further_exact (passing _) to-two-way passing-lane.passing.ensures c.through_exact-after_passing.ensures in
+    let to-hazard = further to-passing c.hazard_factor.ensures c.through-after_hazard.ensures in
+    let bracket = rw (held.constant_is, held.fewest_is) at c.driveways_with-driveway_factor.ensures in
+    through_all k (Carried start start) (straight_factors a.v) (further to-hazard bracket c.through.ensures)
 
 pub carry_straight_spec : {M : Type 1} → statement M
 carry_straight_spec =

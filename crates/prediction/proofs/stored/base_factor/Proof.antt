@@ -6,7 +6,7 @@ use Rattle.prediction.proofs.stored.base_factor.Statement.{statement}
 use Rattle.prediction.proofs.stored.base_factor.Tie as tie
 
 returns : tie.Need-returns
-returns c = let s = c.before in c.stored-bracket.ensures ∙ entry_is s.stored-bases.ensures s.before.args.kind (omega arith)
+returns c = c.stored_bracket.ensures ∙ entry_is c.stored_bases-ends.ensures c.args.kind (omega arith)
 
 pub base_factor_spec : {M : Type 1} → statement M
 base_factor_spec =

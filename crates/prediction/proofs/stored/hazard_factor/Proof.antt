@@ -10,10 +10,9 @@ use Rattle.prediction.proofs.stored.hazard_factor.Tie as tie
 
 returns : tie.Need-returns
 returns c =
-    let s = c.before in
-    let rating = s.before.args.rating in
+    let rating = c.args.rating in
     let is : suc (rating - 1) ≡ rating = omega arith in
-    c.stored-bracket.ensures ∙ entry_is s.stored-hazards.ensures (rating - 1) (omega arith) ∙ ap (λ (n : ℕ). stored_bracket (hazard_exponent n)) is
+    c.stored_bracket.ensures ∙ entry_is c.stored_hazards-ends.ensures (rating - 1) (omega arith) ∙ ap (λ (n : ℕ). stored_bracket (hazard_exponent n)) is
 
 pub hazard_factor_spec : {M : Type 1} → statement M
 hazard_factor_spec =

@@ -6,38 +6,36 @@ use borrow.Author.Rules.{rules}
 use Rattle.prediction.proofs.term.term_pair.Statement.{statement}
 use Rattle.prediction.proofs.term.term_pair.Tie as tie
 
-carry_segment_requires : tie.Need-carry-segment-requires
+carry_segment_requires : tie.Need-carry_segment-requires
 carry_segment_requires c κs =
-    let p = c.before.before.before.requires in
-    let sizes = segment_sizes _ _ _ p.4 c.before.if1.true _ p.5.traffic in
-    (p.1, p.5.years_most, p.3.segments_most, rw c.segment-of.ensures sizes)
+    let p = c.requires in
+    let sizes = segment_sizes _ _ _ p.4 c.if-site-eq0.true _ p.5.traffic in
+    (p.1, p.5.years_most, p.3.segments_most, rw c.segment_of-road.ensures sizes)
 
-returns : tie.Need-returns
+returns : tie.Need-returns-then-site-eq0
 returns c =
-    let road = c.before.before in
-    let a = road.before.before.before.args in
+    let a = c.args in
     let term = term_at a.years a.traffic a.minor in
-    rw (← segment_pair _ a.header a.site term road.segment-of.ensures road.before.if1.true, ← c.before.carry-segment.ensures)
-    c.round-outward.ensures
+    rw (← segment_pair _ a.header a.site term c.segment_of-road.ensures c.if-site-eq0.true, ← c.carry_segment.ensures)
+    c.round_outward.ensures
 
-carry_crossing_requires : tie.Need-carry-crossing-requires
+carry_crossing_requires : tie.Need-carry_crossing-requires
 carry_crossing_requires c κs =
-    let p = c.before.before.before.requires in
-    let from = pos_of_ne-zero c.before.if1.false in (
+    let p = c.requires in
+    let from = pos_of_ne-zero c.if-site-eq0.false in (
       p.0,
       p.2,
       p.5.years_most,
       p.3.crossings_most,
-      rw c.crossing-of.ensures (crossing_sizes _ _ _ p.4 from _ _ p.5.traffic (p.5.minor from)),
+      rw c.crossing_of-crossing.ensures (crossing_sizes _ _ _ p.4 from _ _ p.5.traffic (p.5.minor from)),
     )
 
-returns_2 : tie.Need-returns-2
+returns_2 : tie.Need-returns
 returns_2 c =
-    let crossing = c.before.before in
-    let a = crossing.before.before.before.args in
+    let a = c.args in
     let term = term_at a.years a.traffic a.minor in
-    rw (← crossing_pair _ a.header a.site term crossing.crossing-of.ensures crossing.before.if1.false, ← c.before.carry-crossing.ensures)
-    c.round-outward2.ensures
+    rw (← crossing_pair _ a.header a.site term c.crossing_of-crossing.ensures c.if-site-eq0.false, ← c.carry_crossing.ensures)
+    c.round_outward-2.ensures
 
 pub term_pair_spec : {M : Type 1} → statement M
 term_pair_spec =

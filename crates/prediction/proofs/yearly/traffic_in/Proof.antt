@@ -16,14 +16,13 @@ later_year : (first : Slot) (slots : List Slot) (year : ℕ) → (year ≡ 0 →
 later_year first slots zero z = absurd (z refl)
 later_year first slots (suc year) z = let e : suc year - 1 ≡ year = omega arith in rw e
 
-returns : tie.Need-returns
-returns c = c.number.ensures ∙ rw c.before.if1.true refl
+returns : tie.Need-returns-then-year-eq0
+returns c = c.number.ensures ∙ rw c.if-year-eq0.true refl
 
-returns_2 : tie.Need-returns-2
+returns_2 : tie.Need-returns
 returns_2 c =
-    let slots = c.before.before in
-    let a = slots.before.before.args in
-    rw slots.later-slots.ensures at c.number2.ensures ∙ ap numbers.number (later_year a.first (later_slots a.later) a.year slots.before.if1.false)
+    let a = c.args in
+    rw c.later_slots-slots.ensures at c.number-2.ensures ∙ ap numbers.number (later_year a.first (later_slots a.later) a.year c.if-year-eq0.false)
 
 pub traffic_in_spec : {M : Type 1} → statement M
 traffic_in_spec =
