@@ -92,15 +92,15 @@ module _ (k : Coefficients) (v : Segment) (start : ℕ) where
 
 -- THE PAIR of a term is that of its kind's numbers
 module _ (k : Coefficients) (header : Header) (site : Site) (term : Term) where
-  pub segment_pair : {v : Segment} → v ≡ segment_of term.traffic site → site.kind ≡ 0
+  pub segment_pair_lem : {v : Segment} → v ≡ segment_of term.traffic site → site.kind ≡ 0
       → pair_of k (segment_units term.years header.segments v) (segment_factors v) ≡ term_pair k header site term
   unfolding term_pair segment_pair
-  segment_pair i e = rw (i, eq-eqb site.kind 0 e)
+  segment_pair_lem i e = rw (i, eq-eqb site.kind 0 e)
 
-  pub crossing_pair : {v : Crossing} → v ≡ crossing_of term.traffic term.minor site → (site.kind ≡ 0 → ⊥)
+  pub crossing_pair_lem : {v : Crossing} → v ≡ crossing_of term.traffic term.minor site → (site.kind ≡ 0 → ⊥)
       → pair_of k (crossing_units term.years header.crossings) (crossing_factors v) ≡ term_pair k header site term
   unfolding term_pair crossing_pair
-  crossing_pair i f = rw (i, ne_eqb site.kind 0 f)
+  crossing_pair_lem i f = rw (i, ne_eqb site.kind 0 f)
 
 -- THE PAIR of a site is the sum of its terms'
 plus_none : (x : Pair) → x ≡ plus x (record { low = 0; high = 0 })
