@@ -33,7 +33,7 @@ count_is : (loop : tie.At-loop-year invariant_loop decreases_loop) → let a = (
 unfolding sites_counted
 count_is loop =
     let start = entry loop in
-    rw loop.is_yearly-yearly.ensures at loop.count_of-count.ensures ∙ sites_counted_lem start.args.header start.args.site start.pre.3.years_least
+    rw loop.is_yearly-yearly.ensures at loop.count_of-count.ensures ∙ sites_counted_lem start.args.header start.args.site start.requires.3.years_least
 
 count_few : (each : Bool) (years : ℕ) → years ≤ 10 → cond each years 1 ≤ 10
 count_few true years h = h
@@ -42,7 +42,7 @@ count_few false years h = omega arith
 in_year : (c : tie.In-loop-year invariant_loop decreases_loop) → c.loop-year.year ≤ 9
 in_year c =
     let start = entry c.before in
-    omega (arith, c.loop-year-test.true, c.count_of-count.ensures, count_few c.is_yearly-yearly.result start.args.header.years start.pre.3.years_most)
+    omega (arith, c.loop-year-test.true, c.count_of-count.ensures, count_few c.is_yearly-yearly.result start.args.header.years start.requires.3.years_most)
 
 same_term : {years traffic minor years' traffic' minor' : ℕ} → years ≡ years' → traffic ≡ traffic' → minor ≡ minor'
     → term_at years traffic minor ≡ term_at years' traffic' minor'
@@ -64,7 +64,7 @@ term_is c =
 term_pair_requires : tie.Need-term_pair-next-requires invariant_loop decreases_loop
 term_pair_requires c κs =
     let start = entry c.before.before.before in
-    let p = start.pre in
+    let p = start.requires in
     let sized = sized_at start.args.site (terms_of start.args.header start.args.site) (terms_sized _ p.3 _ p.4) c.loop-year.year
     (rw (← count_is c.before.before.before) c.loop-year-test.true) in
     (p.0, p.1, p.2, p.3, p.4, rw (term_is c) at sized)
@@ -81,7 +81,7 @@ summed c =
 add_pair_requires : tie.Need-add_pair-sum-requires invariant_loop decreases_loop
 add_pair_requires c κs =
     let start = entry c.before.before.before.before in
-    summed_small _ start.args.header start.args.site (edition_rated start.args.header.edition) start.pre.3 start.pre.4 (summed c)
+    summed_small _ start.args.header start.args.site (edition_rated start.args.header.edition) start.requires.3 start.requires.4 (summed c)
 
 loop_again : tie.Need-loop-year-preserved invariant_loop decreases_loop
 loop_again c = (omega arith, rw c.add_pair-sum.ensures (summed c.before))

@@ -36,7 +36,7 @@ shoulder_requires : tie.Need-shoulder-shoulder_factor-requires
 shoulder_requires c κs =
     let edition = edition_at_shoulder c in
     let most = (edition_rated edition.before.args.edition).bounded.share_most in
-    (omega (arith, edition.coefficients-of.ensures.share_is, most), edition.before.pre.1.type_most)
+    (omega (arith, edition.coefficients_of-k.ensures.share_is, most), edition.before.requires.1.type_most)
 
 two_way_lane_requires : tie.Need-two_way_lane-requires
 two_way_lane_requires c κs = (edition_at_two_way c).before.requires.1.driveways_most_lem
@@ -50,8 +50,8 @@ hazard_factor_requires c κs = let sizes = (edition_at_passing c.before.before).
 driveways_with_requires : tie.Need-driveways_with-driveway_factor-requires
 driveways_with_requires c κs =
     let edition = edition_at_driveways c in
-    let pre = edition.before.pre in
-    let is = edition.coefficients-of.ensures.constant_is in
+    let pre = edition.before.requires in
+    let is = edition.coefficients_of-k.ensures.constant_is in
     let rated = edition_rated edition.before.args.edition in
     let least = rated.constant_least in
     let most = rated.constant_most in
@@ -60,26 +60,18 @@ driveways_with_requires c κs =
 returns : tie.Need-returns
 unfolding straight_factors
 returns c =
-    let passing-lane = c.before.before.before.before.before in
-    let two_way = passing-lane.before.before in
-    let steep = two_way.before.before in
-    let grade = steep.before.before in
-    let shoulders = grade.before.before in
-    let lanes = shoulders.before.before in
-    let base = lanes.before.before in
-    let edition = base.before in
-    let held = edition.coefficients-of.ensures in
-    let a = edition.before.args in
+    let held = c.coefficients_of-k.ensures in
+    let a = c.args in
     let k = coefficients_of a.edition in
     let start = a.start in
-    let to-base = further {a = Carried start start} refl base.base-factor.ensures lanes.before.through.ensures in
-    let to-lane = further_exact (lane k _ _) to-base (lane_of held _ _ lanes.lane.ensures) shoulders.before.through-exact.ensures in
-    let shoulder-is = shoulder_of held _ _ _ shoulders.shoulder.ensures in
-    let to-shoulder = further_exact (shoulder k _ _ _) to-lane shoulder-is grade.before.through-exact2.ensures in
-    let to-grade = further_exact (k.grade _) to-shoulder grade.grade.ensures steep.before.through-exact3.ensures in
-    let to-steep = further_exact (k.steep_grade _) to-grade steep.steep_grade.ensures two_way.before.through-exact4.ensures in
-    let to-two-way = further_exact (two_way_lane _ _) to-steep two_way.two-way-lane.ensures passing-lane.before.through-exact5.ensures in
-    let to-passing = further_exact (passing _) to-two-way passing-lane.passing.ensures c.through_exact-after_passing.ensures in
+    let to-base = further {a = Carried start start} refl c.base_factor.ensures c.through-after_base.ensures in
+    let to-lane = further_exact (lane k _ _) to-base (lane_of held _ _ c.lane-lane_factor.ensures) c.through_exact-after_lane.ensures in
+    let shoulder-is = shoulder_of held _ _ _ c.shoulder-shoulder_factor.ensures in
+    let to-shoulder = further_exact (shoulder k _ _ _) to-lane shoulder-is c.through_exact-after_shoulder.ensures in
+    let to-grade = further_exact (k.grade _) to-shoulder c.grade.ensures c.through_exact-after_grade.ensures in
+    let to-steep = further_exact (k.steep_grade _) to-grade c.steep_grade.ensures c.through_exact-after_steep_grade.ensures in
+    let to-two-way = further_exact (two_way_lane _ _) to-steep c.two_way_lane.ensures c.through_exact-after_two_way.ensures in
+    let to-passing = further_exact (passing _) to-two-way c.passing.ensures c.through_exact-after_passing.ensures in
     let to-hazard = further to-passing c.hazard_factor.ensures c.through-after_hazard.ensures in
     let bracket = rw (held.constant_is, held.fewest_is) at c.driveways_with-driveway_factor.ensures in
     through_all k (Carried start start) (straight_factors a.v) (further to-hazard bracket c.through.ensures)

@@ -16,13 +16,8 @@ returns : tie.Need-returns-then-site-eq0
 returns c =
     let a = c.args in
     let term = term_at a.years a.traffic a.minor in
-<<<<<<< ours
-    rw (← segment_pair _ a.header a.site term c.segment_of-road.ensures c.if-site-eq0.true, ← c.carry_segment.ensures)
+    rw (← segment_pair_lem _ a.header a.site term c.segment_of-road.ensures c.if-site-eq0.true, ← c.carry_segment.ensures)
     c.round_outward.ensures
-=======
-    rw (← segment_pair_lem _ a.header a.site term road.segment-of.ensures road.before.if1.true, ← c.before.carry-segment.ensures)
-    c.round-outward.ensures
->>>>>>> theirs
 
 carry_crossing_requires : tie.Need-carry_crossing-requires
 carry_crossing_requires c κs =
@@ -39,13 +34,8 @@ returns_2 : tie.Need-returns
 returns_2 c =
     let a = c.args in
     let term = term_at a.years a.traffic a.minor in
-<<<<<<< ours
-    rw (← crossing_pair _ a.header a.site term c.crossing_of-crossing.ensures c.if-site-eq0.false, ← c.carry_crossing.ensures)
+    rw (← crossing_pair_lem _ a.header a.site term c.crossing_of-crossing.ensures c.if-site-eq0.false, ← c.carry_crossing.ensures)
     c.round_outward-2.ensures
-=======
-    rw (← crossing_pair_lem _ a.header a.site term crossing.crossing-of.ensures crossing.before.if1.false, ← c.before.carry-crossing.ensures)
-    c.round-outward2.ensures
->>>>>>> theirs
 
 pub term_pair_spec : {M : Type 1} → statement M
 term_pair_spec =
