@@ -1,7 +1,2 @@
--- What the proofs share, and what callers of the functions over a lent slice of sites need (made by tools/derive).
+-- What the proofs share.
 pub mod NoSite
-pub mod Locals
-pub mod WalkKinds
-pub mod WalkReads
-pub mod WriteProjectKinds
-pub mod WriteProjectReads

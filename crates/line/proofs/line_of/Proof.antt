@@ -12,47 +12,41 @@ use Rattle.line.proofs.line_of.Statement.{statement}
 use Rattle.line.proofs.line_of.Tie as tie
 
 -- what each test leaves known
-known : (c : tie.Else1) → edition_known c.before.before.args.header.edition ≡ true
-known c = sym c.before.is_edition_known.ensures ∙ not-false _ c.if1.false
+known : (c : tie.Else-not-is_edition_known) → edition_known c.args.header.edition ≡ true
+known c = sym c.is_edition_known.ensures ∙ c.if-not-is_edition_known.false
 
-within : (c : tie.Else2) → in_limits c.before.before.before.before.args.header ≡ true
-within c = sym c.before.is-in-limits.ensures ∙ not-false _ c.if2.false
+within : (c : tie.Else-not-is_in_limits) → in_limits c.args.header ≡ true
+within c = sym c.is_in_limits.ensures ∙ c.if-not-is_in_limits.false
 
-valid : (c : tie.Else3) → let a = c.before.before.before.before.before.before.args in sound a.header.edition a.header.years a.site ≡ true
-valid c = sym c.before.is_sound.ensures ∙ not-false _ c.if3.false
+valid : (c : tie.Else-not-is_sound) → let a = c.args in sound a.header.edition a.header.years a.site ≡ true
+valid c = sym c.is_sound.ensures ∙ c.if-not-is_sound.false
 
-returns : tie.Need-returns
-returns c = edition_unknown _ _ _ (sym c.before.is_edition_known.ensures ∙ not-true _ c.if1.true)
+returns : tie.Need-returns-then-not-is_edition_known
+returns c = edition_unknown _ _ _ (sym c.is_edition_known.ensures ∙ c.if-not-is_edition_known.true)
 
-returns_2 : tie.Need-returns-2
-returns_2 c = header_outside _ _ _ (known c.before.before) (sym c.before.is-in-limits.ensures ∙ not-true _ c.if2.true)
+returns_2 : tie.Need-returns-then-not-is_in_limits
+returns_2 c = header_outside _ _ _ (known c.before.before) (sym c.is_in_limits.ensures ∙ c.if-not-is_in_limits.true)
 
-returns_3 : tie.Need-returns-3
+returns_3 : tie.Need-returns-then-not-is_sound
 returns_3 c =
-    let limits = c.before.before in
-    site_outside _ _ _ (known limits.before.before) (within limits) (sym c.before.is_sound.ensures ∙ not-true _ c.if3.true)
+    site_outside _ _ _ (known c.before.before.before.before) (within c.before.before) (sym c.is_sound.ensures ∙ c.if-not-is_sound.true)
 
-line_with_requires : tie.Need-line-with-requires
+line_with_requires : tie.Need-line_with-requires
 line_with_requires c κs =
-    let tables = c.before.before.before in
-    let site = tables.before.before.before in (
-      tables.before.before.stored-powers.ensures,
-      tables.before.stored-logarithms.ensures,
-      tables.stored-exponentials.ensures,
-      limits_of _ (within site.before.before),
-      record { is_sound = valid site },
+    (
+      c.stored_powers-powers.ensures,
+      c.stored_logarithms-logarithms.ensures,
+      c.stored_exponentials-exponentials.ensures,
+      limits_of _ (within c.before.before.before.before.before.before.before.before),
+      record { is_sound = valid c.before.before.before.before.before.before },
     )
 
-returns_4 : tie.Need-returns-4
+returns_4 : tie.Need-returns
 returns_4 c =
-    let tables = c.before.before.before.before in
-    let site = tables.before.before.before in
-    let limits = site.before.before in
-    let edition = limits.before.before in
-    let header = edition.before.before.args.header in
-    rw c.line-with.ensures
-    (all_inside _ _ _ (known edition) (within limits) (valid site)
-    (edition_line header.edition header (limits_of _ (within limits)) _ (record { is_sound = valid site })))
+    let header = c.args.header in
+    rw c.line_with.ensures
+    (all_inside _ _ _ (known c.before.before.before.before.before.before.before.before.before.before.before) (within c.before.before.before.before.before.before.before.before.before) (valid c.before.before.before.before.before.before.before)
+    (edition_line header.edition header (limits_of _ (within c.before.before.before.before.before.before.before.before.before)) _ (record { is_sound = valid c.before.before.before.before.before.before.before })))
 
 pub line_of_spec : {M : Type 1} → statement M
 line_of_spec =

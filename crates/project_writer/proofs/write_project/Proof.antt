@@ -1,6 +1,4 @@
 -- The edition, the limits, then the whole course.
-mod Lts
-mod Tie
 use borrow.Author.Rules.{rules}
 use borrow.Author.Tests.{not-true, not-false}
 use mathlib.Core.Path.{◌≡◌, sym, ◌∙◌}
@@ -10,49 +8,38 @@ use Rattle.site.specs.Rules.{edition_known}
 use Rattle.header.specs.Header.{header_of, admits}
 use Rattle.project_writer.specs.WholeCourse.{edition_refused, limits_refused, measuring, beginning, writing, whole_course}
 use Rattle.project_writer.proofs.write_project.Statement.{statement}
-use Rattle.project_writer.proofs.write_project.Proof.Tie as tie
+use Rattle.project_writer.proofs.write_project.Tie as tie
 
-known : (c : tie.Else1) → edition_known c.before.before.before.args.edition ≡ true
-known c = sym c.before.is_edition_known.ensures ∙ not-false c.before.is_edition_known.result c.if1.false
+known : (c : tie.Else-not-is_edition_known) → edition_known c.args.edition ≡ true
+known c = sym c.is_edition_known.ensures ∙ c.if-not-is_edition_known.false
 
-within : (c : tie.Else2) → let args = c.before.before.before.before.before.args in
+within : (c : tie.Else-not-does_admit) → let args = c.args in
     admits (header_of args.edition args.years args.segments args.crossings) (length args.sites.now) ≡ true
-within c = sym c.before.does_admit.ensures ∙ not-false c.before.does_admit.result c.if2.false
+within c = sym c.does_admit.ensures ∙ c.if-not-does_admit.false
 
-returns : tie.Need-returns
-returns c = let edition = c.before in edition_refused _ _ _ (sym edition.is_edition_known.ensures ∙ not-true edition.is_edition_known.result c.if1.true)
+returns : tie.Need-returns-then-not-is_edition_known
+returns c = edition_refused _ _ _ (sym c.is_edition_known.ensures ∙ c.if-not-is_edition_known.true)
 
-returns_2 : tie.Need-returns-2
+returns_2 : tie.Need-returns-then-not-does_admit
 returns_2 c =
-    let admit = c.before in
-    limits_refused _ _ _ (known admit.before) (sym admit.does_admit.ensures ∙ not-true admit.does_admit.result c.if2.true)
+    limits_refused _ _ _ (known c.before.before) (sym c.does_admit.ensures ∙ c.if-not-does_admit.true)
 
-walk_requires : tie.Need-walk-requires
+walk_requires : tie.Need-walk-measured-requires
 walk_requires c κs =
-    let else = c.before in
-    let args = else.before.before.before.before.before.args in
-    measuring (header_of args.edition args.years args.segments args.crossings) args.sites.now args.buffer.now (known else.before.before) (within else)
+    let args = c.args in
+    measuring (header_of args.edition args.years args.segments args.crossings) args.sites.now args.buffer-1.now (known c.before.before.before) (within c.before)
 
-begin_writing_requires : tie.Need-begin-writing-requires
+begin_writing_requires : tie.Need-begin_writing-begun-requires
 begin_writing_requires c κs =
-    let walk = c.before.before.before in
-    let else = walk.before.before in
-    beginning _ _ _ (known else.before.before) (within else) _ _ walk.walk.ensures
+    beginning _ _ _ (known c.before.before.before.before.before.before.before) (within c.before.before.before.before.before) _ _ c.walk-measured.ensures
 
-walk_requires_2 : tie.Need-walk-requires-2
+walk_requires_2 : tie.Need-walk-requires
 walk_requires_2 c κs =
-    let tried = c.before.before.before in
-    let walk = tried.before.before.before.before in
-    let else = walk.before.before in
-    writing _ _ _ (known else.before.before) (within else) _ _ walk.walk.ensures _ _ tried.begin_writing.ensures
+    writing _ _ _ (known c.before.before.before.before.before.before.before.before.before.before.before) (within c.before.before.before.before.before.before.before.before.before) _ _ c.walk-measured.ensures _ _ c.begin_writing-begun.ensures
 
-returns_3 : tie.Need-returns-3
+returns_3 : tie.Need-returns
 returns_3 c =
-    let put = c.before.before.before in
-    let tried = put.before.before.before.before in
-    let walk = tried.before.before.before.before in
-    let else = walk.before.before in
-    whole_course _ _ _ (known else.before.before) (within else) _ _ walk.walk.ensures _ _ tried.begin_writing.ensures _ _ _ put.walk2.ensures
+    whole_course _ _ _ (known c.before.before.before.before.before.before.before.before.before.before.before.before.before.before.before) (within c.before.before.before.before.before.before.before.before.before.before.before.before.before) _ _ c.walk-measured.ensures _ _ c.begin_writing-begun.ensures _ _ _ c.walk.ensures
     c.answer_of.ensures
 
 pub write_project_spec : {M : Type 1} → statement M

@@ -4,13 +4,13 @@ use borrow.Author.Rules.{rules}
 use Rattle.line.proofs.expected.weigh_low.Statement.{statement}
 use Rattle.line.proofs.expected.weigh_low.Tie as tie
 
-times_down_requires : tie.Need-times-down-requires
+times_down_requires : tie.Need-times_down-requires
 times_down_requires c κs =
-    let sizes = c.before.before.requires in
-    rw (c.before.over-of.ensures, c.under_of.ensures) (under_positive _ _ _ _ sizes, low_fits _ _ _ _ sizes)
+    let sizes = c.requires in
+    rw (c.over_of-over.ensures, c.under_of-under.ensures) (under_positive _ _ _ _ sizes, low_fits _ _ _ _ sizes)
 
 returns : tie.Need-returns
-returns c = rw (← c.before.before.over-of.ensures, ← c.before.under_of.ensures) c.times_down.ensures
+returns c = rw (← c.over_of-over.ensures, ← c.under_of-under.ensures) c.times_down.ensures
 
 pub weigh_low_spec : {M : Type 1} → statement M
 weigh_low_spec =
