@@ -27,7 +27,7 @@ returns_2 c =
 walk_requires : tie.Need-walk-measured-requires
 walk_requires c κs =
     let args = c.args in
-    measuring (header_of args.edition args.years args.segments args.crossings) args.sites.now args.buffer-1.now (known c.before.before.before) (within c.before)
+    measuring (header_of args.edition args.years args.segments args.crossings) args.sites.now args.buffer.now (known c.before.before.before) (within c.before)
 
 begin_writing_requires : tie.Need-begin_writing-begun-requires
 begin_writing_requires c κs =

@@ -3,8 +3,8 @@ use borrow.Author.Rules.{rules}
 use native.Mathlib.Omega.{arith}
 use mathlib.Core.Path.{refl}
 use borrow.Author.Tests.{le-leb, lt-leb}
-use Rattle.project_writer.proofs.course-1.begin_writing.Statement.{statement}
-use Rattle.project_writer.proofs.course-1.begin_writing.Tie as tie
+use Rattle.project_writer.proofs.course.begin_writing.Statement.{statement}
+use Rattle.project_writer.proofs.course.begin_writing.Tie as tie
 
 put_header_requires : tie.Need-put_header-requires
 put_header_requires c κs =

@@ -11,12 +11,11 @@ use Rattle.site.specs.Writing.{record_of, Valid}
 use Rattle.site.specs.Theorems.{longest, record_length, measured_length, measured_outside}
 use Rattle.header.specs.Header.{header_length, most_sites}
 use Rattle.project_writer.specs.Walks.{walks_valid}
-use Rattle.project_writer.proofs.course-1.step.Statement.{statement}
-use Rattle.project_writer.proofs.course-1.step.Tie as tie
+use Rattle.project_writer.proofs.course.step.Statement.{statement}
+use Rattle.project_writer.proofs.course.step.Tie as tie
 
 -- the limits of a file that is measured
-limits : (c : tie.After-measure_site-measure) → let course = c.course-in-Measured-1.given.0 in
-    (course.0 + 1 ≤ most_sites) × (course.1.0 ≤ header_length + longest * course.0)
+limits : (c : tie.After-measure_site-measure) → (c.in-Measured.sites + 1 ≤ most_sites) × (c.in-Measured.n ≤ header_length + longest * c.in-Measured.sites)
 limits c = rw c.in-Measured.is at c.requires
 
 -- what a length that is measured tells of the site
@@ -24,7 +23,7 @@ measured : (c : tie.In-Length) → Valid c.args.edition c.args.years c.args.site
 measured c = measured_length _ _ _ _ (sym c.measure_site-measure.ensures.answer_is ∙ c.in-Length.is)
 
 -- a site that is written is valid and its record fits
-placed : (c : tie.In-Placed) → Valid c.args.edition c.args.years c.args.site × (c.in-Placed.at + length (record_of c.args.edition c.args.site) ≤ length c.args.buffer-1.now)
+placed : (c : tie.In-Placed) → Valid c.args.edition c.args.years c.args.site × (c.in-Placed.at + length (record_of c.args.edition c.args.site) ≤ length c.args.buffer.now)
 placed c = walks_valid _ _ _ [] _ _ (rw c.in-Placed.is at c.requires)
 
 add_t17 : tie.Need-overflow_add-result-in-Length
