@@ -6,39 +6,30 @@ use borrow.Author.Rules.{rules}
 use Rattle.report.proofs.read_project.Statement.{statement}
 use Rattle.report.proofs.read_project.Tie as tie
 
-space_requires : tie.Need-space-requires
+space_requires : tie.Need-space-answer-requires
 space_requires c κs =
-    let found = c.before in
-    (accepted_sites _ _ (sym found.before.before.scan.ensures.answer_is ∙ found.found2.given.1)).few
+    (accepted_sites _ _ (sym c.scan-found.ensures.answer_is ∙ c.in-Accepted.is)).few
 
 fill_requires : tie.Need-fill-requires
 fill_requires c κs =
-    let answer = c.before.before in
-    let found = answer.before.before.before.before in
-    let scanned = sym found.before.before.scan.ensures.answer_is ∙ found.found2.given.1 in
-    let space = sym answer.answer2.given.1 ∙ answer.before.before.space.ensures in
+    let scanned = sym c.scan-found.ensures.answer_is ∙ c.in-Accepted.is in
+    let space = sym c.in-Reported.is ∙ c.space-answer.ensures in
     record { sites = _; scanned = scanned; room_for = space_suffices _ _ _ scanned _ space }
 
-returns : tie.Need-returns
+returns : tie.Need-returns-in-Refused
 returns c =
-    let found = c.before in
-    refused_by_bytes _ _ _ _ (sym found.before.before.scan.ensures.answer_is ∙ found.found.given.1)
+    refused_by_bytes _ _ _ _ (sym c.scan-found.ensures.answer_is ∙ c.in-Refused.is)
 
-returns_2 : tie.Need-returns-2
+returns_2 : tie.Need-returns-in-Refused-answer
 returns_2 c =
-    let answer = c.before in
-    let found = answer.before.before.before.before in
-    let scanned = sym found.before.before.scan.ensures.answer_is ∙ found.found2.given.1 in
-    refused_by_room _ _ _ scanned _ _ (sym answer.answer.given.1 ∙ answer.before.before.space.ensures)
+    let scanned = sym c.scan-found.ensures.answer_is ∙ c.in-Accepted.is in
+    refused_by_room _ _ _ scanned _ _ (sym c.in-Refused-answer.is ∙ c.space-answer.ensures)
 
-returns_3 : tie.Need-returns-3
+returns_3 : tie.Need-returns-in-Reported
 returns_3 c =
-    let fill = c.before.before in
-    let answer = fill.before.before.before in
-    let found = answer.before.before.before.before in
-    let scanned = sym found.before.before.scan.ensures.answer_is ∙ found.found2.given.1 in
-    let space = sym answer.answer2.given.1 ∙ answer.before.before.space.ensures in
-    reported _ _ _ scanned _ _ space fill.fill.ensures.0 fill.fill.ensures.1
+    let scanned = sym c.scan-found.ensures.answer_is ∙ c.in-Accepted.is in
+    let space = sym c.in-Reported.is ∙ c.space-answer.ensures in
+    reported _ _ _ scanned _ _ space c.fill.ensures.0 c.fill.ensures.1
 
 pub read_project_spec : {M : Type 1} → statement M
 read_project_spec =

@@ -4,11 +4,11 @@ use borrow.Author.Rules.{rules}
 use Rattle.report.proofs.space.Statement.{statement}
 use Rattle.report.proofs.space.Tie as tie
 
-returns : tie.Need-returns
-returns c = room_short c.before.args.sites _ _ c.if1.true (omega arith)
+returns : tie.Need-returns-then-room-count
+returns c = room_short c.args.sites _ _ c.if-room-count.true (omega arith)
 
-returns_2 : tie.Need-returns-2
-returns_2 c = room_enough c.before.args.sites _ _ c.if1.false (omega arith)
+returns_2 : tie.Need-returns
+returns_2 c = room_enough c.args.sites _ _ c.if-room-count.false (omega arith)
 
 pub space_spec : {M : Type 1} → statement M
 space_spec = tie.close (tie.spec (λ c. search rules) (λ c. search rules) returns returns_2)
