@@ -111,8 +111,8 @@ module _ (s : List ℕ) (at : ℕ) (answer : SiteAnswer) (c : Coefficients) (hea
   answer_of : answer ≡ read_site header.edition header.years (drop at s)
   answer_of = rw (part_from s at) at reads.answer_is
 
-  pub no_line : (number : ℕ) → answer ≡ reading.Refused number → Unread ≡ record_line c header (read_site header.edition header.years (drop at s))
-  no_line number e = ap (record_line c header) (sym e ∙ answer_of)
+  pub no_line_lem : (number : ℕ) → answer ≡ reading.Refused number → Unread ≡ record_line c header (read_site header.edition header.years (drop at s))
+  no_line_lem number e = ap (record_line c header) (sym e ∙ answer_of)
 
   pub a_line : (site : Site) (n : ℕ) (line : Line) → answer ≡ reading.Read site n → line ≡ site_line c header site
       → Next line n ≡ record_line c header (read_site header.edition header.years (drop at s))
