@@ -11,13 +11,7 @@ line_with_requires c κs =
 
 returns : tie.Need-returns-in-Refused
 returns c =
-<<<<<<< ours
-    no_line c.args.file.now c.args.at _ _ c.args.header c.read_site-answer.ensures _ c.in-Refused.is
-=======
-    let read = c.before.before in
-    let start = read.before.before.before in
-    no_line_lem start.args.file.now start.args.at _ _ start.args.header read.read-site.ensures _ c.enum_told.given.1
->>>>>>> theirs
+    no_line_lem c.args.file.now c.args.at _ _ c.args.header c.read_site-answer.ensures _ c.in-Refused.is
 
 returns_2 : tie.Need-returns-in-Read
 returns_2 c =

@@ -3,7 +3,7 @@ use Rattle.unit.proofs.brackets.crash_exponential_negative.Statement.{statement}
 use Rattle.unit.proofs.brackets.crash_exponential_negative.Tie as tie
 
 returns : tie.Need-returns
-returns c = rw c.before.before.before.before.exponential-negative.ensures.0 at c.before.before.lend.ensures
+returns c = rw c.exponential_negative.ensures.0 at c.lend.ensures
 
 pub crash_exponential_negative_spec : {M : Type 1} → statement M
 crash_exponential_negative_spec =

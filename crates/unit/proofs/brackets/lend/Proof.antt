@@ -3,11 +3,11 @@ use Rattle.unit.proofs.Lending.{refused}
 use Rattle.unit.proofs.brackets.lend.Statement.{statement}
 use Rattle.unit.proofs.brackets.lend.Tie as tie
 
-returns : tie.Need-returns
-returns c = rw c.enum_told.given.1 (refused _ 8)
+returns : tie.Need-returns-in-OutOfRange
+returns c = rw c.in-OutOfRange.is (refused _ 8)
 
-returns_2 : tie.Need-returns-2
-returns_2 c = let lent = c.before.before in rw lent.before.before.before.answer.given.1 lent.lend-four.ensures
+returns_2 : tie.Need-returns-in-Between
+returns_2 c = rw c.in-Between.is c.lend_four.ensures
 
 pub lend_spec : {M : Type 1} → statement M
 lend_spec =

@@ -10,9 +10,9 @@ pub lend_four_spec : {M : Type 1} → statement M
 lend_four_spec =
     tie.close
     (tie.spec
-    (λ c. no_space _ _ _ c.if1.true)
+    (λ c. no_space _ _ _ c.if-run-lt4.true)
     (λ c. search rules)
     (λ c. simp length-set (omega arith))
     (λ c. simp length-set (omega arith))
     (λ c. search rules) (λ c. search rules)
-    (λ c. lent _ _ _ c.if1.false))
+    (λ c. lent _ _ _ c.if-run-lt4.false))

@@ -10,26 +10,24 @@ use Rattle.unit.proofs.lines.crash_line.Statement.{statement}
 use Rattle.unit.proofs.lines.crash_line.Tie as tie
 
 -- the answer of the call, lent
-answered : (line : tie.After-line-of) {number : ℕ} {after : List ℕ}
-    → LendsLine line.Line-of.result line.before.before.before.before.args.line.now after number
-    → let a = line.before.before.before.before.args in
+answered : (line : tie.After-line_of-answer) {number : ℕ} {after : List ℕ}
+    → LendsLine line.line_of-answer.result line.args.line.now after number
+    → let a = line.args in
     LinesNumbers (header_of a.edition a.years a.segments a.crossings) a.values.now a.line.now after number
-answered line lends = lined _ _ _ _ _ _ line.before.site-from.ensures _ line.Line-of.ensures.0 line.Line-of.ensures.1.1 lends
+answered line lends = lined _ _ _ _ _ _ line.site_from.ensures _ line.line_of-answer.ensures.0 line.line_of-answer.ensures.1.1 lends
 
-returns : tie.Need-returns
-returns c = answered c.before.before (rw c.enum_told.given.1 (refused _ 3))
+returns : tie.Need-returns-in-EditionUnknown
+returns c = answered c.before (rw c.in-EditionUnknown.is (refused _ 3))
 
-returns_2 : tie.Need-returns-2
-returns_2 c = answered c.before.before (rw c.enum-told2.given.1 (refused _ 4))
+returns_2 : tie.Need-returns-in-OutsideLimits
+returns_2 c = answered c.before (rw c.in-OutsideLimits.is (refused _ 4))
 
-returns_3 : tie.Need-returns-3
-returns_3 c = answered c.before.before (rw c.enum-told3.given.1 (refused _ 8))
+returns_3 : tie.Need-returns-in-OutsideRange
+returns_3 c = answered c.before (rw c.in-OutsideRange.is (refused _ 8))
 
-returns_4 : tie.Need-returns-4
+returns_4 : tie.Need-returns-in-Made
 returns_4 c =
-    let lent = c.before.before in
-    let made = lent.before.before.before in
-    answered made.before.before (rw made.answer.given.1 lent.lend-four.ensures)
+    answered c.before.before.before.before.before (rw c.in-Made.is c.lend_four.ensures)
 
 pub crash_line_spec : {M : Type 1} → statement M
 crash_line_spec =

@@ -3,11 +3,11 @@ use borrow.Author.Rules.{rules}
 use Rattle.unit.proofs.projects.crash_project.Statement.{statement}
 use Rattle.unit.proofs.projects.crash_project.Tie as tie
 
-returns : tie.Need-returns
-returns c = let answer = c.before in told _ _ _ _ answer.before.before.before.before.read-project.ensures _ answer.answer.given.1
+returns : tie.Need-returns-in-Refused
+returns c = told _ _ _ _ c.read_project-answer.ensures _ c.in-Refused.is
 
-returns_2 : tie.Need-returns-2
-returns_2 c = let answer = c.before in told _ _ _ _ answer.before.before.before.before.read-project.ensures _ answer.answer2.given.1
+returns_2 : tie.Need-returns-in-Reported
+returns_2 c = told _ _ _ _ c.read_project-answer.ensures _ c.in-Reported.is
 
 pub crash_project_spec : {M : Type 1} → statement M
 crash_project_spec =

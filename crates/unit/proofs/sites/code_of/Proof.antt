@@ -5,8 +5,8 @@ use borrow.Author.Rules.{rules}
 use Rattle.unit.proofs.sites.code_of.Statement.{statement}
 use Rattle.unit.proofs.sites.code_of.Tie as tie
 
-returns : tie.Need-returns
-returns c = sym (ap code c.enum_told.given.1)
+returns : tie.Need-returns-in-Absent
+returns c = sym (ap code c.in-Absent.is)
 
 pub code_of_spec : {M : Type 1} → statement M
 code_of_spec = tie.close (tie.spec (λ c. search rules) (λ c. search rules) (λ c. search rules) returns (λ c. search rules))

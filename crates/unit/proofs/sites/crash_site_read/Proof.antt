@@ -4,18 +4,16 @@ use borrow.Author.Rules.{rules}
 use Rattle.unit.proofs.sites.crash_site_read.Statement.{statement}
 use Rattle.unit.proofs.sites.crash_site_read.Tie as tie
 
-returns : tie.Need-returns
-returns c = let read = c.before.before in rw (← read.before.before.read-site.ensures.answer_is, read.answer2.given.1) (no_space _ _ _ c.if1.true)
+returns : tie.Need-returns-then-values-lt-ANSWER_NUMBERS
+returns c = rw (← c.read_site-answer.ensures.answer_is, c.in-Read.is) (no_space _ _ _ c.if-values-lt-ANSWER_NUMBERS.true)
 
-returns_2 : tie.Need-returns-2
-returns_2 c = rw (← c.before.before.before.read-site.ensures.answer_is, c.before.answer.given.1) (refused _ _)
+returns_2 : tie.Need-returns-in-Refused
+returns_2 c = rw (← c.read_site-answer.ensures.answer_is, c.in-Refused.is) (refused _ _)
 
-returns_3 : tie.Need-returns-3
+returns_3 : tie.Need-returns-else-values-lt-ANSWER_NUMBERS
 returns_3 c =
-    let room = c.before.before.before.before in
-    let read = room.before.before in
-    rw (← read.before.before.read-site.ensures.answer_is, read.answer2.given.1, c.before.before.put-site.ensures)
-    (lent _ _ _ room.if1.false)
+    rw (← c.read_site-answer.ensures.answer_is, c.in-Read.is, c.put_site.ensures)
+    (lent _ _ _ c.if-values-lt-ANSWER_NUMBERS.false)
 
 pub crash_site_read_spec : {M : Type 1} → statement M
 crash_site_read_spec =

@@ -4,19 +4,13 @@ use borrow.Author.Rules.{rules}
 use Rattle.unit.proofs.sites.crash_site_write.Statement.{statement}
 use Rattle.unit.proofs.sites.crash_site_write.Tie as tie
 
-returns : tie.Need-returns
+returns : tie.Need-returns-in-Unwritten
 returns c =
-    let match = c.before.before in
-    let wrote = match.before.before.before in
-    let site = wrote.before.before in
-    written_numbers _ _ _ _ _ _ _ site.site-from.ensures _ wrote.write-site.ensures _ c.before.answer.given.1
+    written_numbers _ _ _ _ _ _ _ c.site_from.ensures _ c.write_site-answer.ensures _ c.in-Unwritten.is
 
-returns_2 : tie.Need-returns-2
+returns_2 : tie.Need-returns-in-Written
 returns_2 c =
-    let match = c.before.before in
-    let wrote = match.before.before.before in
-    let site = wrote.before.before in
-    written_numbers _ _ _ _ _ _ _ site.site-from.ensures _ wrote.write-site.ensures _ c.before.answer2.given.1
+    written_numbers _ _ _ _ _ _ _ c.site_from.ensures _ c.write_site-answer.ensures _ c.in-Written.is
 
 pub crash_site_write_spec : {M : Type 1} → statement M
 crash_site_write_spec =

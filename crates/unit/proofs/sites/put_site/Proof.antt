@@ -7,16 +7,16 @@ use borrow.Author.Rules.{rules}
 use Rattle.unit.proofs.sites.put_site.Statement.{statement}
 use Rattle.unit.proofs.sites.put_site.Tie as tie
 
-put_slots_requires : tie.Need-put-slots-requires
+put_slots_requires : tie.Need-put_slots-requires
 put_slots_requires c κs = simp length-set (omega arith)
 
-same_length : tie.Need-same-length
-same_length c = simp length-set (c.before.before.put-slots.auto.1.0 ∙ simp length-set)
+same_length : tie.Need-shape_of-values
+same_length c = simp length-set (c.put_slots.auto.values ∙ simp length-set)
 
 returns : tie.Need-returns
 returns c =
-    let args = c.before.before.before.before.before.args in
-    all_values args.site _ args.values.now _ c.before.before.put-slots.ensures
+    let args = c.args in
+    all_values args.site _ args.values.now _ c.put_slots.ensures
 
 pub put_site_spec : {M : Type 1} → statement M
 put_site_spec =

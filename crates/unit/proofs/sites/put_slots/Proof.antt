@@ -12,36 +12,34 @@ use Rattle.unit.proofs.NumberSteps.{store_more, store_end}
 use Rattle.unit.proofs.sites.put_slots.Statement.{statement}
 use Rattle.unit.proofs.sites.put_slots.Tie as tie
 
-abbrev invariant_loop : tie.invariant_loop
+abbrev invariant_loop : tie.invariant-loop-i
 invariant_loop values₀ slots traffic minor i₀ values i =
     (i ≤ all_count)
     × (length values ≡ length values₀)
     × (sets values (i + 1) (map code (drop i (slots ++ (traffic ++ minor)))) ≡ sets values₀ 1 (map code (slots ++ (traffic ++ minor))))
 
-abbrev decreases_loop : tie.decreases_loop
+abbrev decreases_loop : tie.decreases-loop-i
 decreases_loop values₀ slots traffic minor i₀ values i = all_count - i
 
 -- the three runs are all the slots
-runs : (c : tie.After-later-slots2 invariant_loop decreases_loop) → c.before.before.slots-of.result ++ (c.before.later-slots.result ++ c.later-slots2.result)
-    ≡ all_slots c.before.before.before.before.before.before.args.site
-runs c = rw (c.before.before.slots-of.ensures, c.before.later-slots.ensures, c.later-slots2.ensures) refl
+runs : (c : tie.After-later_slots-minor invariant_loop decreases_loop) → c.slots_of-slots.result ++ (c.later_slots-traffic.result ++ c.later_slots-minor.result)
+    ≡ all_slots c.args.site
+runs c = rw (c.slots_of-slots.ensures, c.later_slots-traffic.ensures, c.later_slots-minor.ensures) refl
 
-loop_again : tie.Need-loop-preserved invariant_loop decreases_loop
+loop_again : tie.Need-loop-i-preserved invariant_loop decreases_loop
 loop_again c =
-    let at = c.before.before.before in
-    let loop = at.loop in (
+    let loop = c.loop-i in (
       omega arith,
       simp length-set loop.invariant.1,
-      store_more code _ _ _ _ _ (ap length (runs at.before)) loop.invariant.2 _ _ c.before.before.loop_test.true
-          (c.code_of_lem.ensures ∙ ap code c.before.slot_at.ensures),
+      store_more code _ _ _ _ _ (ap length (runs c.before.before.before.before)) loop.invariant.2 _ _ c.loop-i-test.true
+          (c.code_of.ensures ∙ ap code c.slot_at.ensures),
     )
 
 returns : tie.Need-returns invariant_loop decreases_loop
 returns c =
-    let start = c.before.before.before.before.before.before.before.before in
     let all = runs c.before.before in
-    store_end code _ _ _ _ _ (ap length all) c.before.loop.invariant.2 c.loop_test.false
-    ∙ ap (λ (slots : List Slot). sets start.args.values.now 1 (map code slots)) all
+    store_end code _ _ _ _ _ (ap length all) c.loop-i.invariant.2 c.loop-i-test.false
+    ∙ ap (λ (slots : List Slot). sets c.args.values.now 1 (map code slots)) all
 
 pub put_slots_spec : {M : Type 1} → statement M
 put_slots_spec =

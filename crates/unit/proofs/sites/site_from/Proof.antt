@@ -5,14 +5,13 @@ use borrow.Author.Rules.{rules}
 use Rattle.unit.proofs.sites.site_from.Statement.{statement}
 use Rattle.unit.proofs.sites.site_from.Tie as tie
 
-returns : tie.Need-returns
-returns c = c.site-of-all.ensures ∙ few_numbers c.before.before.before.args.values.now c.before.if1.true
+returns : tie.Need-returns-then-values-lt-SITE_NUMBERS
+returns c = c.site_of_all.ensures ∙ few_numbers c.args.values.now c.if-values-lt-SITE_NUMBERS.true
 
-returns_2 : tie.Need-returns-2
+returns_2 : tie.Need-returns
 returns_2 c =
-    let kind = c.before.before.before in
-    let numbers = kind.before.before.before.before.args.values.now in
-    c.site-of-all2.ensures ∙ enough_numbers numbers kind.before.before.if1.false _ _ kind.kind_from_lem.ensures c.before.slots-from.ensures
+    let numbers = c.args.values.now in
+    c.site_of_all-2.ensures ∙ enough_numbers numbers c.if-values-lt-SITE_NUMBERS.false _ _ c.kind_from-kind.ensures c.slots_from.ensures
 
 pub site_from_spec : {M : Type 1} → statement M
 site_from_spec =

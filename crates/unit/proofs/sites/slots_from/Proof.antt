@@ -11,28 +11,27 @@ use Rattle.unit.proofs.NumberSteps.{store_start, store_more, store_end}
 use Rattle.unit.proofs.sites.slots_from.Statement.{statement}
 use Rattle.unit.proofs.sites.slots_from.Tie as tie
 
-abbrev invariant_loop : tie.invariant_loop
+abbrev invariant_loop : tie.invariant-loop-i
 invariant_loop numbers slots₀ i₀ slots i =
     (i ≤ all_count) × (length slots ≡ all_count) × (sets slots i (map slot_from (drop i numbers)) ≡ map slot_from numbers)
 
-abbrev decreases_loop : tie.decreases_loop
+abbrev decreases_loop : tie.decreases-loop-i
 decreases_loop numbers slots₀ i₀ slots i = all_count - i
 
-loop_holds : tie.Need-loop-init invariant_loop decreases_loop
-loop_holds c = (omega arith, refl, store_start slot_from c.before.args.numbers.now _ (sym c.before.requires))
+loop_holds : tie.Need-loop-i-init invariant_loop decreases_loop
+loop_holds c = (omega arith, refl, store_start slot_from c.args.numbers.now _ (sym c.requires))
 
-loop_again : tie.Need-loop-preserved invariant_loop decreases_loop
+loop_again : tie.Need-loop-i-preserved invariant_loop decreases_loop
 loop_again c =
-    let at = c.before.before.before in
-    let count = at.before.before.requires in
-    let loop = at.loop in (
+    let count = c.requires in
+    let loop = c.loop-i in (
       omega arith,
       simp length-set loop.invariant.1,
-      store_more slot_from _ _ _ _ _ count loop.invariant.2 _ _ c.before.before.loop_test.true c.slot-from.ensures,
+      store_more slot_from _ _ _ _ _ count loop.invariant.2 _ _ c.loop-i-test.true c.slot_from.ensures,
     )
 
 returns : tie.Need-returns invariant_loop decreases_loop
-returns c = store_end slot_from _ _ _ _ _ c.before.before.before.requires c.before.loop.invariant.2 c.loop_test.false
+returns c = store_end slot_from _ _ _ _ _ c.requires c.loop-i.invariant.2 c.loop-i-test.false
 
 pub slots_from_spec : {M : Type 1} → statement M
 slots_from_spec =

@@ -7,8 +7,8 @@ use Rattle.unit.proofs.slots.later_at.Tie as tie
 
 returns : tie.Need-returns
 returns c =
-    let args = c.before.before.before.before.before.before.before.before.before.before.args in
-    c.later_of.ensures ∙ later_there args.t1 args.at
+    let args = c.args in
+    c.later_of.ensures ∙ later_there args.slots args.at
 
 pub later_at_spec : {M : Type 1} → statement M
 later_at_spec =

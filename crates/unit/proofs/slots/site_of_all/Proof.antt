@@ -7,10 +7,8 @@ use Rattle.unit.proofs.slots.site_of_all.Tie as tie
 
 returns : tie.Need-returns
 returns c =
-    let minor = c.before in
-    let tenth = minor.before.before.before.before.before.before.before.before.before.before.before.before in
-    let args = tenth.before.before.before.before.before.before.before.before.before.before.args in
-    c.site-of.ensures ∙ made_of_all args.kind args.t2 _ _ minor.before.later_at_lem.ensures minor.later-at2.ensures
+    let args = c.args in
+    c.site_of.ensures ∙ made_of_all args.kind args.slots _ _ c.later_at-traffic.ensures c.later_at-minor.ensures
 
 pub site_of_all_spec : {M : Type 1} → statement M
 site_of_all_spec =

@@ -8,20 +8,18 @@ use Rattle.unit.proofs.NumberSteps.{past}
 use Rattle.unit.proofs.slots.slot_at.Statement.{statement}
 use Rattle.unit.proofs.slots.slot_at.Tie as tie
 
-returns : tie.Need-returns
-returns c = let args = c.before.before.args in sym (get_or-append args.t1 _ _ args.i (omega arith))
+returns : tie.Need-returns-then-i-lt-SLOTS
+returns c = let args = c.args in sym (get_or-append args.slots _ _ args.i (omega arith))
 
-returns_2 : tie.Need-returns-2
+returns_2 : tie.Need-returns-then-later-lt-LATER_YEARS
 returns_2 c =
-    let start = c.before.before.before in
-    let args = start.args in
-    sym (get_or-append args.t2 _ _ (args.i - 20) (omega arith)) ∙ past args.t1 _ _ _ start.requires.0 (omega arith)
+    let args = c.args in
+    sym (get_or-append args.traffic _ _ (args.i - 20) (omega arith)) ∙ past args.slots _ _ _ c.requires.0 (omega arith)
 
-returns_3 : tie.Need-returns-3
+returns_3 : tie.Need-returns
 returns_3 c =
-    let start = c.before.before.before in
-    let args = start.args in
-    past args.t2 _ _ _ start.requires.1 (omega arith) ∙ past args.t1 _ _ _ start.requires.0 (omega arith)
+    let args = c.args in
+    past args.traffic _ _ _ c.requires.1 (omega arith) ∙ past args.slots _ _ _ c.requires.0 (omega arith)
 
 pub slot_at_spec : {M : Type 1} → statement M
 slot_at_spec =

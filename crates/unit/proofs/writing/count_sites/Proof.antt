@@ -4,11 +4,11 @@ use Rattle.laws.specs.Quotient.{quotient_up}
 use Rattle.unit.proofs.writing.count_sites.Statement.{statement}
 use Rattle.unit.proofs.writing.count_sites.Tie as tie
 
-returns : tie.Need-returns
+returns : tie.Need-returns-then-whole-numbers
 unfolding quotient_up
 returns c = search rules
 
-returns_2 : tie.Need-returns-2
+returns_2 : tie.Need-returns
 unfolding quotient_up
 returns_2 c = search rules
 

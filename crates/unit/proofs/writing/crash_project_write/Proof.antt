@@ -4,20 +4,20 @@ use Rattle.unit.specs.FileNumbers.{filed}
 use Rattle.unit.proofs.writing.crash_project_write.Statement.{statement}
 use Rattle.unit.proofs.writing.crash_project_write.Tie as tie
 
-returns : tie.Need-returns
-returns c = let wrote = c.before.before.before.before in filed _ wrote.before.write-numbers.ensures _ c.before.answer.given.1
+returns : tie.Need-returns-in-Written
+returns c = filed _ c.write_numbers-answer.ensures _ c.in-Written.is
 
-returns_2 : tie.Need-returns-2
-returns_2 c = let wrote = c.before.before.before in filed _ wrote.before.write-numbers.ensures _ c.enum_told.given.1
+returns_2 : tie.Need-returns-in-EditionUnknown
+returns_2 c = filed _ c.write_numbers-answer.ensures _ c.in-EditionUnknown.is
 
-returns_3 : tie.Need-returns-3
-returns_3 c = let wrote = c.before.before.before in filed _ wrote.before.write-numbers.ensures _ c.enum-told2.given.1
+returns_3 : tie.Need-returns-in-OutsideLimits
+returns_3 c = filed _ c.write_numbers-answer.ensures _ c.in-OutsideLimits.is
 
-returns_4 : tie.Need-returns-4
-returns_4 c = let wrote = c.before.before.before.before in filed _ wrote.before.write-numbers.ensures _ c.before.answer2.given.1
+returns_4 : tie.Need-returns-in-OutsideRange
+returns_4 c = filed _ c.write_numbers-answer.ensures _ c.in-OutsideRange.is
 
-returns_5 : tie.Need-returns-5
-returns_5 c = let wrote = c.before.before.before in filed _ wrote.before.write-numbers.ensures _ c.enum-told3.given.1
+returns_5 : tie.Need-returns-in-TooShort
+returns_5 c = filed _ c.write_numbers-answer.ensures _ c.in-TooShort.is
 
 pub crash_project_write_spec : {M : Type 1} → statement M
 crash_project_write_spec =

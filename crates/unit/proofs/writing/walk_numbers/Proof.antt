@@ -12,46 +12,39 @@ use Rattle.unit.specs.Given.{given_count, given_at, given_within}
 use Rattle.unit.proofs.writing.walk_numbers.Statement.{statement}
 use Rattle.unit.proofs.writing.walk_numbers.Tie as tie
 
-abbrev invariant_loop : tie.invariant_loop
+abbrev invariant_loop : tie.invariant-loop-i
 invariant_loop edition years numbers buffer₀ sites course₀ i₀ buffer course i =
     (i ≤ sites) × (length buffer ≡ length buffer₀) × Walked edition years (sites_given numbers) course₀ buffer₀ i course buffer
 
-abbrev decreases_loop : tie.decreases_loop
+abbrev decreases_loop : tie.decreases-loop-i
 decreases_loop edition years numbers buffer₀ sites course₀ i₀ buffer course i = sites - i
 
 -- the index is one of a site, the numbers reach its place, and the site is taken out there
-counted : (c : tie.In-loop invariant_loop decreases_loop) → let loop = c.before in let start = loop.before.before.before.before in
-    loop.loop.i < site_count (length start.args.numbers.now)
-counted c = let count = c.before.before.count-sites.ensures in omega arith
+counted : (c : tie.In-loop-i invariant_loop decreases_loop) → c.loop-i.i < site_count (length c.args.numbers.now)
+counted c = let count = c.count_sites-sites.ensures in omega arith
 
-within : (c : tie.In-loop invariant_loop decreases_loop) → let loop = c.before in let start = loop.before.before.before.before in
-    site_numbers * loop.loop.i < length start.args.numbers.now
-within c = let loop = c.before in let start = loop.before.before.before.before in given_within start.args.numbers.now _ (counted c)
+within : (c : tie.In-loop-i invariant_loop decreases_loop) → site_numbers * c.loop-i.i < length c.args.numbers.now
+within c = given_within c.args.numbers.now _ (counted c)
 
-taken_out : (c : tie.After-site-from invariant_loop decreases_loop) → let loop = c.before.before.before in let start = loop.before.before.before.before in
-    c.site-from.result ≡ get_or (sites_given start.args.numbers.now) loop.loop.i c.site-from.result
-taken_out c = rw part_from at c.site-from.ensures ∙ sym (given_at _ _ (counted c.before.before) _)
+taken_out : (c : tie.After-site_from-site invariant_loop decreases_loop) → c.site_from-site.result ≡ get_or (sites_given c.args.numbers.now) c.loop-i.i c.site_from-site.result
+taken_out c = rw part_from at c.site_from-site.ensures ∙ sym (given_at _ _ (counted c.before.before) _)
 
-step_requires : tie.Need-step-requires invariant_loop decreases_loop
+step_requires : tie.Need-step-course-requires invariant_loop decreases_loop
 step_requires c κs =
-    let turn = c.before.before.before in
-    walked_needs turn.before.loop.invariant.2 _ _ (rw given_count (counted turn)) (taken_out c.before)
+    walked_needs c.loop-i.invariant.2 _ _ (rw given_count (counted c.before.before.before)) (taken_out c.before)
 
-loop_again : tie.Need-loop-preserved invariant_loop decreases_loop
+loop_again : tie.Need-loop-i-preserved invariant_loop decreases_loop
 loop_again c =
-    let step = c.before.before in
-    let out = step.before.before in
-    let turn = out.before.before in
-    let inv = turn.before.loop.invariant in (
+    let inv = c.loop-i.invariant in (
       omega arith,
-      step.step.auto.1.1.1.0 ∙ inv.1,
-      walked_more inv.2 _ _ (rw given_count (counted turn)) (taken_out out) _ _ step.step.ensures,
+      c.step-course.auto.buffer ∙ inv.1,
+      walked_more inv.2 _ _ (rw given_count (counted c.before.before.before.before.before.before)) (taken_out c.before.before.before.before) _ _ c.step-course.ensures,
     )
 
 returns : tie.Need-returns invariant_loop decreases_loop
 returns c =
-    let count = c.before.before.count-sites.ensures in
-    walked_all c.before.loop.invariant.2 (rw given_count (omega arith))
+    let count = c.count_sites-sites.ensures in
+    walked_all c.loop-i.invariant.2 (rw given_count (omega arith))
 
 pub walk_numbers_spec : {M : Type 1} → statement M
 walk_numbers_spec =
@@ -60,7 +53,7 @@ walk_numbers_spec =
     invariant_loop
     decreases_loop
     (λ c κs. search rules)
-    (λ c. (omega arith, refl, walked_none c.before.before.before.requires))
+    (λ c. (omega arith, refl, walked_none c.requires))
     (λ c. omega (arith, within c)) (λ c. omega (arith, within c)) (λ c. omega (arith, within c)) (λ c. omega (arith, within c)) (λ c. omega (arith, within c))
     (λ c κs. search rules)
     step_requires

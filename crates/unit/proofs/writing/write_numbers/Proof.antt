@@ -13,59 +13,45 @@ use Rattle.unit.proofs.writing.write_numbers.Statement.{statement}
 use Rattle.unit.proofs.writing.write_numbers.Tie as tie
 
 -- the count is that of the sites, and the header admits it
-counted : (c : tie.After-count-sites) → let args = c.before.before.before.args in
-    c.count-sites.result ≡ length (sites_given args.numbers.now)
-counted c = c.count-sites.ensures ∙ sym (given_count _)
+counted : (c : tie.After-count_sites-sites) → let args = c.args in
+    c.count_sites-sites.result ≡ length (sites_given args.numbers.now)
+counted c = c.count_sites-sites.ensures ∙ sym (given_count _)
 
-known : (c : tie.Else1) → let args = c.before.before.before.before.before.args in edition_known args.header.edition ≡ true
-known c = sym c.before.is_edition_known.ensures ∙ not-false c.before.is_edition_known.result c.if1.false
+known : (c : tie.Else-not-is_edition_known) → let args = c.args in edition_known args.header.edition ≡ true
+known c = sym c.is_edition_known.ensures ∙ c.if-not-is_edition_known.false
 
-admitted : (c : tie.After-does-admit) → let args = c.before.before.before.before.before.before.args in
+admitted : (c : tie.After-does_admit) → let args = c.args in
     c.does_admit.result ≡ admits args.header (length (sites_given args.numbers.now))
 admitted c = rw (counted c.before.before.before) at c.does_admit.ensures
 
-within : (c : tie.Else2) → let admit = c.before in let args = admit.before.before.before.before.before.before.args in
+within : (c : tie.Else-not-does_admit) → let args = c.args in
     admits args.header (length (sites_given args.numbers.now)) ≡ true
-within c = sym (admitted c.before) ∙ not-false c.before.does_admit.result c.if2.false
+within c = sym (admitted c.before) ∙ c.if-not-does_admit.false
 
-returns : tie.Need-returns
-returns c = edition_refused _ _ _ (sym c.before.is_edition_known.ensures ∙ not-true c.before.is_edition_known.result c.if1.true)
+returns : tie.Need-returns-then-not-is_edition_known
+returns c = edition_refused _ _ _ (sym c.is_edition_known.ensures ∙ c.if-not-is_edition_known.true)
 
-returns_2 : tie.Need-returns-2
-returns_2 c = limits_refused _ _ _ (known c.before.before) (sym (admitted c.before) ∙ not-true c.before.does_admit.result c.if2.true)
+returns_2 : tie.Need-returns-then-not-does_admit
+returns_2 c = limits_refused _ _ _ (known c.before.before) (sym (admitted c.before) ∙ c.if-not-does_admit.true)
 
-walk_numbers_requires : tie.Need-walk-numbers-requires
+walk_numbers_requires : tie.Need-walk_numbers-measured-requires
 walk_numbers_requires c κs =
-    let limits = c.before in
-    let edition = limits.before.before in
-    let args = edition.before.before.before.before.before.args in
-    measuring args.header (sites_given args.numbers.now) args.buffer.now (known edition) (within limits)
+    let args = c.args in
+    measuring args.header (sites_given args.numbers.now) args.buffer.now (known c.before.before.before) (within c.before)
 
-begin_writing_requires : tie.Need-begin-writing-requires
+begin_writing_requires : tie.Need-begin_writing-begun-requires
 begin_writing_requires c κs =
-    let walk = c.before.before.before in
-    let limits = walk.before.before in
-    let edition = limits.before.before in
-    rw (counted edition.before.before) (beginning _ _ _ (known edition) (within limits) _ _ walk.walk-numbers.ensures)
+    rw (counted c.before.before.before.before.before.before.before.before.before) (beginning _ _ _ (known c.before.before.before.before.before.before.before) (within c.before.before.before.before.before) _ _ c.walk_numbers-measured.ensures)
 
-walk_numbers_requires_2 : tie.Need-walk-numbers-requires-2
+walk_numbers_requires_2 : tie.Need-walk_numbers-requires
 walk_numbers_requires_2 c κs =
-    let tried = c.before.before.before in
-    let walk = tried.before.before.before.before in
-    let limits = walk.before.before in
-    let edition = limits.before.before in
-    let begun = rw (counted edition.before.before) at tried.begin_writing.ensures in
-    writing _ _ _ (known edition) (within limits) _ _ walk.walk-numbers.ensures _ _ begun
+    let begun = rw (counted c.before.before.before.before.before.before.before.before.before.before.before.before.before) at c.begin_writing-begun.ensures in
+    writing _ _ _ (known c.before.before.before.before.before.before.before.before.before.before.before) (within c.before.before.before.before.before.before.before.before.before) _ _ c.walk_numbers-measured.ensures _ _ begun
 
-returns_3 : tie.Need-returns-3
+returns_3 : tie.Need-returns
 returns_3 c =
-    let put = c.before.before.before in
-    let tried = put.before.before.before.before in
-    let walk = tried.before.before.before.before in
-    let limits = walk.before.before in
-    let edition = limits.before.before in
-    let begun = rw (counted edition.before.before) at tried.begin_writing.ensures in
-    whole_course _ _ _ (known edition) (within limits) _ _ walk.walk-numbers.ensures _ _ begun _ _ _ put.walk-numbers2.ensures c.answer_of.ensures
+    let begun = rw (counted c.before.before.before.before.before.before.before.before.before.before.before.before.before.before.before.before.before) at c.begin_writing-begun.ensures in
+    whole_course _ _ _ (known c.before.before.before.before.before.before.before.before.before.before.before.before.before.before.before) (within c.before.before.before.before.before.before.before.before.before.before.before.before.before) _ _ c.walk_numbers-measured.ensures _ _ begun _ _ _ c.walk_numbers.ensures c.answer_of.ensures
 
 pub write_numbers_spec : {M : Type 1} → statement M
 write_numbers_spec =
