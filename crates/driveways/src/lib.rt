@@ -1,6 +1,8 @@
 // Brackets of a segment's driveway part, (0.2 + typeof.c.DD)/(0.2 + 5c) with c = 0.05 - 0.005 ln A, an edition's constant in place of 0.2,
 // from the bracket of ln A. The part falls as ln A rises from 5 driveways a mile on and rises below, so its ends are its values at
 // the ends of ln A.
+#![tactic(auto)]
+
 ghost use Rattle.std.specs.Prelude.{◌≡◌, ◌*◌, ◌≤◌, ◌<◌};
 ghost use Rattle.estimate.specs.Fraction.{◌//◌};
 ghost use Rattle.logarithm.specs.Stored.{StoredLogarithms};

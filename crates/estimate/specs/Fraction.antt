@@ -1,5 +1,5 @@
 -- Fractions. Document 01: "In statements a fraction is two whole numbers, compared by cross products."
-use Rattle.std.specs.Prelude.{ℕ, zero, suc, ◌+◌, ◌-◌, ◌*◌, ◌^◌, ◌≤◌, ◌<◌, Bool, true, false, ◌≡◌, leb}
+use Rattle.std.specs.Prelude.{ℕ, zero, suc, ◌+◌, ◌*◌, ◌^◌, ◌≤◌, ◌<◌, Bool, true, false, ◌≡◌, leb}
 use Rattle.std.proofs.Common.{mul-pos, zero-lt-suc, lit<}
 use Rattle.std.proofs.Math.Nat.{one-le-pow}
 

@@ -1,8 +1,8 @@
 -- Laws of the estimates of ln: what bounds them at every depth, and their order.
-use Rattle.std.specs.Prelude.{ℕ, ◌*◌, ◌^◌, ◌≤◌, ◌<◌}
+use Rattle.std.specs.Prelude.{ℕ, ◌*◌, ◌^◌}
 use native.Mathlib.Omega.{arith}
 use Rattle.std.proofs.Common.{lit≤}
-use Rattle.estimate.specs.Fraction.{Fraction, ◌≤ᶠ◌, ◌<ᶠ◌, whole, decimal}
+use Rattle.estimate.specs.Fraction.{Fraction, ◌≤ᶠ◌, whole, decimal}
 use Rattle.estimate.specs.FractionLaws.{≤ᶠ-trans, ≤ᶠ-refl, <ᶠ-≤ᶠ-trans, ≤ᶠ-<ᶠ-trans, ≤ᶠ-of-not-<ᶠ, not-≤ᶠ-and-<ᶠ, decimal_mono}
 use Rattle.estimate.specs.Standing.{LowRight, HighRight}
 use Rattle.estimate.specs.Exponential.{partial_sum, last_term, exp_under, exp_over, sum_num, term_num, term_den}

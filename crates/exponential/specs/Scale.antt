@@ -1,5 +1,5 @@
 -- The scale at which whole numbers stand for fractions here, and products at that scale.
-use Rattle.std.specs.Prelude.{ℕ, ◌*◌, ◌^◌, ◌≤◌, ◌<◌}
+use Rattle.std.specs.Prelude.{ℕ, ◌^◌, ◌<◌}
 use Rattle.std.proofs.Common.{arith, lit<}
 use Rattle.estimate.specs.Fraction.{Fraction, fraction, ◌≤ᶠ◌, ◌*ᶠ◌}
 use Rattle.wide.specs.Scaling.{floor, ceiling}

@@ -1,6 +1,6 @@
 -- A header's values are those of its bytes by number; its number is told exactly where its cause is found in them, and 0 exactly where
 -- none is; and its tests are the limits.
-use Rattle.std.specs.Prelude.{◌≡◌, Bool, cond, ◌&&◌, List, ◌↔◌, ℕ, ◌+◌, ◌*◌, ◌≤◌, length, drop, ltb, leb}
+use Rattle.std.specs.Prelude.{◌≡◌, Bool, cond, List, ◌↔◌, ℕ, ◌+◌, ◌*◌, ◌≤◌, length, drop, ltb, leb}
 use Rattle.std.proofs.Math.Path.{refl}
 use Rattle.std.proofs.Common.{sym, ◌∙◌, get_or-drop}
 use Rattle.std.proofs.Math.Bool.{true, false, true≢false}

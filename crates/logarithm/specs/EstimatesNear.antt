@@ -1,6 +1,6 @@
 -- The two estimates of a logarithm at depth 12 are near each other: what the over-estimate of e^x exceeds its under-estimate by
 -- is less than what 10^-12 more of x adds.
-use Rattle.std.specs.Prelude.{ℕ, zero, suc, ◌+◌, ◌*◌, ◌^◌, ◌≤◌, ◌<◌}
+use Rattle.std.specs.Prelude.{ℕ, zero, suc, ◌+◌, ◌*◌, ◌^◌, ◌≤◌}
 use Rattle.std.proofs.Common.{le_trans, mul-le-mul_left, mul-le-mul_right, arith}
 use Rattle.std.proofs.Math.Nat.{not-suc-le_self}
 use Rattle.std.proofs.Math.Dec.{lit≤}

@@ -15,7 +15,7 @@ use Rattle.site.specs.Accepted.{reading}
 use Rattle.site.specs.ReadWrite.{read_valid}
 use Rattle.header.specs.Header.{edition_in, in_limits, header_length, header_in, count_in, most_sites}
 use Rattle.header.specs.HeaderLaws.{accepted_header, accepted_edition, accepted_admitted}
-use Rattle.project.specs.declared.ScanAnswer.TheVariants.{Accepted, Refused}
+use Rattle.project.specs.declared.ScanAnswer.TheVariants.{Accepted}
 use Rattle.project.specs.File.{years_in, after_record, scan_records, scan_file, taken, sites_from, sites_in}
 use Rattle.project.specs.Scan.{scan_past_header, accepted_exactly}
 

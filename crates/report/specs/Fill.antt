@@ -25,7 +25,7 @@ use Rattle.prediction.specs.Pair.{most_predicted}
 use Rattle.line.specs.declared.Line.{Line}
 use Rattle.line.specs.Line.{site_line}
 use Rattle.line.specs.Weighing.{LineAtMost, at_most_wider}
-use Rattle.project.specs.declared.ScanAnswer.TheVariants.{Accepted, Refused}
+use Rattle.project.specs.declared.ScanAnswer.TheVariants.{Accepted}
 use Rattle.project.specs.File.{years_in, after_record, scan_records, sites_from, sites_in, scan_file}
 use Rattle.project.specs.Causes.{report_length}
 use Rattle.report.specs.declared.fill.RecordLine.{RecordLine}

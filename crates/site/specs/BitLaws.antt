@@ -12,7 +12,7 @@ use Rattle.site.specs.declared.values.Slot.{Slot}
 use Rattle.site.specs.declared.values.Slot.TheVariants.{Absent, Number}
 use Rattle.site.specs.Rules.{absent_of, needed, lacking, bits, settle}
 use Rattle.site.specs.Yearly.{later_minor}
-use Rattle.site.specs.Record.{word, rest_of, stands, any_field, needed_bit_absent, lacks, misses, curved}
+use Rattle.site.specs.Record.{word, rest_of, any_field, needed_bit_absent, lacks, misses, curved}
 use Rattle.site.specs.Record.{words, value_number, field_number, after, fields_number, fields_values}
 use Rattle.site.specs.Record.{yearly_bit, field_map, kind_in, map_in, field_map_in, later_in, later_minor_in}
 use Rattle.site.specs.Fields.{map_bits, bit_at, standing, later_told}

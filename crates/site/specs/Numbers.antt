@@ -1,5 +1,5 @@
 -- A site's numbers by its kind, as the model takes them, and their ranges where the site is valid.
-use Rattle.std.specs.Prelude.{ℕ, zero, suc, ◌≤◌, ◌<◌, ◌≡◌, refl, Bool, true, false, not, [], ◌⊎◌}
+use Rattle.std.specs.Prelude.{ℕ, zero, suc, ◌≤◌, ◌<◌, ◌≡◌, refl, Bool, true, false, not, ◌⊎◌}
 use Rattle.std.proofs.Common.{sym, ap, inl, inr, le_trans, le_of_eq, arith, lit≤}
 use Rattle.site.specs.declared.rules.Rule.{Rule}
 use Rattle.site.specs.declared.rules.Rule.TheVariants.{Foreign, Lacking, Needed, Optional, Default}

@@ -1,6 +1,5 @@
 -- The limits, then the count.
 use borrow.Author.Rules.{rules}
-use borrow.Author.Tests.{not-true, not-false}
 use Rattle.header.proofs.does_admit.Statement.{statement}
 use Rattle.header.proofs.does_admit.Tie as tie
 

@@ -1,6 +1,5 @@
 -- Each test is one of the definition's, in its order.
 use borrow.Author.Rules.{rules}
-use borrow.Author.Tests.{not-true, not-false}
 use Rattle.header.specs.Header.{in_limits}
 use Rattle.header.proofs.is_in_limits.Statement.{statement}
 use Rattle.header.proofs.is_in_limits.Tie as tie

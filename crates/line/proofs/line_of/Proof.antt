@@ -1,6 +1,5 @@
-use mathlib.Core.Bool.{true, false}
+use mathlib.Core.Bool.{true}
 use mathlib.Core.Path.{◌≡◌, sym, ◌∙◌}
-use borrow.Author.Tests.{not-true, not-false}
 use Rattle.site.specs.Rules.{edition_known}
 use Rattle.site.specs.Writing.{sound}
 use Rattle.header.specs.Header.{in_limits}
@@ -32,14 +31,13 @@ returns_3 c =
     site_outside _ _ _ (known c.before.before.before.before) (within c.before.before) (sym c.is_sound.ensures ∙ c.if-not-is_sound.true)
 
 line_with_requires : tie.Need-line_with-requires
-line_with_requires c κs =
-    (
-      c.stored_powers-powers.ensures,
-      c.stored_logarithms-logarithms.ensures,
-      c.stored_exponentials-exponentials.ensures,
-      limits_of _ (within c.before.before.before.before.before.before.before.before),
-      record { is_sound = valid c.before.before.before.before.before.before },
-    )
+line_with_requires c κs = (
+  c.stored_powers-powers.ensures,
+  c.stored_logarithms-logarithms.ensures,
+  c.stored_exponentials-exponentials.ensures,
+  limits_of _ (within c.before.before.before.before.before.before.before.before),
+  record { is_sound = valid c.before.before.before.before.before.before },
+)
 
 returns_4 : tie.Need-returns
 returns_4 c =

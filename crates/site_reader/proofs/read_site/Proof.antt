@@ -1,5 +1,5 @@
 -- Edition and years are within their limits, kind and map are there, then the fields are read by their rules.
-use borrow.Author.Tests.{lt-ltb, le-ltb, not-true, not-false}
+use borrow.Author.Tests.{lt-ltb, le-ltb}
 use mathlib.Core.Path.{◌≡◌, refl, ap, sym, ◌∙◌}
 use mathlib.Core.Bool.{true}
 use Rattle.site.specs.Rules.{edition_known}
@@ -39,17 +39,16 @@ returns_4 c =
     ))
 
 read_record_requires : tie.Need-read_record-requires
-read_record_requires c κs =
-    (
-      sym c.are_years_known.ensures ∙ c.if-not-are_years_known.false,
-      c.yearly_bit.ensures.1,
-      c.if-kind-gt-LAST_KIND.false,
-      record {
-        kind_is = refl;
-        map_is = sym (c.field_map.ensures ∙ ap field_map c.word_at-whole.ensures);
-        bit_is = sym (c.yearly_bit.ensures.0 ∙ ap yearly_bit c.word_at-whole.ensures);
-      },
-    )
+read_record_requires c κs = (
+  sym c.are_years_known.ensures ∙ c.if-not-are_years_known.false,
+  c.yearly_bit.ensures.1,
+  c.if-kind-gt-LAST_KIND.false,
+  record {
+    kind_is = refl;
+    map_is = sym (c.field_map.ensures ∙ ap field_map c.word_at-whole.ensures);
+    bit_is = sym (c.yearly_bit.ensures.0 ∙ ap yearly_bit c.word_at-whole.ensures);
+  },
+)
 
 returns_5 : tie.Need-returns
 unfolding read_site refusal_of

@@ -1,6 +1,5 @@
 -- Both traffics are tried.
 use borrow.Author.Rules.{rules}
-use borrow.Author.Tests.{not-true, not-false}
 use mathlib.Core.Path.{sym, ◌∙◌}
 use Rattle.site_writer.proofs.is_later_sound.Statement.{statement}
 use Rattle.site_writer.proofs.is_later_sound.Tie as tie

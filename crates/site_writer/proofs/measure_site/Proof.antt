@@ -1,6 +1,5 @@
 -- The edition, the years, the kind, a later year or a slot tells what is outside its range, and the slots and the later years the length.
 use borrow.Author.Rules.{rules}
-use borrow.Author.Tests.{not-true, not-false}
 use mathlib.Core.Path.{◌≡◌, sym, ◌∙◌}
 use mathlib.Core.Bool.{true}
 use Rattle.site.specs.Rules.{years_known}

@@ -10,7 +10,6 @@ use Rattle.site.specs.declared.values.Measure.TheVariants.{Length}
 use Rattle.site.specs.Rules.{slot_count}
 use Rattle.site.specs.Writing.{all_fit, bytes_of}
 use Rattle.site_writer.proofs.WriteSteps.{walk_next, walk_end, bytes_length}
-use borrow.Author.Tests.{not-true, not-false}
 use Rattle.site_writer.proofs.measure_slots.Statement.{statement}
 use Rattle.site_writer.proofs.measure_slots.Tie as tie
 

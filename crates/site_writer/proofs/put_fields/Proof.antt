@@ -36,8 +36,7 @@ put_field_requires c κs =
 
 loop_again : tie.Need-loop-i-preserved invariant_loop decreases_loop
 loop_again c =
-    let loop = c.loop-i in
-    (
+    let loop = c.loop-i in (
       omega arith,
       omega arith,
       c.put_field-place.auto.buffer ∙ loop.invariant.2,

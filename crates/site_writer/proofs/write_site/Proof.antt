@@ -1,6 +1,5 @@
 -- The edition tells 3, the years 4, the measure 8, the space 10, and else the record is put.
 use borrow.Author.Rules.{rules}
-use borrow.Author.Tests.{not-true, not-false}
 use native.Mathlib.Omega.{arith}
 use mathlib.Core.Path.{◌≡◌, sym, ◌∙◌}
 use mathlib.Core.Bool.{true}

@@ -2,8 +2,6 @@
 use native.Mathlib.Omega.{arith}
 use mathlib.Core.Path.{◌≡◌, ap, sym, ◌∙◌}
 use Prim.Native.Nat.{ℕ}
-use mathlib.Core.List.{List}
-use Rattle.site.specs.declared.rules.Entry.{Entry}
 use Rattle.site.specs.Rules.{entries_of}
 use borrow.Author.Rules.{rules}
 use Rattle.site.proofs.rules.entries_of.Statement.{statement}

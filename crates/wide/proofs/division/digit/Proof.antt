@@ -33,8 +33,8 @@ large c =
     let l = c.before.before.loop-r in
     let a = c.before.before.before.args in
     elim c.if-q-lt-BASE.branch [
-      then-q-lt-BASE+else-q-d0 w ↦ failed a.rest a.next a.d (a.d / 2 ^ 32) (a.d % 2 ^ 32) (omega arith) l.q l.r l.invariant.0 w.if-q-d0.false
-    | else-q-lt-BASE w ↦ long a.rest a.next a.d (a.d / 2 ^ 32) (a.d % 2 ^ 32) (omega arith) l.q (omega arith) (omega arith) w.if-q-lt-BASE.false
+      | then-q-lt-BASE+else-q-d0 w ↦ failed a.rest a.next a.d (a.d / 2 ^ 32) (a.d % 2 ^ 32) (omega arith) l.q l.r l.invariant.0 w.if-q-d0.false
+      | else-q-lt-BASE w ↦ long a.rest a.next a.d (a.d / 2 ^ 32) (a.d % 2 ^ 32) (omega arith) l.q (omega arith) (omega arith) w.if-q-lt-BASE.false
     ]
 
 above : (c : tie.Joined-q-lt-BASE invariant_loop decreases_loop) → 0 < c.before.before.loop-r.q
