@@ -3,12 +3,13 @@
 // denominators of the bracket's ends, or that it is out of range. A rest of fewer bytes than three numbers is passed over.
 #![tactic(auto)]
 
-ghost use Rattle.std.specs.Prelude.{◌+◌, ◌<◌, ◌≤◌, length};
+ghost use Rattle.std.specs.Prelude.{◌+◌, ◌<◌, ◌≤◌, length, IfOk};
 
 use bracket::BracketAnswer;
-use libc::{STDIN_FILENO, STDOUT_FILENO};
 use power::power;
 use power_by_ends::power_by_ends;
+use std::io;
+use std::io::{Read, Stdin};
 
 // The upper four bytes of a number count so many times their value.
 const HALF: u64 = 4294967296;
@@ -41,38 +42,45 @@ fn number_at(input: &[u8], at: usize) -> u64
     half_at(input, at) * HALF + half_at(input, at + 4)
 }
 
-fn print_end(num: u64, den: u64, after: &[u8]) {
-    io::print_decimal(STDOUT_FILENO, num);
-    io::write_all(STDOUT_FILENO, b" ");
-    io::print_decimal(STDOUT_FILENO, den);
-    io::write_all(STDOUT_FILENO, after);
-}
-
-fn print_answer(answer: BracketAnswer) {
+fn print_answer(rt: &impl Print, answer: BracketAnswer) -> io::Result<()> {
     match answer {
-        BracketAnswer::Between(b) => {
-            print_end(b.low_num, b.low_den, b" ");
-            print_end(b.high_num, b.high_den, b"\n");
-        }
-        BracketAnswer::OutOfRange => {
-            io::write_all(STDOUT_FILENO, b"out of range\n");
-        }
+        BracketAnswer::Between(b) => println!(rt;
+            "{} {} {} {}",
+            b.low_num, b.low_den, b.high_num, b.high_den
+        ),
+        BracketAnswer::OutOfRange => println!(rt; "out of range"),
     }
 }
 
-fn print_answers(input: &[u8]) {
+fn print_answers(rt: &impl Print, input: &[u8]) -> io::Result<()> {
     for i in 0..input.len() / ARGUMENTS {
         let at = ARGUMENTS * i;
         let base = number_at(input, at);
         let num = number_at(input, at + 8);
         let den = number_at(input, at + 16);
-        print_answer(power(base, num, den));
-        print_answer(power_by_ends(base, num, den));
+        print_answer(rt, power(base, num, den))?;
+        print_answer(rt, power_by_ends(base, num, den))?;
     }
+    Ok(())
 }
 
-fn main() {
+// Fills a buffer from standard input until it is full or the input ends, and returns how many bytes it put there.
+fn read_input(stdin: &mut Stdin, buffer: &mut [u8]) -> io::Result<usize>
+    ensures { IfOk result (λ n. n ≤ length buffer.new) }
+{
+    let mut done = 0;
+    while done < buffer.len() {
+        let n = stdin.read(&mut buffer[done..])?;
+        if n == 0 {
+            return Ok(done);
+        }
+        done += n;
+    }
+    Ok(done)
+}
+
+fn main(rt: HostRuntime) -> io::Result<()> {
     let mut input = [0u8; INPUT_ROOM];
-    let n = io::read_full(STDIN_FILENO, &mut input);
-    print_answers(&input[..n]);
+    let n = read_input(&mut rt.stdin(), &mut input)?;
+    print_answers(&rt, &input[..n])
 }
