@@ -5,7 +5,7 @@
 // and the kinds of what was only read, so that none is left out.
 #![tactic(auto)]
 
-ghost use Rattle.std.specs.Prelude.{◌≤◌, ◌<◌, length};
+ghost use Rattle.std.specs.Prelude.{◌≤◌, ◌<◌, length, IfOk};
 ghost use Rattle.exponential.specs.Stored.{StoredExponentials};
 ghost use Rattle.logarithm.specs.Stored.{StoredLogarithms};
 ghost use Rattle.power.specs.Stored.{StoredPowers};
@@ -15,7 +15,6 @@ use bracket::Bracket;
 use exponential::exponential_with;
 use exponential::stored::stored_exponentials;
 use header::{Header, MOST_SITES};
-use libc::{STDIN_FILENO, STDOUT_FILENO};
 use line::line_with;
 use logarithm::logarithm_with;
 use logarithm::stored::stored_logarithms;
@@ -26,6 +25,8 @@ use site::rules::LONGEST_RECORD;
 use site::values::{Site, SiteAnswer};
 use site::words::word_at;
 use site_reader::read_site;
+use std::io;
+use std::io::{Read, Stdin};
 
 const MODULUS: u64 = 4294967296;
 
@@ -185,22 +186,36 @@ fn rounds(input: &[u8], job: usize, start: u64) -> u64
     sum
 }
 
-fn print_sum(sum: u64) {
-    io::print_decimal(STDOUT_FILENO, sum % MODULUS);
-    io::write_all(STDOUT_FILENO, b"\n");
+fn print_sum(rt: &impl Print, sum: u64) -> io::Result<()> {
+    println!(rt; "{}", sum % MODULUS)
 }
 
-fn print_sums(input: &[u8]) {
+fn print_sums(rt: &impl Print, input: &[u8]) -> io::Result<()> {
     if input.len() < HEAD {
-        return;
+        return Ok(());
     }
     let sum = rounds(input, 1, rounds(input, 0, 0));
-    print_sum(rounds(input, 3, rounds(input, 2, sum)));
-    print_sum(rounds(input, 5, rounds(input, 4, 0)));
+    print_sum(rt, rounds(input, 3, rounds(input, 2, sum)))?;
+    print_sum(rt, rounds(input, 5, rounds(input, 4, 0)))
 }
 
-fn main() {
+// Fills a buffer from standard input until it is full or the input ends, and returns how many bytes it put there.
+fn read_input(stdin: &mut Stdin, buffer: &mut [u8]) -> io::Result<usize>
+    ensures { IfOk result (λ n. n ≤ length buffer.new) }
+{
+    let mut done = 0;
+    while done < buffer.len() {
+        let n = stdin.read(&mut buffer[done..])?;
+        if n == 0 {
+            return Ok(done);
+        }
+        done += n;
+    }
+    Ok(done)
+}
+
+fn main(rt: HostRuntime) -> io::Result<()> {
     let mut input = [0u8; INPUT_ROOM];
-    let n = io::read_full(STDIN_FILENO, &mut input);
-    print_sums(&input[..n]);
+    let n = read_input(&mut rt.stdin(), &mut input)?;
+    print_sums(&rt, &input[..n])
 }
