@@ -6,10 +6,10 @@ ghost use Rattle.crash_report.specs.Printed.{input_room, report_room, text_room,
 ghost use Rattle.crash_report.specs.Input.{InputWithin};
 
 use header::{HEADER_LENGTH, MOST_SITES};
-use libc::{STDERR_FILENO, STDIN_FILENO, STDOUT_FILENO};
 use report::{ProjectAnswer, read_project};
 use report_text::{put_refusal, put_report};
 use site::rules::LONGEST_RECORD;
+use std::io::{Read, Stdin};
 
 // One byte more than the longest file: the bytes past it bear on nothing.
 const INPUT_ROOM: usize = HEADER_LENGTH + MOST_SITES * LONGEST_RECORD + 1;
@@ -27,21 +27,17 @@ enum Input {
 }
 
 // Fills a buffer from standard input until it is full or the input ends.
-fn read_input(buffer: &mut [u8]) -> Input
+fn read_input(stdin: &mut Stdin, buffer: &mut [u8]) -> Input
     requires { length buffer.old ≡ input_room }
     ensures { InputWithin result (length buffer.new) }
 {
     let mut done = 0;
     while done < buffer.len() {
-        let got = libc::read(STDIN_FILENO, &mut buffer[done..]);
-        if got < 0 {
-            return Input::Failed;
+        match stdin.read(&mut buffer[done..]) {
+            Ok(0) => return Input::Bytes(done),
+            Ok(n) => done += n,
+            Err(_) => return Input::Failed,
         }
-        let n = io::count(got, &buffer[done..]);
-        if n == 0 {
-            return Input::Bytes(done);
-        }
-        done += n;
     }
     Input::Bytes(done)
 }
@@ -58,24 +54,24 @@ fn project_text(file: &[u8], report: &mut [u64], text: &mut [u8]) -> usize
     }
 }
 
-// Prints the answer for a file in one piece.
-fn print_answer(file: &[u8]) {
+// Prints the answer for a file in one piece, or tells that a write failed.
+fn print_answer(rt: &HostRuntime, file: &[u8]) {
     let mut report = [0u64; REPORT_ROOM];
     let mut text = [0u8; TEXT_ROOM];
     let n = project_text(file, &mut report, &mut text);
-    if !io::write_all(STDOUT_FILENO, &text[..n]) {
-        io::write_all(STDERR_FILENO, b"crash_report: writing failed\n");
+    if rt.write_all(&text[..n]).is_err() {
+        let _ = eprintln!(rt; "crash_report: writing failed");
     }
 }
 
 // Reads standard input, then prints the answer, or tells that a read failed.
-fn main() {
+fn main(rt: HostRuntime) {
     let mut file = [0u8; INPUT_ROOM];
-    let input = read_input(&mut file);
+    let input = read_input(&mut rt.stdin(), &mut file);
     match input {
-        Input::Bytes(n) => print_answer(&file[..n]),
+        Input::Bytes(n) => print_answer(&rt, &file[..n]),
         Input::Failed => {
-            io::write_all(STDERR_FILENO, b"crash_report: reading failed\n");
+            let _ = eprintln!(rt; "crash_report: reading failed");
         }
     }
 }
