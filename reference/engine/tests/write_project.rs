@@ -7,7 +7,6 @@ use reference::generate::{self, Random};
 use reference::project::{self, Header, Project};
 use reference::record::Site;
 use reference::rules::{EDITIONS, LAST_EDITION, MOST_YEARS};
-use std::os::unix::fs::symlink;
 use std::path::{Path, PathBuf};
 use std::process::{self, Command};
 use std::{env, fs};
@@ -15,7 +14,10 @@ use std::{env, fs};
 const PROGRAM: &str = "written_project";
 
 /// What the program's line of `crates.txt` has.
-const CRATES: &str = "site site_reader header project_writer io libc";
+const CRATES: &str = "site site_reader header project_writer";
+
+/// The name of the program's one run.
+const RUN: &str = "lists";
 
 /// The program's buffer, and what its bytes are before the call.
 const BUFFER: usize = 512;
@@ -114,30 +116,41 @@ fn root() -> PathBuf {
     Path::new(env!("CARGO_MANIFEST_DIR")).join("../..")
 }
 
-/// A repository of the engine's crates and the program, with what it reads and
+/// Copies a folder and what is below it.
+fn copy(from: &Path, to: &Path) {
+    fs::create_dir_all(to).expect("a folder");
+    for entry in fs::read_dir(from).expect("a folder") {
+        let path = entry.expect("a file").path();
+        let copied = to.join(path.file_name().expect("a name"));
+        if path.is_dir() {
+            copy(&path, &copied);
+        } else {
+            fs::copy(&path, &copied).expect("a copy");
+        }
+    }
+}
+
+/// A repository of the engine's sources and the program, with what it reads and
 /// what it must print. It stands outside the engine's own, which may hold no
 /// program that is not proved.
 fn repository(input: &[u8], output: &[u8]) -> PathBuf {
     let folder = env::temp_dir().join(format!("{PROGRAM}.{}", process::id()));
-    let program = folder.join("crates").join(PROGRAM);
-    fs::create_dir_all(program.join("src")).expect("a folder");
-    for name in fs::read_dir(root().join("crates")).expect("the crates") {
-        let path = name.expect("a crate").path();
-        let link = folder
-            .join("crates")
-            .join(path.file_name().expect("a name"));
-        symlink(fs::canonicalize(path).expect("a crate"), link).expect("a link");
+    for entry in fs::read_dir(root().join("crates")).expect("the crates") {
+        let path = entry.expect("a crate").path();
+        let name = path.file_name().expect("a name");
+        copy(&path.join("src"), &folder.join("crates").join(name).join("src"));
     }
+    let program = folder.join("crates").join(PROGRAM);
+    let [source, runs] = ["src", "runs"].map(|name| program.join(name));
+    fs::create_dir_all(&source).expect("a folder");
+    fs::create_dir_all(&runs).expect("a folder");
     let listed = fs::read_to_string(root().join("crates.txt")).expect("the list of crates");
-    let source = include_bytes!("rattle/write_project.rt.txt");
-    fs::write(
-        folder.join("crates.txt"),
-        format!("{listed}{PROGRAM}: {CRATES}\n"),
-    )
-    .expect("written");
-    fs::write(program.join("src/main.rt"), source).expect("written");
-    fs::write(program.join("stdin"), input).expect("written");
-    fs::write(program.join("stdout"), output).expect("written");
+    let line = format!("{PROGRAM}: {CRATES}\n");
+    fs::write(folder.join("crates.txt"), listed + &line).expect("written");
+    let text = include_bytes!("rattle/write_project.rt.txt");
+    fs::write(source.join("main.rt"), text).expect("written");
+    fs::write(runs.join(RUN), input).expect("written");
+    fs::write(runs.join(RUN).with_extension("stdout"), output).expect("written");
     folder
 }
 
@@ -155,7 +168,8 @@ fn lent_sites_are_written_as_by_the_reference() {
     let output: Vec<u8> = cases.iter().flat_map(Case::output).collect();
     let folder = repository(&input, &output);
     let mut run = Command::new("rt");
-    let tried = run.args(["try", PROGRAM]).current_dir(&folder).output();
+    run.args(["try", "--cases", "runs"]);
+    let tried = run.current_dir(folder.join("crates").join(PROGRAM)).output();
     fs::remove_dir_all(&folder).expect("removed");
     let tried = tried.expect("rt runs");
     assert!(tried.status.success(), "{tried:?}");
