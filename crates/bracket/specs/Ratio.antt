@@ -1,8 +1,8 @@
 -- A fraction as the code holds it, and the bracket between two of them.
 use Rattle.std.specs.Prelude.{ℕ, ◌<◌, ◌≡◌}
 use Rattle.std.proofs.Common.{ap}
-use Rattle.estimate.specs.Fraction.{Fraction, fraction, ◌//◌, ◌≤ᶠ◌}
-use Rattle.estimate.specs.FractionLaws.{//-num, //-den, ≤ᶠ-refl}
+use Rattle.estimate.specs.Fraction.{Fraction, fraction, ◌÷◌, ◌≤ᶠ◌}
+use Rattle.estimate.specs.FractionLaws.{÷-num, ÷-den, ≤ᶠ-refl}
 use Rattle.estimate.specs.Standing.{LowRight, HighRight, exact_low_right, exact_high_right}
 use Rattle.bracket.specs.Bracket.{Stands}
 use Rattle.bracket.specs.declared.Bracket.{Bracket}
@@ -19,8 +19,8 @@ unfoldable pub exactly : Fraction → Bracket
 exactly x = spanned (coded x) (coded x)
 
 -- a quotient is held as its two numbers
-pub coded_quotient : (n d : ℕ) → 0 < d → coded (n // d) ≡ record { num = n; den = d }
-coded_quotient n d h = rw (//-num n d, //-den n d h)
+pub coded_quotient : (n d : ℕ) → 0 < d → coded (n ÷ d) ≡ record { num = n; den = d }
+coded_quotient n d h = rw (÷-num n d, ÷-den n d h)
 
 pub exact_is : {ratio : Ratio} (x : Fraction) → ratio ≡ coded x → spanned ratio ratio ≡ exactly x
 unfolding exactly

@@ -4,8 +4,8 @@ use Rattle.std.proofs.Common.{ap, mul_comm, mul-le-mul_left, mul-le-mul_right, m
 use native.Mathlib.Omega.{arith}
 use Rattle.std.proofs.Math.Decide.{dec_le}
 use borrow.Author.Tests.{lt-ltb, le-ltb}
-use Rattle.estimate.specs.Fraction.{Fraction, ◌≤ᶠ◌, ◌=ᶠ◌, fraction, ◌//◌, whole, lesser, greater}
-use Rattle.estimate.specs.FractionLaws.{≤ᶠ-refl, ≤ᶠ-trans, =ᶠ-≤ᶠ, =ᶠ-≥ᶠ, //-num, //-den, lesser-≤-left, lesser-≤-right, greater-≥-left, greater-≥-right}
+use Rattle.estimate.specs.Fraction.{Fraction, ◌≤ᶠ◌, ◌=ᶠ◌, fraction, ◌÷◌, whole, lesser, greater}
+use Rattle.estimate.specs.FractionLaws.{≤ᶠ-refl, ≤ᶠ-trans, =ᶠ-≤ᶠ, =ᶠ-≥ᶠ, ÷-num, ÷-den, lesser-≤-left, lesser-≤-right, greater-≥-left, greater-≥-right}
 use Rattle.bracket.specs.Bracket.{Stands, RelativeWidth, AbsoluteWidth, logarithm_width}
 use Rattle.bracket.specs.declared.Bracket.{Bracket}
 use Rattle.logarithm.specs.Logarithm.{logarithm_bracket, StandingLogarithm}
@@ -65,17 +65,17 @@ module _ (c xd yd s t p q : ℕ) (l : p ≤ q) where
 
 module _ (constant count : ℕ) (positive : 0 < constant) where
   at_num : (x : Fraction) → (driveway_at constant count x).num ≡ constant * x.den + count * driveway_slope x
-  at_num x = //-num _ _
+  at_num x = ÷-num _ _
 
   at_den : (x : Fraction) → (driveway_at constant count x).den ≡ constant * x.den + 5 * driveway_slope x
-  at_den x = //-den _ _ (omega (arith, mul-pos positive x.pos))
+  at_den x = ÷-den _ _ (omega (arith, mul-pos positive x.pos))
 
   -- at num / den
-  pub at_num_over : (num den : ℕ) → 0 < den → (driveway_at constant count (num // den)).num ≡ constant * den + count * (50 * den - 5 * num)
-  at_num_over num den h = rw (at_num (num // den), //-den num den h, //-num num den)
+  pub at_num_over : (num den : ℕ) → 0 < den → (driveway_at constant count (num ÷ den)).num ≡ constant * den + count * (50 * den - 5 * num)
+  at_num_over num den h = rw (at_num (num ÷ den), ÷-den num den h, ÷-num num den)
 
-  pub at_den_over : (num den : ℕ) → 0 < den → (driveway_at constant count (num // den)).den ≡ constant * den + 5 * (50 * den - 5 * num)
-  at_den_over num den h = rw (at_den (num // den), //-den num den h, //-num num den)
+  pub at_den_over : (num den : ℕ) → 0 < den → (driveway_at constant count (num ÷ den)).den ≡ constant * den + 5 * (50 * den - 5 * num)
+  at_den_over num den h = rw (at_den (num ÷ den), ÷-den num den h, ÷-num num den)
 
   -- from 5 driveways on it falls as ln A rises
   pub driveway_falls : 5 ≤ count → {x y : Fraction} → x ≤ᶠ y → driveway_at constant count y ≤ᶠ driveway_at constant count x
@@ -115,7 +115,7 @@ module _ (constant count : ℕ) (positive : 0 < constant) where
 
     at_most : count ≤ 50 → (driveway_at constant count x).num * (driveways_most constant).den ≤ (driveways_most constant).num * (driveway_at constant count x).den
     at_most few =
-        rw (at_num x, at_den x, //-num (constant + 2500) (constant + 250), //-den (constant + 2500) (constant + 250) (omega arith))
+        rw (at_num x, at_den x, ÷-num (constant + 2500) (constant + 250), ÷-den (constant + 2500) (constant + 250) (omega arith))
         (omega (arith, mul-le-mul_right (driveway_slope x * (constant + 250)) few, mul-le-mul_left (45 * constant) slope_most))
 
 -- THE BRACKET
@@ -151,9 +151,9 @@ module _ (constant fewest count : ℕ) (ln : Bracket) where
 
 -- STANDING
 
-//-is-fraction : (n d : ℕ) (h : 0 < d) → n // d =ᶠ fraction n d h
+÷-is-fraction : (n d : ℕ) (h : 0 < d) → n ÷ d =ᶠ fraction n d h
 unfolding fraction
-//-is-fraction n d h = record { cross = rw (//-num n d, //-den n d h) }
+÷-is-fraction n d h = record { cross = rw (÷-num n d, ÷-den n d h) }
 
 -- the part by its threshold
 module _ (k : Coefficients) (count : ℕ) (x : Fraction) where
@@ -173,13 +173,13 @@ module _ (k : Coefficients) (count : ℕ) (positive : 0 < k.driveway_constant) {
   value x = driveway_at k.driveway_constant count x
 
   low-≤-over : (d : ℕ) → 1 ≤ d → low_end ln ≤ᶠ over d
-  low-≤-over d l = ≤ᶠ-trans (=ᶠ-≤ᶠ (//-is-fraction _ _ s.low_den)) (s.low_right.at d l)
+  low-≤-over d l = ≤ᶠ-trans (=ᶠ-≤ᶠ (÷-is-fraction _ _ s.low_den)) (s.low_right.at d l)
 
   under-≤-high : (d : ℕ) → 1 ≤ d → under d ≤ᶠ high_end ln
-  under-≤-high d l = ≤ᶠ-trans (s.high_right.at d l) (=ᶠ-≥ᶠ (//-is-fraction _ _ s.high_den))
+  under-≤-high d l = ≤ᶠ-trans (s.high_right.at d l) (=ᶠ-≥ᶠ (÷-is-fraction _ _ s.high_den))
 
   low-≤-high : low_end ln ≤ᶠ high_end ln
-  low-≤-high = ≤ᶠ-trans (=ᶠ-≤ᶠ (//-is-fraction _ _ s.low_den)) (≤ᶠ-trans s.in_order (=ᶠ-≥ᶠ (//-is-fraction _ _ s.high_den)))
+  low-≤-high = ≤ᶠ-trans (=ᶠ-≤ᶠ (÷-is-fraction _ _ s.low_den)) (≤ᶠ-trans s.in_order (=ᶠ-≥ᶠ (÷-is-fraction _ _ s.high_den)))
 
   up : count < 5 → {x y : Fraction} → x ≤ᶠ y → value x ≤ᶠ value y
   up few = driveway_rises k.driveway_constant count positive (omega arith)
@@ -214,7 +214,7 @@ module _ (constant fewest count : ℕ) (few : count ≤ 50) (ln : Bracket) where
       → let b = driveway_bracket constant fewest count ln in b.high_num * (driveways_most constant).den ≤ (driveways_most constant).num * b.high_den
   driveway_bracket_most positive =
       by_driveways constant fewest count ln (λ b. b.high_num * (driveways_most constant).den ≤ (driveways_most constant).num * b.high_den)
-      (λ _. unfold whole fraction in rw (//-num (constant + 2500) (constant + 250), //-den (constant + 2500) (constant + 250) (omega arith)) (omega arith))
+      (λ _. unfold whole fraction in rw (÷-num (constant + 2500) (constant + 250), ÷-den (constant + 2500) (constant + 250) (omega arith)) (omega arith))
       (λ _ _. at_most constant count positive (high_end ln) few)
       (λ _ _. at_most constant count positive (low_end ln) few)
 
@@ -231,10 +231,10 @@ module _ (constant fewest count : ℕ) (few : count ≤ 50) (ln : Bracket) where
         ends_near : R * ((high_end ln).num * (low_end ln).den) ≤ R * ((low_end ln).num * (high_end ln).den) + (high_end ln).den * (low_end ln).den
         ends_near =
             rw (
-              //-num ln.high_num ln.high_den,
-              //-num ln.low_num ln.low_den,
-              //-den ln.high_num ln.high_den high_den,
-              //-den ln.low_num ln.low_den low_den,
+              ÷-num ln.high_num ln.high_den,
+              ÷-num ln.low_num ln.low_den,
+              ÷-den ln.high_num ln.high_den high_den,
+              ÷-den ln.low_num ln.low_den low_den,
             ) w.width
 
 -- AT A TRAFFIC

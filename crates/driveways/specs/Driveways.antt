@@ -1,6 +1,6 @@
 -- The bracket of the driveway part from a bracket of ln A: the model's value at each end of it.
 use Rattle.std.specs.Prelude.{ℕ, ◌+◌, cond, ltb}
-use Rattle.estimate.specs.Fraction.{Fraction, ◌//◌, whole}
+use Rattle.estimate.specs.Fraction.{Fraction, ◌÷◌, whole}
 use Rattle.bracket.specs.declared.Bracket.{Bracket}
 use Rattle.bracket.specs.Ratio.{coded, spanned}
 use Rattle.logarithm.specs.Logarithm.{logarithm_bracket}
@@ -8,10 +8,10 @@ use Rattle.model.specs.Access.{driveway_at}
 
 -- the ends of a bracket as fractions
 abbrev pub low_end : Bracket → Fraction
-low_end b = b.low_num // b.low_den
+low_end b = b.low_num ÷ b.low_den
 
 abbrev pub high_end : Bracket → Fraction
-high_end b = b.high_num // b.high_den
+high_end b = b.high_num ÷ b.high_den
 
 -- the ends where the part rises with ln A, and where it falls: there its low is at the high of ln A
 abbrev pub rising : (constant driveways : ℕ) → Bracket → Bracket
@@ -33,4 +33,4 @@ driveways_of constant fewest driveways traffic = driveway_bracket constant fewes
 
 -- its bound: 50 driveways a mile where ln A is 0, over thousandths
 abbrev pub driveways_most : (constant : ℕ) → Fraction
-driveways_most constant = (constant + 2500) // (constant + 250)
+driveways_most constant = (constant + 2500) ÷ (constant + 250)

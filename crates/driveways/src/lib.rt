@@ -4,7 +4,7 @@
 #![tactic(auto)]
 
 ghost use Rattle.std.specs.Prelude.{◌≡◌, ◌*◌, ◌≤◌, ◌<◌};
-ghost use Rattle.estimate.specs.Fraction.{◌//◌};
+ghost use Rattle.estimate.specs.Fraction.{◌÷◌};
 ghost use Rattle.logarithm.specs.Stored.{StoredLogarithms};
 ghost use Rattle.model.specs.Access.{driveway_at};
 ghost use Rattle.bracket.specs.Ratio.{coded};
@@ -16,7 +16,7 @@ use logarithm::logarithm_with;
 // The part where ln A is num / den, at most 10. The sizes are those of an edition and of a bracket of ln A.
 fn value_at(constant: u64, driveways: u64, num: u64, den: u64) -> Ratio
     requires { (0 < constant) × (constant ≤ 1000) × (driveways ≤ 50) × (0 < den) × (den ≤ 1000000000000) × (num ≤ 10 * den) }
-    ensures { result ≡ coded (driveway_at constant driveways (num // den)) }
+    ensures { result ≡ coded (driveway_at constant driveways (num ÷ den)) }
 {
     let slope = 50 * den - 5 * num;
     let fixed = constant * den;

@@ -28,12 +28,12 @@ pub record ◌=ᶠ◌ (a b : Fraction) : Type 0 where
 unfoldable pub fraction : (n d : ℕ) → 0 < d → Fraction
 fraction n d h = record { num = n; den = d; pos = h }
 
--- n / d, for a d that is not 0; //-den says that it is then the denominator (n // 0 is n)
-infix 75 ◌//◌
-unfoldable pub ◌//◌ : ℕ → ℕ → Fraction
+-- n / d, for a d that is not 0; ÷-den says that it is then the denominator (n ÷ 0 is n)
+infix 75 ◌÷◌
+unfoldable pub ◌÷◌ : ℕ → ℕ → Fraction
 unfolding fraction
-n // zero = fraction n 1 (zero-lt-suc 0)
-n // suc d = fraction n (suc d) (zero-lt-suc d)
+n ÷ zero = fraction n 1 (zero-lt-suc 0)
+n ÷ suc d = fraction n (suc d) (zero-lt-suc d)
 
 -- the whole number n
 unfoldable pub whole : ℕ → Fraction
@@ -42,8 +42,8 @@ whole n = fraction n 1 (lit< tt)
 
 -- "in millionths"
 unfoldable pub millionths : ℕ → Fraction
-unfolding ◌//◌
-millionths n = n // 1000000
+unfolding ◌÷◌
+millionths n = n ÷ 1000000
 
 -- an exponent of e is in ten-thousandths
 unfoldable pub ten_thousandths : ℕ → Fraction

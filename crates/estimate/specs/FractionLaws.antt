@@ -6,7 +6,7 @@ use Rattle.std.proofs.Common.{not-suc-le-zero, mul-le-mul, mul-le-mul_right, mul
 use Rattle.std.proofs.Math.Nat.{pow-le-pow_left}
 use Rattle.std.proofs.Math.Decide.{le_ind}
 use borrow.Author.Tests.{leb-true, leb-false}
-use Rattle.estimate.specs.Fraction.{Fraction, ◌≤ᶠ◌, ◌<ᶠ◌, ◌=ᶠ◌, fraction, ◌//◌, whole, decimal, ◌+ᶠ◌, ◌*ᶠ◌, ◌^ᶠ◌, inverse, leᶠ, lesser, greater}
+use Rattle.estimate.specs.Fraction.{Fraction, ◌≤ᶠ◌, ◌<ᶠ◌, ◌=ᶠ◌, fraction, ◌÷◌, whole, decimal, ◌+ᶠ◌, ◌*ᶠ◌, ◌^ᶠ◌, inverse, leᶠ, lesser, greater}
 use Rattle.estimate.specs.WholePower.{mul_pow}
 
 -- THE ORDER
@@ -97,16 +97,16 @@ module _ (a b : Fraction) where
 
 -- THE OPERATIONS
 
--- n // d is n over d, where d is not 0
-pub //-num : (n d : ℕ) → (n // d).num ≡ n
-unfolding ◌//◌ fraction
-//-num n zero = refl
-//-num n (suc d) = refl
+-- n ÷ d is n over d, where d is not 0
+pub ÷-num : (n d : ℕ) → (n ÷ d).num ≡ n
+unfolding ◌÷◌ fraction
+÷-num n zero = refl
+÷-num n (suc d) = refl
 
-pub //-den : (n d : ℕ) → 0 < d → (n // d).den ≡ d
-unfolding ◌//◌ fraction
-//-den n zero h = absurd (not-suc-le-zero h)
-//-den n (suc d) h = refl
+pub ÷-den : (n d : ℕ) → 0 < d → (n ÷ d).den ≡ d
+unfolding ◌÷◌ fraction
+÷-den n zero h = absurd (not-suc-le-zero h)
+÷-den n (suc d) h = refl
 
 pub whole_mono : {m n : ℕ} → m ≤ n → whole m ≤ᶠ whole n
 unfolding whole

@@ -2,7 +2,7 @@
 use Rattle.std.specs.Prelude.{ℕ, zero, suc, ◌+◌, ◌*◌, ◌^◌, ◌≤◌, ◌<◌, ◌≡◌, leb}
 use Rattle.std.proofs.Common.{zero-le, ap, le_trans, mul-zero, pow-suc, mul-le-mul_right, zero-lt-suc, not-suc-le-zero, not-le_of_lt, arith, add-one, leb→le, le→leb, lit<, lit≤}
 use Rattle.std.proofs.Math.Nat.{pow-le-pow_left, one-le-pow}
-use Rattle.estimate.specs.Fraction.{Fraction, ◌=ᶠ◌, decimal, ◌//◌}
+use Rattle.estimate.specs.Fraction.{Fraction, ◌=ᶠ◌, decimal, ◌÷◌}
 use Rattle.estimate.specs.Search.{largest, Largest, largest_of_all, largest_unique, largest_by_neighbour}
 use Rattle.estimate.specs.WholePower.{mul_pow, pow_le_cancel}
 
@@ -63,12 +63,12 @@ power_value d A p q t hq h k = let is = power_largest_value d A p q t hq h k in 
 
 -- "32^0.60 at depth 1: 8.0 and 8.1"
 pub record ThirtyTwoToSixTenths : Type 0 where
-  pub under : power_under 1 32 60 100 =ᶠ 80 // 10
-  pub over : power_over 1 32 60 100 =ᶠ 81 // 10
+  pub under : power_under 1 32 60 100 =ᶠ 80 ÷ 10
+  pub over : power_over 1 32 60 100 =ᶠ 81 ÷ 10
 
 thirty_two : PowerValue 1 32 60 100 80
 thirty_two = power_value 1 32 60 100 _ (lit< tt) (lit≤ tt) (lit< tt)
 
 pub thirty_two_to_six_tenths : ThirtyTwoToSixTenths
-unfolding decimal ◌//◌
+unfolding decimal ◌÷◌
 thirty_two_to_six_tenths = record { under = rw thirty_two.under (omega arith); over = rw thirty_two.over (omega arith) }

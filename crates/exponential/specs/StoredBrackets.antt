@@ -2,7 +2,7 @@
 -- what it promises, and what a table of them is.
 use Rattle.std.specs.Prelude.{ℕ, ◌+◌, ◌*◌, ◌^◌, ◌<◌, ◌≡◌, Bool, List, leb, eqb, get_or}
 use Rattle.laws.specs.Table.{both, all_below}
-use Rattle.estimate.specs.Fraction.{Fraction, fraction, ◌//◌, inverse, ten_thousandths}
+use Rattle.estimate.specs.Fraction.{Fraction, fraction, ◌÷◌, inverse, ten_thousandths}
 use Rattle.estimate.specs.Exponential.{exp_under, exp_over, exp_neg_under, exp_neg_over, partial_sum, sum_with_tail, sum_num, term_num, term_den}
 use Rattle.estimate.specs.SignedExponent.{SignedExponent, signed_exp_under, signed_exp_over}
 use Rattle.bracket.specs.declared.Bracket.{Bracket}
@@ -42,8 +42,8 @@ pub record StoredPromised (x : SignedExponent) (b : Bracket) : Type 0 where
 
 -- its high end, and the test that a bound is one; what opens either computes the bracket
 unfoldable pub stored_high : SignedExponent → Fraction
-unfolding stored_bracket ◌//◌
-stored_high x = (stored_bracket x).high_num // stored_scale
+unfolding stored_bracket ◌÷◌
+stored_high x = (stored_bracket x).high_num ÷ stored_scale
 
 unfoldable pub stored_at_most : Fraction → SignedExponent → Bool
 unfolding stored_bracket

@@ -2,7 +2,7 @@
 use Rattle.std.specs.Prelude.{ℕ, ◌≤◌, ◌≡◌, List, [], ◌∷◌, map, get_or, T, eqb}
 use Rattle.std.proofs.Common.{arith}
 use Rattle.laws.specs.Table.{all_below, agree_below_both}
-use Rattle.estimate.specs.Fraction.{fraction, ◌//◌}
+use Rattle.estimate.specs.Fraction.{fraction, ◌÷◌}
 use Rattle.bracket.specs.declared.Ratio.{Ratio}
 use Rattle.bracket.specs.Ratio.{coded}
 use Rattle.model.specs.Coefficients.{at_lanes}
@@ -16,6 +16,6 @@ held_ratio rows kind lanes = record { num = held_factor rows kind lanes; den = 1
 
 -- by one test over every kind and count of lanes
 pub turn_lanes_lem : (rows : List (List ℕ)) → T (all_below (λ i. all_below (λ j. eqb (held_factor rows i j) (at_lanes rows i j)) 3) 4)
-    → (kind lanes : ℕ) → (kind ≤ 3) × (lanes ≤ 2) → held_ratio rows kind lanes ≡ coded (at_lanes rows kind lanes // 1000)
-unfolding ◌//◌ fraction
+    → (kind lanes : ℕ) → (kind ≤ 3) × (lanes ≤ 2) → held_ratio rows kind lanes ≡ coded (at_lanes rows kind lanes ÷ 1000)
+unfolding ◌÷◌ fraction
 turn_lanes_lem rows t kind lanes h = rw (agree_below_both (held_factor rows) (at_lanes rows) 4 3 t kind lanes (omega arith) (omega arith))

@@ -1,6 +1,6 @@
 // Curve, superelevation and grade of a segment.
 ghost use Rattle.std.specs.Prelude.{◌≡◌, ◌≤◌};
-ghost use Rattle.estimate.specs.Fraction.{◌//◌, ◌^ᶠ◌};
+ghost use Rattle.estimate.specs.Fraction.{◌÷◌, ◌^ᶠ◌};
 ghost use Rattle.model.specs.Alignment as alignment;
 ghost use Rattle.model.specs.Coefficients.{edition_one, edition_two, coefficients_of};
 ghost use Rattle.bracket.specs.Ratio.{coded};
@@ -67,7 +67,7 @@ pub fn superelevation(deficiency: u64) -> Ratio
 // 1.016 to a power of at most 6.
 fn grade_power(exponent: u64) -> Ratio
     requires { exponent ≤ 6 }
-    ensures { result ≡ coded ((127 // 125) ^ᶠ exponent) }
+    ensures { result ≡ coded ((127 ÷ 125) ^ᶠ exponent) }
 {
     let place = exponent as usize;
     Ratio {

@@ -1,8 +1,8 @@
 -- WHAT IS NEEDED of an edition's overdispersions, and that each edition has it.
 use Rattle.std.specs.Prelude.{ℕ, zero, suc, ◌+◌, ◌*◌, ◌≤◌, ◌<◌, ◌≡◌, refl, Bool, true, false, cond, eqb}
 use Rattle.std.proofs.Common.{mul-le-mul_left, mul-le-mul_right, arith, lit<, lit≤, eqb-true}
-use Rattle.estimate.specs.Fraction.{Fraction, ◌≤ᶠ◌, fraction, ◌//◌, whole, ◌+ᶠ◌, ◌*ᶠ◌}
-use Rattle.estimate.specs.FractionLaws.{//-num, //-den}
+use Rattle.estimate.specs.Fraction.{Fraction, ◌≤ᶠ◌, fraction, ◌÷◌, whole, ◌+ᶠ◌, ◌*ᶠ◌}
+use Rattle.estimate.specs.FractionLaws.{÷-num, ÷-den}
 use Rattle.site.specs.declared.values.Site.{Site}
 use Rattle.site.specs.Writing.{Valid}
 use Rattle.site.specs.Numbers.{number, site_traffic, segment_sizes}
@@ -52,17 +52,17 @@ most_of_kind (suc (suc (suc zero))) = lit≤ tt
 most_of_kind (suc (suc (suc (suc kind)))) = lit≤ tt
 
 kind_sizes : (kind : ℕ) → Overdispersed (dispersion_by_kind kind).num (dispersion_by_kind kind).den
-unfolding ◌//◌ fraction
+unfolding ◌÷◌ fraction
 kind_sizes kind = record { kn_most = omega (arith, most_of_kind kind); kd_least = lit< tt; kd_most = lit≤ tt }
 
 kind_counted : (kind : ℕ) → dispersion_by_kind kind ≤ᶠ whole 1
-unfolding ◌//◌ whole fraction
+unfolding ◌÷◌ whole fraction
 kind_counted kind = record { cross = omega (arith, most_of_kind kind) }
 
 -- K BY LENGTH, from a thousandth of a mile to twenty miles
 length_sizes : (length : ℕ) → 1 ≤ length → length ≤ 20000 → Overdispersed (dispersion_by_length length).num (dispersion_by_length length).den
 length_sizes length least most =
-    rw (//-num 236 length, //-den 236 length least) (record { kn_most = lit≤ tt; kd_least = least; kd_most = most })
+    rw (÷-num 236 length, ÷-den 236 length least) (record { kn_most = lit≤ tt; kd_least = least; kd_most = most })
 
 length_counted : (length : ℕ) → dispersion_by_length length ≤ᶠ whole 1 +ᶠ dispersion_by_length length
 unfolding ◌+ᶠ◌ whole fraction

@@ -4,7 +4,7 @@ use Rattle.std.specs.Prelude.{ℕ, ◌+◌, ◌*◌, ◌^◌, ◌/◌, ◌-◌, 
 use Rattle.std.proofs.Math.Path.{ap}
 use Rattle.std.proofs.Common.{arith}
 use Rattle.wide.specs.Scaling.{floor, ceiling}
-use Rattle.estimate.specs.Fraction.{Fraction, fraction, millionths, ◌//◌}
+use Rattle.estimate.specs.Fraction.{Fraction, fraction, millionths, ◌÷◌}
 use Rattle.site.specs.declared.values.Site.{Site}
 use Rattle.site.specs.declared.values.Slot.{Slot}
 use Rattle.site.specs.declared.values.Slot.TheVariants.{Absent, Number}
@@ -40,11 +40,11 @@ pub record Sizes (kn kd O n : ℕ) : Type 0 where
 
 module _ (k : Fraction) (O n : ℕ) where
   pub low_is : expected_low k O n ≡ floor n (over k.num k.den O) (under k.num k.den n)
-  unfolding expected_low weighed millionths ◌//◌ fraction
+  unfolding expected_low weighed millionths ◌÷◌ fraction
   low_is = ap (λ x. x / (k.den * 1000000 + k.num * n)) (omega arith)
 
   pub high_is : expected_high k O n ≡ ceiling n (over k.num k.den O) (under k.num k.den n)
-  unfolding expected_high weighed millionths ◌//◌ fraction
+  unfolding expected_high weighed millionths ◌÷◌ fraction
   high_is = ap (λ x. (x + (k.den * 1000000 + k.num * n - 1)) / (k.den * 1000000 + k.num * n)) (omega arith)
 
 -- both fit: they are at most the prediction or the history

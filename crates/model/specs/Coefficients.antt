@@ -1,7 +1,7 @@
 -- What an edition of the model sets. What is the same in every edition stands with its factor, and a field's default in the
 -- site's rules.
 use Rattle.std.specs.Prelude.{ℕ, ◌-◌, min, cond, List, [], ◌∷◌, get_or, leb, eqb}
-use Rattle.estimate.specs.Fraction.{Fraction, ◌//◌, whole, ◌+ᶠ◌, ◌^ᶠ◌}
+use Rattle.estimate.specs.Fraction.{Fraction, ◌÷◌, whole, ◌+ᶠ◌, ◌^ᶠ◌}
 
 pub record Coefficients : Type 0 where
   -- x of the base factor e^(-x), in ten-thousandths, by kind
@@ -52,11 +52,11 @@ right_turn_two = turn_table 860 860 740 960 920
 
 -- "k is 0.31 segment, 0.54 3ST, 0.24 4ST, 0.11 4SG"
 abbrev pub dispersion_by_kind : ℕ → Fraction
-dispersion_by_kind kind = by_kind 31 54 24 11 kind // 100
+dispersion_by_kind kind = by_kind 31 54 24 11 kind ÷ 100
 
 -- request 6: "A segment's k is 236 divided by its length in thousandths of a mile"
 abbrev pub dispersion_by_length : ℕ → Fraction
-dispersion_by_length length = 236 // length
+dispersion_by_length length = 236 ÷ length
 
 -- edition 1
 unfoldable pub edition_one : Coefficients
@@ -69,8 +69,8 @@ edition_one = record {
   -- each crash once
   crash_count = λ kind length. whole 1;
   -- "Grade: 1.016 to the power G": of up to six percent, and of what is above six, so that each fits 64 bits (`grade_is`)
-  grade = λ percent. (127 // 125) ^ᶠ min percent 6;
-  steep_grade = λ percent. (127 // 125) ^ᶠ (percent - 6);
+  grade = λ percent. (127 ÷ 125) ^ᶠ min percent 6;
+  steep_grade = λ percent. (127 ÷ 125) ^ᶠ (percent - 6);
   -- "(0.2 + c·DD)/(0.2 + 5c)", at any number of driveways
   driveway_constant = 200;
   fewest_driveways = 0;
@@ -89,7 +89,7 @@ edition_two = record {
   -- "an observed crash on a segment counts 1 + k times"
   crash_count = λ kind length. cond (eqb kind 0) (whole 1 +ᶠ dispersion_by_length length) (whole 1);
   -- "Grade gives 1 up to 3 percent, 1.10 up to 6, and 1.16 above", in hundredths
-  grade = λ percent. cond (leb percent 3) 100 (cond (leb percent 6) 110 116) // 100;
+  grade = λ percent. cond (leb percent 3) 100 (cond (leb percent 6) 110 116) ÷ 100;
   steep_grade = λ percent. whole 1;
   -- "0.322 in place of 0.2 in the driveway part, with fewer than 5 driveways giving 1"
   driveway_constant = 322;

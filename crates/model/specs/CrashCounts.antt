@@ -9,8 +9,8 @@ use Rattle.std.proofs.Math.Nat.{add-le-add, mul-le-mul_left}
 use native.Mathlib.Omega.{arith}
 use Rattle.std.proofs.Math.Dec.{lit≤}
 use borrow.Author.Tests.{eq-eqb, ne_eqb}
-use Rattle.estimate.specs.Fraction.{Fraction, fraction, whole, ◌//◌, ◌+ᶠ◌, ◌*ᶠ◌, ◌≤ᶠ◌}
-use Rattle.estimate.specs.FractionLaws.{//-num, //-den, ≤ᶠ-refl, ≤ᶠ-trans, +ᶠ-mono}
+use Rattle.estimate.specs.Fraction.{Fraction, fraction, whole, ◌÷◌, ◌+ᶠ◌, ◌*ᶠ◌, ◌≤ᶠ◌}
+use Rattle.estimate.specs.FractionLaws.{÷-num, ÷-den, ≤ᶠ-refl, ≤ᶠ-trans, +ᶠ-mono}
 use Rattle.wide.specs.Scaling.{ceiling}
 use Rattle.wide.specs.Rounding.{ceiling_ge, ceiling-≤}
 use Rattle.site.specs.declared.values.Site.{Site}
@@ -83,7 +83,7 @@ module _ (years : ℕ) (site : Site) where
       let length = number site.length in
       let num : crashes * (1 * length + 236 * 1) * 1 ≡ crashes * (length + 236) = omega arith in
       let den : 1 * (1 * length) ≡ length = omega arith in
-      rw (second_edition edition later, eq-eqb site.kind 0 e, //-num 236 length, //-den 236 length h, num, den)
+      rw (second_edition edition later, eq-eqb site.kind 0 e, ÷-num 236 length, ÷-den 236 length h, num, den)
 
   -- IT IS AT MOST what the looser readings give, in any edition
   module _ (c : Coefficients) where
@@ -115,7 +115,7 @@ sites_over years (site ∷ sites) = cond (yearly site) years 1 + sites_over year
 abbrev pub crashes_of : (edition years : ℕ) → Site → Fraction
 crashes_of edition years site =
     let crashes = whole (cond (yearly site) years 1 * number site.observed) in
-    cond (leb edition 1) crashes (cond (eqb site.kind 0) (crashes *ᶠ (whole 1 +ᶠ 236 // number site.length)) crashes)
+    cond (leb edition 1) crashes (cond (eqb site.kind 0) (crashes *ᶠ (whole 1 +ᶠ 236 ÷ number site.length)) crashes)
 
 unfoldable pub crashes_over : (edition years : ℕ) → List Site → Fraction
 crashes_over edition years [] = whole 0
@@ -132,7 +132,7 @@ module _ (edition years : ℕ) (site : Site) where
   counted = cond (yearly site) years 1 * number site.observed
 
   abbrev on_segment : Fraction
-  on_segment = whole 1 +ᶠ 236 // number site.length
+  on_segment = whole 1 +ᶠ 236 ÷ number site.length
 
   second_of : (segment : Bool) → whole counted *ᶠ cond segment on_segment (whole 1) ≤ᶠ cond segment (whole counted *ᶠ on_segment) (whole counted)
   second_of true = ≤ᶠ-refl (whole counted *ᶠ on_segment)
@@ -192,6 +192,6 @@ abbrev long_segment : Site
 long_segment = site_of 0 (Number 1 ∷ Number 20000 ∷ Absent ∷ Number 1 ∷ []) no_later no_later
 
 pub many_long_segments : observed_in (coefficients_of 2) 1 (replicate 1200 long_segment) ≤ 1215
-unfolding crashes_counted sites_counted coefficients_of edition_two whole fraction ◌//◌ ◌+ᶠ◌ ◌*ᶠ◌
+unfolding crashes_counted sites_counted coefficients_of edition_two whole fraction ◌÷◌ ◌+ᶠ◌ ◌*ᶠ◌
 many_long_segments =
     least_not_below _ 1215 (≤ᶠ-trans (same_site (crashes_counted (coefficients_of 2) 1) long_segment 1200) (record { cross = lit≤ tt }))

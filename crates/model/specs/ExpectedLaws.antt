@@ -3,7 +3,7 @@
 use Rattle.std.specs.Prelude.{ℕ, ◌+◌, ◌*◌, ◌≤◌, ◌<◌, ◌≡◌}
 use Rattle.std.proofs.Common.{ap, mul-pos, arith}
 use Rattle.std.proofs.Math.Nat.{mul-le-mul_left, mul-le-mul_right}
-use Rattle.estimate.specs.Fraction.{Fraction, fraction, ◌≤ᶠ◌, ◌=ᶠ◌, ◌//◌, millionths}
+use Rattle.estimate.specs.Fraction.{Fraction, fraction, ◌≤ᶠ◌, ◌=ᶠ◌, ◌÷◌, millionths}
 use Rattle.estimate.specs.FractionLaws.{≤ᶠ-trans}
 use Rattle.estimate.specs.Standing.{LowRight, HighRight}
 use Rattle.wide.specs.Scaling.{floor, ceiling}
@@ -64,11 +64,11 @@ module _ (k : Fraction) (O : ℕ) where
   denominator_positive n = omega (arith, k.pos)
 
   low_is : (n : ℕ) → millionths (expected_low k O n) ≤ᶠ weighed k O (millionths n)
-  unfolding expected_low weighed millionths ◌//◌ fraction
+  unfolding expected_low weighed millionths ◌÷◌ fraction
   low_is n = record { cross = omega (arith, floor_le 1000000 (n * (k.den + k.num * O)) (k.den * 1000000 + k.num * n)) }
 
   high_is : (n : ℕ) → weighed k O (millionths n) ≤ᶠ millionths (expected_high k O n)
-  unfolding expected_high weighed millionths ◌//◌ fraction denominator
+  unfolding expected_high weighed millionths ◌÷◌ fraction denominator
   high_is n = record { cross = omega (arith, ceiling_ge 1000000 (n * (k.den + k.num * O)) (k.den * 1000000 + k.num * n) (denominator_positive n)) }
 
   -- THEY STAND: "its estimates are this at N's estimates"
@@ -81,7 +81,7 @@ module _ (k : Fraction) (O : ℕ) where
 
   -- "No low passes its high"
   pub expected_in_order : (low high : ℕ) → low ≤ high → expected_low k O low ≤ expected_high k O high
-  unfolding expected_low expected_high weighed millionths ◌//◌ fraction denominator
+  unfolding expected_low expected_high weighed millionths ◌÷◌ fraction denominator
   expected_in_order low high l =
       scaled_order 1000000 1000000 _ _ _ _ (denominator_positive low) (denominator_positive high) (omega arith)
       (omega (arith, mul-le-mul_left (k.den * (k.den + k.num * O) * 1000000) l))
@@ -95,19 +95,19 @@ module _ (k : Fraction) (O : ℕ) where
     above_history = omega (arith, mul-le-mul_left (k.den * 1000000) few)
 
     pub history-≤-expected_low : O * 1000000 ≤ expected_low k O n
-    unfolding expected_low weighed millionths ◌//◌ fraction denominator
+    unfolding expected_low weighed millionths ◌÷◌ fraction denominator
     history-≤-expected_low = ≤-floor 1000000 _ _ _ (denominator_positive n) above_history
 
     pub expected_low-≤-prediction : expected_low k O n ≤ n
-    unfolding expected_low weighed millionths ◌//◌ fraction denominator
+    unfolding expected_low weighed millionths ◌÷◌ fraction denominator
     expected_low-≤-prediction = floor-≤ 1000000 _ _ _ (denominator_positive n) below_prediction
 
     pub history-≤-expected_high : O * 1000000 ≤ expected_high k O n
-    unfolding expected_high weighed millionths ◌//◌ fraction denominator
+    unfolding expected_high weighed millionths ◌÷◌ fraction denominator
     history-≤-expected_high = ≤-ceiling 1000000 _ _ _ (denominator_positive n) above_history
 
     pub expected_high-≤-prediction : expected_high k O n ≤ n
-    unfolding expected_high weighed millionths ◌//◌ fraction denominator
+    unfolding expected_high weighed millionths ◌÷◌ fraction denominator
     expected_high-≤-prediction = ceiling-≤ 1000000 _ _ _ (denominator_positive n) below_prediction
 
   module _ (n : ℕ) (many : n ≤ O * 1000000) where
@@ -118,26 +118,26 @@ module _ (k : Fraction) (O : ℕ) where
     below_history = omega (arith, mul-le-mul_left (k.den * 1000000) many)
 
     pub prediction-≤-expected_low : n ≤ expected_low k O n
-    unfolding expected_low weighed millionths ◌//◌ fraction denominator
+    unfolding expected_low weighed millionths ◌÷◌ fraction denominator
     prediction-≤-expected_low = ≤-floor 1000000 _ _ _ (denominator_positive n) above_prediction
 
     pub expected_low-≤-history : expected_low k O n ≤ O * 1000000
-    unfolding expected_low weighed millionths ◌//◌ fraction denominator
+    unfolding expected_low weighed millionths ◌÷◌ fraction denominator
     expected_low-≤-history = floor-≤ 1000000 _ _ _ (denominator_positive n) below_history
 
     pub prediction-≤-expected_high : n ≤ expected_high k O n
-    unfolding expected_high weighed millionths ◌//◌ fraction denominator
+    unfolding expected_high weighed millionths ◌÷◌ fraction denominator
     prediction-≤-expected_high = ≤-ceiling 1000000 _ _ _ (denominator_positive n) above_prediction
 
     pub expected_high-≤-history : expected_high k O n ≤ O * 1000000
-    unfolding expected_high weighed millionths ◌//◌ fraction denominator
+    unfolding expected_high weighed millionths ◌÷◌ fraction denominator
     expected_high-≤-history = ceiling-≤ 1000000 _ _ _ (denominator_positive n) below_history
 
   -- THE WIDTH: a predicted pair that is w + (r / R) high apart gives an expected pair that is w (1 + kO) + 2 + (r / R) high apart
   module _ (R w r low high : ℕ) (narrow : Narrow R w r low high) where
     pub expected_width : R * k.den * expected_high k O high
         ≤ R * k.den * expected_low k O low + (R * (w * (k.den + k.num * O)) + 2 * (R * k.den)) + r * k.den * expected_high k O high
-    unfolding expected_low expected_high weighed millionths ◌//◌ fraction denominator
+    unfolding expected_low expected_high weighed millionths ◌÷◌ fraction denominator
     expected_width =
         let K = k.den + k.num * O in
         let DL = k.den * 1000000 + k.num * low in

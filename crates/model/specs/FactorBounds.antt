@@ -3,8 +3,8 @@
 use Rattle.std.specs.Prelude.{ℕ, ◌+◌, ◌-◌, ◌*◌, ◌≤◌, ◌<◌, Bool, true, false, cond, ◌&&◌, List, [], ◌∷◌, ◌≡◌, refl, T, leb, ltb, eqb, get_or}
 use Rattle.std.proofs.Common.{ap, mul-pos, mul-le-mul, mul-le-mul_right, mul-le-mul_left, arith, ltb→lt, lit<, lit≤, leb-true}
 use Rattle.std.proofs.Math.Dec.{leb→le}
-use Rattle.estimate.specs.Fraction.{Fraction, ◌≤ᶠ◌, fraction, ◌//◌, whole, ◌^ᶠ◌, leᶠ}
-use Rattle.estimate.specs.FractionLaws.{//-num, //-den, ≤ᶠ-refl, leᶠ-sound}
+use Rattle.estimate.specs.Fraction.{Fraction, ◌≤ᶠ◌, fraction, ◌÷◌, whole, ◌^ᶠ◌, leᶠ}
+use Rattle.estimate.specs.FractionLaws.{÷-num, ÷-den, ≤ᶠ-refl, leᶠ-sound}
 use Rattle.laws.specs.Table.{both, both_left, both_right, all_of, entry_of, all_below, all_below_lem}
 use Rattle.model.specs.Coefficients.{Coefficients, at_lanes, edition_one, left_turn_one, right_turn_one, edition_two, left_turn_two, right_turn_two}
 use Rattle.model.specs.Widths.{Column, none, at_traffic, width_unit, lane_columns, lane_column, lane_value, of_related, lane}
@@ -22,24 +22,24 @@ pub record Capped (cap x : Fraction) : Type 0 where
   pub positive : 0 < x.num
 
 -- by the cross product of two quotients
-quotient_within : (n d m e : ℕ) → 0 < d → 0 < e → 0 < n → n * e ≤ m * d → Capped (m // e) (n // d)
+quotient_within : (n d m e : ℕ) → 0 < d → 0 < e → 0 < n → n * e ≤ m * d → Capped (m ÷ e) (n ÷ d)
 quotient_within n d m e hd he hn l = record {
-  at_most = record { cross = rw (//-num n d, //-den n d hd, //-num m e, //-den m e he) l };
-  positive = rw (//-num n d) hn;
+  at_most = record { cross = rw (÷-num n d, ÷-den n d hd, ÷-num m e, ÷-den m e he) l };
+  positive = rw (÷-num n d) hn;
 }
 
 -- a quotient that is at most 1
-one_within : (n d : ℕ) → 0 < d → 0 < n → n ≤ d → Capped (whole 1) (n // d)
+one_within : (n d : ℕ) → 0 < d → 0 < n → n ≤ d → Capped (whole 1) (n ÷ d)
 unfolding whole fraction
 one_within n d hd hn l = record {
-  at_most = record { cross = rw (//-num n d, //-den n d hd) (omega arith) };
-  positive = rw (//-num n d) hn;
+  at_most = record { cross = rw (÷-num n d, ÷-den n d hd) (omega arith) };
+  positive = rw (÷-num n d) hn;
 }
 
 -- 1 under a cap of at least 1
-above_one : (m e : ℕ) → 0 < e → e ≤ m → Capped (m // e) (whole 1)
+above_one : (m e : ℕ) → 0 < e → e ≤ m → Capped (m ÷ e) (whole 1)
 unfolding whole fraction
-above_one m e he l = record { at_most = record { cross = rw (//-num m e, //-den m e he) (omega arith) }; positive = lit< tt }
+above_one m e he l = record { at_most = record { cross = rw (÷-num m e, ÷-den m e he) (omega arith) }; positive = lit< tt }
 
 one : Capped (whole 1) (whole 1)
 unfolding whole fraction
@@ -169,9 +169,9 @@ shoulder_value_within surface feet traffic h = let few = columns_few feet in mea
 
 -- an r of at most 1.5 makes a factor of at most 1 + share / 2
 abbrev pub related_most : Coefficients → Fraction
-related_most k = (2000 + k.related_share) // 2000
+related_most k = (2000 + k.related_share) ÷ 2000
 
-related_within : (share r unit : ℕ) → share ≤ 1000 → 0 < unit → 0 < r → 2 * r ≤ 3 * unit → Capped ((2000 + share) // 2000) (of_related share r unit)
+related_within : (share r unit : ℕ) → share ≤ 1000 → 0 < unit → 0 < r → 2 * r ≤ 3 * unit → Capped ((2000 + share) ÷ 2000) (of_related share r unit)
 related_within share r unit hs hu hr top =
     quotient_within _ _ _ _ (omega arith) (lit< tt) (positive (1000 - share) share (omega arith)) (most (1000 - share) share (omega arith))
   where
@@ -198,22 +198,22 @@ shoulder_within k feet surface traffic h t =
 -- ALIGNMENT
 
 -- the sharpest and shortest curve is 1 + 80.2 / 100 / 0.00155 miles, under 518.42
-curve_within : (length radius spirals : ℕ) → 1 ≤ length → 100 ≤ radius → Capped (51842 // 100) (curve length radius spirals)
+curve_within : (length radius spirals : ℕ) → 1 ≤ length → 100 ≤ radius → Capped (51842 ÷ 100) (curve length radius spirals)
 unfolding curve
 curve_within length radius spirals hl hr =
-    by_test (Capped (51842 // 100)) (ltb 8020000 (600 * spirals * radius))
+    by_test (Capped (51842 ÷ 100)) (ltb 8020000 (600 * spirals * radius))
     (λ _. above_one 51842 100 (lit< tt) (lit≤ tt))
     (λ _. bent (155 * length * radius) (600 * spirals * radius) (omega (arith, mul-le-mul hl hr)))
   where
-    bent : (straight spiral : ℕ) → 15500 ≤ straight → Capped (51842 // 100) ((straight + (8020000 - spiral)) // straight)
+    bent : (straight spiral : ℕ) → 15500 ≤ straight → Capped (51842 ÷ 100) ((straight + (8020000 - spiral)) ÷ straight)
     bent straight spiral h = quotient_within _ _ _ _ (omega arith) (lit< tt) (omega arith) (omega arith)
 
-superelevation_within : (deficiency : ℕ) → deficiency ≤ 100 → Capped (13 // 10) (superelevation deficiency)
+superelevation_within : (deficiency : ℕ) → deficiency ≤ 100 → Capped (13 ÷ 10) (superelevation deficiency)
 unfolding superelevation
 superelevation_within deficiency h =
-    by_test (Capped (13 // 10)) (ltb deficiency 10)
+    by_test (Capped (13 ÷ 10)) (ltb deficiency 10)
     (λ _. above_one 13 10 (lit< tt) (lit≤ tt))
-    (λ _. by_test (Capped (13 // 10)) (leb deficiency 20)
+    (λ _. by_test (Capped (13 ÷ 10)) (leb deficiency 20)
     (λ e. quotient_within (940 + 6 * deficiency) 1000 13 10 (lit< tt) (lit< tt) (omega arith) (omega (arith, leb-true deficiency 20 e)))
     (λ _. quotient_within (1000 + 3 * deficiency) 1000 13 10 (lit< tt) (lit< tt) (omega arith) (omega arith)))
 
@@ -237,14 +237,14 @@ unfolding two_way_lane
 two_way_lane_within present driveways =
     by_test (Capped (whole 1)) (eqb present 1 && leb 5 driveways) (λ _. under_one (access_density driveways)) (λ _. one)
   where
-    under_one : (density : ℕ) → Capped (whole 1) ((1199000 + 65 * density) // (1199000 + 100 * density))
+    under_one : (density : ℕ) → Capped (whole 1) ((1199000 + 65 * density) ÷ (1199000 + 100 * density))
     under_one density = one_within _ _ (omega arith) (omega arith) (omega arith)
 
 -- a part of a whole: from 1 to `unit` of its units
 is_part : (unit part : ℕ) → Bool
 is_part unit part = both (ltb 0 part) (leb part unit)
 
-part_within : (unit part : ℕ) → T (is_part unit part) → Capped (whole 1) (part // unit)
+part_within : (unit part : ℕ) → T (is_part unit part) → Capped (whole 1) (part ÷ unit)
 unfolding is_part
 part_within unit part t =
     let least = ltb→lt _ _ (both_left (ltb 0 part) _ t) in
@@ -256,12 +256,12 @@ unfolding passing is_part all_of
 passing_within kind = part_within 100 _ (entry_of (is_part 100) 100 tt (100 ∷ 75 ∷ 65 ∷ []) tt kind)
 
 -- a table of thousandths by kind and count of lanes
-turn_within : (table : List (List ℕ)) → T (all_of (all_of (is_part 1000)) table) → (kind lanes : ℕ) → Capped (whole 1) (at_lanes table kind lanes // 1000)
+turn_within : (table : List (List ℕ)) → T (all_of (all_of (is_part 1000)) table) → (kind lanes : ℕ) → Capped (whole 1) (at_lanes table kind lanes ÷ 1000)
 unfolding is_part all_of
 turn_within table t kind lanes =
     part_within 1000 _ (entry_of (is_part 1000) 1000 tt (get_or table kind []) (entry_of (all_of (is_part 1000)) [] tt table t kind) lanes)
 
-sight_within : (quadrants : ℕ) → quadrants ≤ 4 → Capped (6 // 5) (sight quadrants)
+sight_within : (quadrants : ℕ) → quadrants ≤ 4 → Capped (6 ÷ 5) (sight quadrants)
 unfolding sight
 sight_within quadrants h = quotient_within (100 + 5 * quadrants) 100 6 5 (lit< tt) (lit< tt) (omega arith) (omega arith)
 
@@ -275,11 +275,11 @@ cap_of k (Grade percent) = k.grade 12
 cap_of k (SteepGrade percent) = k.steep_grade 12
 cap_of k (TwoWayLane present count) = whole 1
 cap_of k (Passing kind) = whole 1
-cap_of k (Curve length radius spirals) = 51842 // 100
-cap_of k (Superelevation deficiency) = 13 // 10
+cap_of k (Curve length radius spirals) = 51842 ÷ 100
+cap_of k (Superelevation deficiency) = 13 ÷ 10
 cap_of k (LeftTurn kind lanes) = whole 1
 cap_of k (RightTurn kind lanes) = whole 1
-cap_of k (Sight quadrants) = 6 // 5
+cap_of k (Sight quadrants) = 6 ÷ 5
 
 -- the numbers for which it holds
 abbrev pub ExactSized : ExactFactor → Type 0
@@ -319,11 +319,11 @@ module _ (k : Coefficients) (share : T (leb k.related_share 1000))
   }
 
 pub edition_one_bounded : Bounded edition_one
-unfolding all_below grade_within leᶠ is_part all_of edition_one whole ◌^ᶠ◌ ◌//◌ fraction
+unfolding all_below grade_within leᶠ is_part all_of edition_one whole ◌^ᶠ◌ ◌÷◌ fraction
 edition_one_bounded = bounded_by_tests edition_one tt tt tt left_turn_one right_turn_one refl refl tt tt
 
 pub edition_two_bounded : Bounded edition_two
-unfolding all_below grade_within leᶠ is_part all_of edition_two whole ◌^ᶠ◌ ◌//◌ fraction
+unfolding all_below grade_within leᶠ is_part all_of edition_two whole ◌^ᶠ◌ ◌÷◌ fraction
 edition_two_bounded = bounded_by_tests edition_two tt tt tt left_turn_two right_turn_two refl refl tt tt
 
 pub capped : (k : Coefficients) → Bounded k → (factor : ExactFactor) → ExactSized factor → Capped (cap_of k factor) (exact_value k factor)

@@ -1,6 +1,6 @@
 -- "Table of twelve, settled by proof as a whole."
 use Rattle.std.specs.Prelude.{ℕ, ◌≡◌, refl}
-use Rattle.estimate.specs.Fraction.{Fraction, fraction, ◌//◌, ◌=ᶠ◌, whole, millionths, ◌^ᶠ◌}
+use Rattle.estimate.specs.Fraction.{Fraction, fraction, ◌÷◌, ◌=ᶠ◌, whole, millionths, ◌^ᶠ◌}
 use Rattle.estimate.specs.Power.{ThirtyTwoToSixTenths, thirty_two_to_six_tenths}
 use Rattle.estimate.specs.Logarithm.{LnOne, ln_one}
 use Rattle.model.specs.Coefficients.{edition_one}
@@ -15,19 +15,19 @@ signal = edition_one.overdispersion 3 0
 
 pub record KnownFigures : Type 0 where
   -- "lane 9 at A 399 is 1.0175; at 2,000, 1.17486; at 2,001, 1.175"
-  pub lane_399 : lane edition_one 9 399 =ᶠ 10175 // 10000
-  pub lane_2000 : lane edition_one 9 2000 =ᶠ 117486 // 100000
-  pub lane_2001 : lane edition_one 9 2001 =ᶠ 1175 // 1000
+  pub lane_399 : lane edition_one 9 399 =ᶠ 10175 ÷ 10000
+  pub lane_2000 : lane edition_one 9 2000 =ᶠ 117486 ÷ 100000
+  pub lane_2001 : lane edition_one 9 2001 =ᶠ 1175 ÷ 1000
   -- "Turf, 8 feet, 2,001: 0.987995"
-  pub turf : shoulder edition_one 8 3 2001 =ᶠ 987995 // 1000000
+  pub turf : shoulder edition_one 8 3 2001 =ᶠ 987995 ÷ 1000000
   -- "Curve Lc 100, R 1,000: 1176/775; Lc 1, R 30,000, two spirals: 1"
-  pub curve_sharp : curve 100 1000 0 =ᶠ 1176 // 775
+  pub curve_sharp : curve 100 1000 0 =ᶠ 1176 ÷ 775
   pub curve_flat : curve 1 30000 2 =ᶠ whole 1
   -- "D 20: 1.06; D 21: 1.063"
-  pub deficiency_20 : superelevation 20 =ᶠ 106 // 100
-  pub deficiency_21 : superelevation 21 =ᶠ 1063 // 1000
+  pub deficiency_20 : superelevation 20 =ᶠ 106 ÷ 100
+  pub deficiency_21 : superelevation 21 =ᶠ 1063 ÷ 1000
   -- "Two-way lane at DD 10: 27711/29720"
-  pub two_way : two_way_lane 1 10 =ᶠ 27711 // 29720
+  pub two_way : two_way_lane 1 10 =ᶠ 27711 ÷ 29720
   -- "Signal, predicted pair 2,000,000 twice, O 5: 2,540,983 and 2,540,984"
   pub expected_low : expected_low signal 5 2000000 ≡ 2540983
   pub expected_high : expected_high signal 5 2000000 ≡ 2540984
@@ -38,7 +38,7 @@ pub record KnownFigures : Type 0 where
 
 pub known_figures : KnownFigures
 unfolding lane lane_value shoulder shoulder_value type_value curve superelevation two_way_lane edition_one
-    expected_low expected_high weighed millionths ◌//◌ fraction whole ◌^ᶠ◌
+    expected_low expected_high weighed millionths ◌÷◌ fraction whole ◌^ᶠ◌
 known_figures = record {
   lane_399 = record { cross = refl };
   lane_2000 = record { cross = refl };

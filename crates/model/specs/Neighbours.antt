@@ -3,7 +3,7 @@
 use Rattle.std.specs.Prelude.{ℕ, ◌+◌, ◌*◌, ◌/◌, ◌≤◌, ◌<◌, Bool, true, false, ◌≡◌, refl, leb}
 use Rattle.std.proofs.Common.{arith, le-leb, leb-true, leb-false}
 use Rattle.laws.specs.Table.{all_below, agree_below}
-use Rattle.estimate.specs.Fraction.{Fraction, fraction, ◌//◌, ◌=ᶠ◌}
+use Rattle.estimate.specs.Fraction.{Fraction, fraction, ◌÷◌, ◌=ᶠ◌}
 use Rattle.model.specs.Coefficients.{Coefficients}
 use Rattle.model.specs.Widths.{column_below, column_above, twice_mean, width_unit, width_at, type_at, shoulder_value, type_value, of_related, shoulder}
 
@@ -56,7 +56,7 @@ module _ (k : Coefficients) (surface traffic : ℕ) where
 
   -- a column twice: four times the product, over four times the unit
   one_column : (feet i : ℕ) → Between feet i i → shoulder k feet surface traffic =ᶠ factor_at i
-  unfolding shoulder shoulder_value type_value ◌//◌ fraction
+  unfolding shoulder shoulder_value type_value ◌÷◌ fraction
   one_column feet i e = record { cross = rw (e.0, e.1) (omega arith) }
 
   pub own_factor : (i : ℕ) → i < 5 → shoulder k (2 * i) surface traffic =ᶠ factor_at i

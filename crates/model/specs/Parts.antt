@@ -1,6 +1,6 @@
 -- A site's prediction as a list of factors, and the parts that they stand for, each with its under- and over-estimate at depth d.
 use Rattle.std.specs.Prelude.{ℕ, ◌-◌, ◌*◌, cond, List, [], ◌∷◌, ◌++◌, map, leb, eqb}
-use Rattle.estimate.specs.Fraction.{Fraction, ◌//◌, whole, lesser, greater}
+use Rattle.estimate.specs.Fraction.{Fraction, ◌÷◌, whole, lesser, greater}
 use Rattle.estimate.specs.Power.{power_under, power_over}
 use Rattle.estimate.specs.SignedExponent.{SignedExponent, Plus, Minus, signed_exp_under, signed_exp_over}
 use Rattle.estimate.specs.Logarithm.{ln_under, ln_over}
@@ -138,7 +138,7 @@ term_at years traffic minor = record { years = years; traffic = traffic; minor =
 
 -- "segment: Y × calibration × A × L in miles × 0.000365 × .." the factors, at the traffic of a term
 abbrev pub segment_start : (calibration : ℕ) → Site → Term → Fraction
-segment_start calibration site term = (term.years * calibration * term.traffic * number site.length * 365) // 1000000000000
+segment_start calibration site term = (term.years * calibration * term.traffic * number site.length * 365) ÷ 1000000000000
 
 unfoldable pub segment_parts : Coefficients → (calibration : ℕ) → Site → Term → List Part
 segment_parts k calibration site term =
@@ -146,7 +146,7 @@ segment_parts k calibration site term =
 
 -- "3ST: Y × calibration × .." the factors; "4ST: the same with ..; 4SG: .., no skew"
 abbrev pub crossing_start : (calibration : ℕ) → Term → Fraction
-crossing_start calibration term = (term.years * calibration) // 1000
+crossing_start calibration term = (term.years * calibration) ÷ 1000
 
 unfoldable pub crossing_parts : Coefficients → (calibration : ℕ) → Site → Term → List Part
 crossing_parts k calibration site term =

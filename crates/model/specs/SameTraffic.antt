@@ -6,7 +6,7 @@ use Rattle.std.proofs.Math.Path.{refl}
 use Rattle.std.proofs.Common.{ap, le_of_mul-le-mul_right}
 use Rattle.std.proofs.Math.Bool.{true, false}
 use native.Mathlib.Omega.{arith}
-use Rattle.estimate.specs.Fraction.{Fraction, fraction, ◌//◌, whole, ◌=ᶠ◌, ◌+ᶠ◌, ◌*ᶠ◌}
+use Rattle.estimate.specs.Fraction.{Fraction, fraction, ◌÷◌, whole, ◌=ᶠ◌, ◌+ᶠ◌, ◌*ᶠ◌}
 use Rattle.site.specs.declared.values.Site.{Site}
 use Rattle.site.specs.declared.values.Slot.TheVariants.{Absent}
 use Rattle.site.specs.Yearly.{yearly, no_later, later_slots}
@@ -30,7 +30,7 @@ module _ (product : List Part → Fraction) (exactly : (x : Fraction) (parts : L
     (k : Coefficients) (segments crossings : ℕ) (site : Site) (traffic minor years : ℕ) where
   by_years : product (parts_of k segments crossings site (term_at years traffic minor))
       =ᶠ whole years *ᶠ product (parts_of k segments crossings site (term_at 1 traffic minor))
-  unfolding segment_parts crossing_parts ◌//◌ fraction
+  unfolding segment_parts crossing_parts ◌÷◌ fraction
   by_years = by (eqb site.kind 0)
     where
       by : (segment : Bool)

@@ -1,6 +1,6 @@
 -- Lane and shoulder: values by column that change with the traffic, and the factor of the related crashes.
 use Rattle.std.specs.Prelude.{ℕ, ◌+◌, ◌-◌, ◌*◌, ◌/◌, cond, List, [], ◌∷◌, get_or, ltb, leb}
-use Rattle.estimate.specs.Fraction.{Fraction, ◌//◌}
+use Rattle.estimate.specs.Fraction.{Fraction, ◌÷◌}
 use Rattle.model.specs.Coefficients.{Coefficients}
 
 -- width values are in hundred-millionths
@@ -100,7 +100,7 @@ shoulder_unit = (2 * width_unit) * (2 * 100)
 
 -- "1 + 0.35(r − 1)", which is 0.65 + 0.35 r for any r: of a share in thousandths and r / unit
 abbrev pub of_related : (share r unit : ℕ) → Fraction
-of_related share r unit = ((1000 - share) * unit + share * r) // (1000 * unit)
+of_related share r unit = ((1000 - share) * unit + share * r) ÷ (1000 * unit)
 
 unfoldable pub lane : Coefficients → (feet traffic : ℕ) → Fraction
 lane k feet traffic = of_related k.related_share (lane_value feet traffic) width_unit

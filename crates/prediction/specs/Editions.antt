@@ -5,7 +5,7 @@ use Rattle.std.proofs.Math.Bool.{true, false, cond}
 use Rattle.std.proofs.Common.{arith}
 use Rattle.std.proofs.Math.Dec.{leb→le}
 use Rattle.laws.specs.Table.{both, both_left, both_right, all_below, all_below_lem}
-use Rattle.estimate.specs.Fraction.{fraction, ◌//◌, whole, ◌^ᶠ◌}
+use Rattle.estimate.specs.Fraction.{fraction, ◌÷◌, whole, ◌^ᶠ◌}
 use Rattle.bracket.specs.Pieces.{Piece, bounds, has_room, grown, absolute_most}
 use Rattle.exponential.specs.StoredBrackets.{stored_limit, stored_high}
 use Rattle.site.specs.declared.numbers.Segment.{Segment}
@@ -72,13 +72,13 @@ by_its_kind k v three_leg four_leg signal from to =
     by_crossing (λ kind. v.kind ≡ kind → T (roomy crossing_most (pieces_of k (crossing_factors v)))) three_leg four_leg signal v.kind from to refl
 
 edition_one_rated : Rated edition_one
-unfolding edition_one all_below base_within stored_high roomy straight_factors curve_factors crossing_factors whole ◌//◌ fraction ◌^ᶠ◌
+unfolding edition_one all_below base_within stored_high roomy straight_factors curve_factors crossing_factors whole ◌÷◌ fraction ◌^ᶠ◌
 edition_one_rated =
     rated_by_tests edition_one edition_one_bounded tt tt tt (λ v. tt) (λ v. tt)
     (λ v. by_its_kind edition_one v (λ e. rw e tt) (λ e. rw e tt) (λ e. rw e tt))
 
 edition_two_rated : Rated edition_two
-unfolding edition_two all_below base_within stored_high roomy straight_factors curve_factors crossing_factors whole ◌//◌ fraction ◌^ᶠ◌
+unfolding edition_two all_below base_within stored_high roomy straight_factors curve_factors crossing_factors whole ◌÷◌ fraction ◌^ᶠ◌
 edition_two_rated =
     rated_by_tests edition_two edition_two_bounded tt tt tt (λ v. tt) (λ v. tt)
     (λ v. by_its_kind edition_two v (λ e. rw e tt) (λ e. rw e tt) (λ e. rw e tt))

@@ -1,6 +1,6 @@
 -- The readings of a factor beside its estimates: its bracket, its share of the width, and a bound of it.
 use Rattle.std.specs.Prelude.{ℕ, ◌*◌, ◌/◌, ◌^◌, List, map}
-use Rattle.estimate.specs.Fraction.{Fraction, ◌//◌, whole}
+use Rattle.estimate.specs.Fraction.{Fraction, ◌÷◌, whole}
 use Rattle.bracket.specs.declared.Bracket.{Bracket}
 use Rattle.bracket.specs.Bracket.{power_width, exponential_width, logarithm_width}
 use Rattle.bracket.specs.Ratio.{exactly}
@@ -46,10 +46,10 @@ share_of (Skew kind degrees) = width_share 1 exponential_width
 
 -- A BOUND of it: e^0.2672 is a little below the first, and the skew's e^0.324 below the second
 abbrev pub hazard_most : Fraction
-hazard_most = 1308 // 1000
+hazard_most = 1308 ÷ 1000
 
 abbrev pub skew_most : Fraction
-skew_most = 1384 // 1000
+skew_most = 1384 ÷ 1000
 
 -- the powers of traffic by kind: 20,000^0.79 is below 2,500, and so on
 abbrev pub major_most : ℕ → ℕ

@@ -2,7 +2,7 @@
 use Rattle.std.specs.Prelude.{ℕ, zero, suc, ◌+◌, ◌-◌, ◌*◌, ◌/◌, ◌^◌, ◌≤◌, ◌<◌, ◌≡◌, refl, Bool, true, false, cond, List, [], ◌∷◌, ◌++◌, T, leb}
 use Rattle.std.proofs.Common.{arith, lit<, lit≤}
 use Rattle.laws.specs.Table.{all_below, all_below_lem}
-use Rattle.estimate.specs.Fraction.{Fraction, fraction, ◌//◌, whole}
+use Rattle.estimate.specs.Fraction.{Fraction, fraction, ◌÷◌, whole}
 use Rattle.estimate.specs.SignedExponent.{SignedExponent, Plus, Minus, size}
 use Rattle.bracket.specs.declared.Bracket.{Bracket}
 use Rattle.bracket.specs.Bracket.{RelativeWidth, exponential_width, power_width, logarithm_width}
@@ -78,7 +78,7 @@ hazard_within rating to = by (leb 3 rating)
 
 -- one test over the ratings
 hazards_small : T (all_below (λ i. stored_at_most hazard_most (hazard_exponent (suc i))) 7)
-unfolding all_below stored_at_most ◌//◌
+unfolding all_below stored_at_most ◌÷◌
 hazards_small = tt
 
 hazard_small : (rating : ℕ) → 1 ≤ rating → rating ≤ 7 → T (stored_at_most hazard_most (hazard_exponent rating))
@@ -134,7 +134,7 @@ module _ (k : Coefficients) (kind degrees : ℕ) (l : kind ≤ 3) (h : degrees �
   angle = skew_exponent kind * degrees
 
   skew_below : (exp_bracket angle).high_num * skew_most.den ≤ skew_most.num * (exp_bracket angle).high_den
-  unfolding exponential_width ◌//◌ fraction sum_at_most
+  unfolding exponential_width ◌÷◌ fraction sum_at_most
   skew_below = exp_below angle 3240 1383 1384 1000 (skew_most_lem kind degrees l h) (lit≤ tt) (lit< tt) (lit< tt) (lit≤ tt) tt
 
   skew_kept : Kept parts (piece_of k (Skew kind degrees))

@@ -5,8 +5,8 @@ use mathlib.Core.List.{List, [], ◌∷◌, map}
 use Rattle.std.proofs.Common.{lit<, lit≤, pos_of_ne-zero, arith, eqb-true}
 use Rattle.std.proofs.Math.Nat.{mul-pos}
 use Rattle.std.proofs.lemmas.Bool.{eqb-false}
-use Rattle.estimate.specs.Fraction.{Fraction, fraction, ◌//◌, whole, ◌+ᶠ◌, ◌*ᶠ◌}
-use Rattle.estimate.specs.FractionLaws.{//-num, positive_above, lesser_by}
+use Rattle.estimate.specs.Fraction.{Fraction, fraction, ◌÷◌, whole, ◌+ᶠ◌, ◌*ᶠ◌}
+use Rattle.estimate.specs.FractionLaws.{÷-num, positive_above, lesser_by}
 use Rattle.estimate.specs.Power.{power_under}
 use Rattle.estimate.specs.PowerLaws.{power_under-≥-one}
 use Rattle.estimate.specs.SignedExponent.{Plus, signed_under_positive}
@@ -35,8 +35,8 @@ one : 0 < (whole 1).num
 unfolding whole fraction
 one = lit< tt
 
-quotient : (n d : ℕ) → 0 < n → 0 < (n // d).num
-quotient n d h = rw (//-num n d) h
+quotient : (n d : ℕ) → 0 < n → 0 < (n ÷ d).num
+quotient n d h = rw (÷-num n d) h
 
 power_positive : (d A p : ℕ) → 1 ≤ A → 0 < (power_under d A p 100).num
 power_positive d A p h = positive_above one (power_under-≥-one A p 100 (lit< tt) h d)

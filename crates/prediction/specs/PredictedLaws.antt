@@ -6,7 +6,7 @@ use mathlib.Core.List.{List, [], ◌∷◌, ◌++◌, map, map-map}
 use Rattle.std.proofs.Common.{mul-le-mul, mul-le-mul_right, pos_of_ne-zero, arith, lit<, lit≤, eqb-true}
 use Rattle.std.proofs.Math.Dec.{eqb}
 use Rattle.std.proofs.lemmas.Bool.{eqb-false}
-use Rattle.estimate.specs.Fraction.{Fraction, fraction, ◌=ᶠ◌, ◌//◌, whole, millionths, ◌+ᶠ◌}
+use Rattle.estimate.specs.Fraction.{Fraction, fraction, ◌=ᶠ◌, ◌÷◌, whole, millionths, ◌+ᶠ◌}
 use Rattle.estimate.specs.FractionLaws.{≤ᶠ-trans, =ᶠ-≤ᶠ, =ᶠ-≥ᶠ, +ᶠ-mono}
 use Rattle.estimate.specs.Standing.{LowRight, HighRight}
 use Rattle.wide.specs.Rounding.{Narrow, ceiling-≤}
@@ -66,7 +66,7 @@ module _ (k : Coefficients) (rated : Rated k) (start : Fraction) (units most : �
   start_parts = exact start ∷ map (part_of k) factors
 
   carried_stands : PairStands 1 (λ d. product_under d start_parts) (λ d. product_over d start_parts) (pair_of k units factors)
-  unfolding product_under product_over millionths ◌//◌ fraction
+  unfolding product_under product_over millionths ◌÷◌ fraction
   carried_stands =
       let kept = all_kept k rated factors sized in
       let e = carried_ends parts 1000000 unit start (pieces_of k factors) units most (lit< tt) kept few roomy.fits exactly_start in
@@ -102,7 +102,7 @@ module _ (k : Coefficients) (rated : Rated k) (edition years : ℕ) (site : Site
       let v = segment_of term.traffic site in
       let s = segment_sizes edition years site valid e term.traffic sizes.traffic in
       carried_stands k rated (segment_start calibration site term) (segment_units term.years calibration v) segment_most
-      (unfold ◌//◌ fraction in omega arith)
+      (unfold ◌÷◌ fraction in omega arith)
       (mul-le-mul_right 73 (mul-le-mul (mul-le-mul (mul-le-mul sizes.years_most most) sizes.traffic.most) s.length_most))
       (segment_factors v) (segment_sized v s) (rated.segment_room v) (segment_shares k v)
 
@@ -114,13 +114,13 @@ module _ (k : Coefficients) (rated : Rated k) (edition years : ℕ) (site : Site
       let v = crossing_of term.traffic term.minor site in
       let s = crossing_sizes edition years site valid from term.traffic term.minor sizes.traffic (sizes.minor from) in
       carried_stands k rated (crossing_start calibration term) (crossing_units term.years calibration) crossing_most
-      (unfold ◌//◌ fraction in omega arith)
+      (unfold ◌÷◌ fraction in omega arith)
       (mul-le-mul_right 200000000 (mul-le-mul sizes.years_most most))
       (crossing_factors v) (crossing_sized v s) (rated.crossing_room v from s.kind_most) (crossing_shares k v)
 
 -- SUMS: no term, and two sums
 none_stands : PairStands 0 (λ d. whole 0) (λ d. whole 0) (record { low = 0; high = 0 })
-unfolding millionths ◌//◌ whole fraction
+unfolding millionths ◌÷◌ whole fraction
 none_stands = record {
   low_right = record { at = λ d l. record { cross = lit≤ tt } };
   high_right = record { at = λ d l. record { cross = lit≤ tt } };
@@ -131,7 +131,7 @@ none_stands = record {
 
 -- a sum of whole numbers of millionths
 pub millionths_add : (a b : ℕ) → millionths (a + b) =ᶠ millionths a +ᶠ millionths b
-unfolding millionths ◌//◌ fraction ◌+ᶠ◌
+unfolding millionths ◌÷◌ fraction ◌+ᶠ◌
 millionths_add a b = record { cross = omega arith }
 
 both_stand : {m : ℕ} {f g u v : ℕ → Fraction} {x y : Pair} → PairStands 1 f u x → PairStands m g v y

@@ -4,7 +4,7 @@ use Rattle.std.specs.Prelude.{ℕ, zero, suc, ◌+◌, ◌*◌, ◌<◌, ◌≡�
 use Rattle.std.proofs.Common.{ap, ◌∙◌, arith}
 use mathlib.Core.List.{List, [], ◌∷◌, ◌++◌, map}
 use Rattle.std.proofs.Math.Dec.{lit≤}
-use Rattle.estimate.specs.Fraction.{Fraction, fraction, ◌//◌, whole, millionths, ◌+ᶠ◌}
+use Rattle.estimate.specs.Fraction.{Fraction, fraction, ◌÷◌, whole, millionths, ◌+ᶠ◌}
 use Rattle.estimate.specs.FractionLaws.{=ᶠ-≤ᶠ, =ᶠ-≥ᶠ}
 use Rattle.estimate.specs.Standing.{Between, smaller_low_right, larger_high_right, low_sum_right, high_sum_right}
 use Rattle.site.specs.declared.values.Site.{Site}
@@ -29,7 +29,7 @@ between_adds a b x y h k = record {
 }
 
 none_between : Between (millionths 0) (millionths 0) (λ d. whole 0) (λ d. whole 0)
-unfolding millionths ◌//◌ whole fraction
+unfolding millionths ◌÷◌ whole fraction
 none_between = record { low_right = record { at = λ d l. record { cross = lit≤ tt } }; high_right = record { at = λ d l. record { cross = lit≤ tt } } }
 
 -- the lines of a report by index: the first, and the ones after it

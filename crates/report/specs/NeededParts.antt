@@ -3,7 +3,7 @@
 use Rattle.std.specs.Prelude.{ℕ, ◌+◌, ◌*◌, ◌≤◌, ◌<◌, ◌≡◌, true, false, cond, ◌⊎◌, List, ◌∷◌, length, get_or}
 use Rattle.std.proofs.Common.{lit≤, arith}
 use Rattle.wide.specs.Scaling.{ceiling}
-use Rattle.estimate.specs.Fraction.{fraction, ◌//◌, whole, millionths, ◌≤ᶠ◌, ◌<ᶠ◌}
+use Rattle.estimate.specs.Fraction.{fraction, ◌÷◌, whole, millionths, ◌≤ᶠ◌, ◌<ᶠ◌}
 use Rattle.estimate.specs.FractionLaws.{not-≤ᶠ-and-<ᶠ, <ᶠ-≤ᶠ-trans, ≤ᶠ-<ᶠ-trans}
 use Rattle.site.specs.declared.values.Site.{Site}
 use Rattle.site.specs.declared.values.Slot.TheVariants.{Number}
@@ -172,7 +172,7 @@ zero_to_the_top bytes rest h m = omega (arith, counts_most bytes 0 h, (m.each 0 
 -- ONE REPORT FOR TWO PROJECTS: none meets both demands where the first site's over-estimate in the one is below a millionths,
 -- its under-estimate in the other above b, and a and b further apart than the width
 order : (a b : ℕ) → millionths a <ᶠ millionths b → a < b
-unfolding millionths ◌//◌ fraction
+unfolding millionths ◌÷◌ fraction
 order a b h = omega (arith, h.cross)
 
 pub one_report_for_two : (bytes others report : List ℕ) → 0 < length (sites_in bytes) → 0 < length (sites_in others) → (d a b : ℕ) → 1 ≤ d

@@ -2,7 +2,7 @@
 -- over ten years at 9.999.
 use Rattle.std.specs.Prelude.{ℕ, ◌*◌, ◌≤◌, ◌≡◌, refl, true, List, [], ◌∷◌}
 use Rattle.std.proofs.Common.{mul-le-mul, mul-pos, arith, lit<, lit≤}
-use Rattle.estimate.specs.Fraction.{fraction, ◌//◌, whole, millionths, decimal, ◌<ᶠ◌, ◌+ᶠ◌, ◌*ᶠ◌}
+use Rattle.estimate.specs.Fraction.{fraction, ◌÷◌, whole, millionths, decimal, ◌<ᶠ◌, ◌+ᶠ◌, ◌*ᶠ◌}
 use Rattle.estimate.specs.Power.{PowerValue, power_value}
 use Rattle.estimate.specs.SignedExponent.{SignedExponent, Plus, Minus, signed_exp_under, signed_exp_over}
 use Rattle.exponential.specs.StoredBrackets.{exp_rounded}
@@ -53,7 +53,7 @@ no_skew = within (Plus 0)
 -- under 0.004 crashes, and over 200
 few : predicted_over (coefficients_of 1) (header_of 1 1 1 1) signal 1 <ᶠ millionths 4000
 unfolding predicted_over sum_over terms_of product_over crossing_parts crossing_factors coefficients_of edition_one
-    decimal left_turn right_turn sight ◌*ᶠ◌ ◌+ᶠ◌ whole fraction ◌//◌ millionths signal
+    decimal left_turn right_turn sight ◌*ᶠ◌ ◌+ᶠ◌ whole fraction ◌÷◌ millionths signal
 few =
     let b = signed_exp_over 1 (Minus 57300) in
     let s = signed_exp_over 1 (Plus 0) in
@@ -61,7 +61,7 @@ few =
 
 many : millionths 200000000 <ᶠ predicted_under (coefficients_of 1) (header_of 1 10 9999 9999) signal 1
 unfolding predicted_under sum_under terms_of product_under crossing_parts crossing_factors coefficients_of edition_one
-    decimal left_turn right_turn sight ◌*ᶠ◌ ◌+ᶠ◌ whole fraction ◌//◌ millionths signal
+    decimal left_turn right_turn sight ◌*ᶠ◌ ◌+ᶠ◌ whole fraction ◌÷◌ millionths signal
 many =
     let b = signed_exp_under 1 (Minus 57300) in
     let s = signed_exp_under 1 (Plus 0) in

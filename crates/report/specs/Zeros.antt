@@ -2,7 +2,7 @@
 -- project has a predicted high of 0.
 use Rattle.std.specs.Prelude.{ℕ, zero, suc, ◌+◌, ◌*◌, ◌<◌, ◌≡◌, List, [], ◌∷◌, length, get_or}
 use Rattle.std.proofs.Common.{lit≤, arith}
-use Rattle.estimate.specs.Fraction.{Fraction, fraction, ◌//◌, millionths, ◌<ᶠ◌}
+use Rattle.estimate.specs.Fraction.{Fraction, fraction, ◌÷◌, millionths, ◌<ᶠ◌}
 use Rattle.site.specs.declared.values.Site.{Site}
 use Rattle.site.specs.Writing.{Valid}
 use Rattle.header.specs.Header.{edition_in, header_in}
@@ -24,7 +24,7 @@ valid_at edition years (site ∷ sites) v zero h = v.0
 valid_at edition years (site ∷ sites) v (suc i) h = valid_at edition years sites v.1 i (omega arith)
 
 below_positive : (x : ℕ) (y : Fraction) → x ≡ 0 → 0 < y.num → millionths x <ᶠ y
-unfolding millionths ◌//◌ fraction
+unfolding millionths ◌÷◌ fraction
 below_positive x y e h = rw e (record { cross = omega arith })
 
 module _ (bytes report : List ℕ) (n : ℕ) (accepted : scan_file bytes ≡ Accepted n) where

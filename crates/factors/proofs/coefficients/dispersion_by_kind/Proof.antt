@@ -1,11 +1,11 @@
 use borrow.Author.Rules.{rules}
 use mathlib.Core.Path.{refl}
-use Rattle.estimate.specs.Fraction.{fraction, ◌//◌}
+use Rattle.estimate.specs.Fraction.{fraction, ◌÷◌}
 use Rattle.factors.proofs.coefficients.dispersion_by_kind.Statement.{statement}
 use Rattle.factors.proofs.coefficients.dispersion_by_kind.Tie as tie
 
 returns : tie.Need-returns
-unfolding ◌//◌ fraction
+unfolding ◌÷◌ fraction
 returns c = refl
 
 pub dispersion_by_kind_spec : {M : Type 1} → statement M
