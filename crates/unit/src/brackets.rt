@@ -21,32 +21,28 @@ fn lend(answer: BracketAnswer, ends: &mut [u64]) -> u64
 }
 
 // base^(num / den): base from 1 to 20,000, den 100, and num one of 79, 49, 60, 61 and 20.
-#[unsafe(no_mangle)]
-pub extern "C" fn crash_power(base: u64, num: u64, den: u64, ends: &mut [u64]) -> u64
+pub fn crash_power(base: u64, num: u64, den: u64, ends: &mut [u64]) -> u64
     ensures { Lends (power_answer base num den) ends.old ends.new result }
 {
     lend(power::power(base, num, den), ends)
 }
 
 // ln argument: argument from 1 to 20,000.
-#[unsafe(no_mangle)]
-pub extern "C" fn crash_logarithm(argument: u64, ends: &mut [u64]) -> u64
+pub fn crash_logarithm(argument: u64, ends: &mut [u64]) -> u64
     ensures { Lends (logarithm_answer argument) ends.old ends.new result }
 {
     lend(logarithm::logarithm(argument), ends)
 }
 
 // e^x: x from 0 to 140,000 ten-thousandths.
-#[unsafe(no_mangle)]
-pub extern "C" fn crash_exponential(x: u64, ends: &mut [u64]) -> u64
+pub fn crash_exponential(x: u64, ends: &mut [u64]) -> u64
     ensures { Lends (exponential_answer x) ends.old ends.new result }
 {
     lend(exponential::exponential(x), ends)
 }
 
 // e^(-x): x from 0 to 140,000 ten-thousandths.
-#[unsafe(no_mangle)]
-pub extern "C" fn crash_exponential_negative(x: u64, ends: &mut [u64]) -> u64
+pub fn crash_exponential_negative(x: u64, ends: &mut [u64]) -> u64
     ensures { Lends (exponential_negative_answer x) ends.old ends.new result }
 {
     lend(exponential::exponential_negative(x), ends)

@@ -1,4 +1,4 @@
-// The calls that C and Rust link: numbers and lent runs of numbers only, none with a precondition.
+// The calls that `unit_c` exports: numbers and lent runs of numbers only, none with a precondition.
 #![tactic(auto)]
 
 pub mod brackets;

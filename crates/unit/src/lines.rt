@@ -12,8 +12,7 @@ use line::{LineAnswer, line_of};
 // 4 where years or a calibration is outside its limits, then 8 where the site is outside its range, then 10 where line has fewer than
 // four numbers, and line as it was. The site is the first 39 numbers of values, as crash_site_write takes it, and what follows them
 // bears on nothing.
-#[unsafe(no_mangle)]
-pub extern "C" fn crash_line(
+pub fn crash_line(
     edition: u64,
     years: u64,
     segments: u64,

@@ -58,8 +58,7 @@ fn put_site(site: Site, n: usize, values: &mut [u64])
 // Reads the record that a part starts with, in a project of an edition and of so many years: 0, with the site in values[0] to
 // values[38], the record's length in values[39] and the rest of values as it was; or 3 where there is no such edition, then 4 where
 // years is outside its limits, or 1 or 5 to 9, then 10 where values has fewer than 40 numbers, and values as it was.
-#[unsafe(no_mangle)]
-pub extern "C" fn crash_site_read(edition: u64, years: u64, part: &[u8], values: &mut [u64]) -> u64
+pub fn crash_site_read(edition: u64, years: u64, part: &[u8], values: &mut [u64]) -> u64
     ensures { ReadsNumbers edition years part.now values.old values.new result }
 {
     let answer = site_reader::read_site(edition, years, part);
@@ -128,8 +127,7 @@ pub fn site_from(values: &[u64]) -> Site
 // limits, then 8 where the site is outside its range, then 10 where the buffer is shorter than the record, and buffer and written as
 // they were. The site is the first 39 numbers of values, and what follows them bears on nothing; fewer numbers, a kind above 255 or a
 // slot above 65,536 are outside their range: 8.
-#[unsafe(no_mangle)]
-pub extern "C" fn crash_site_write(
+pub fn crash_site_write(
     edition: u64,
     years: u64,
     values: &[u64],

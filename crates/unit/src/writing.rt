@@ -76,8 +76,7 @@ fn write_numbers(header: Header, numbers: &[u64], buffer: &mut [u8]) -> FileAnsw
 // of sites is outside its limits, then 8 where a site is outside its range, with the index of the first such site in value, then 10
 // where the buffer is shorter than the file, and the buffer as it was. With 3, 4 and 10 value is 0. A site is 39 numbers of sites, as
 // crash_site_write takes it, and a rest of fewer is a site outside its range.
-#[unsafe(no_mangle)]
-pub extern "C" fn crash_project_write(
+pub fn crash_project_write(
     edition: u64,
     years: u64,
     segments: u64,
