@@ -2,7 +2,7 @@
  * it back and makes its line, writes the whole file again from the list of its sites, and writes a site that is entered by hand.
  * From the root of the project:
  *
- *     rt staticlib unit
+ *     tools/build unit_c
  *     cc -std=c99 -Iinclude examples/corridor.c target/staticlib/libunit.a -o target/corridor
  *     target/corridor demo/corridor.project
  *

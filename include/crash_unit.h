@@ -1,4 +1,4 @@
-/* The crash engine's calls for C (C99 or later) and C++ (C++11 or later). `rt staticlib unit` makes the archive to link,
+/* The crash engine's calls for C (C99 or later) and C++ (C++11 or later). `tools/build unit_c` makes the archive to link,
  * target/staticlib/libunit.a: ELF objects for x86-64, with the calling convention of the System V ABI.
  *
  * Lent runs. A run of numbers or bytes is handed over as a pointer and its length, in numbers or in bytes. It is lent for the
@@ -8,13 +8,13 @@
  * No call has a precondition on the values: whatever they are, it answers, and it writes only what is said here.
  *
  * Answers. A call answers CRASH_OK or the number of a refusal. A refusal leaves every lent run as it was. Each call's contract,
- * proved, is in crates/unit/src.
+ * proved, is in crates/unit_c/src.
  *
- * Threads. The archive has no state: no writable data (`nm` shows none) and nothing that it calls but memcpy. Any number of
- * threads may call at once, each with runs of its own; runs that are only read may be shared.
+ * Threads. The archive has no state: no writable data (`nm` shows none) and nothing that it calls but memcpy and memset.
+ * Any number of threads may call at once, each with runs of its own; runs that are only read may be shared.
  *
  * Stack. Any call has enough with CRASH_STACK bytes. Measured by painting a stack and looking how far down a call wrote:
- * crash_project and crash_line 24 KB, crash_power 21 KB, the others at most 2.1 KB.
+ * crash_project and crash_line 25 KB, crash_power 21 KB, the others at most 2.4 KB.
  */
 #ifndef CRASH_UNIT_H
 #define CRASH_UNIT_H

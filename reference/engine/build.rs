@@ -1,4 +1,4 @@
-//! Links the archive of the engine's exported calls, made by `rt staticlib unit`,
+//! Links the archive of the engine's exported calls, made by `tools/build unit_c`,
 //! and, where their headers are found, the interval libraries that the benchmark
 //! times beside the engine. `INTERVAL_LIBRARIES=none` leaves these out.
 
@@ -92,7 +92,7 @@ fn link_archive() {
     let archive = root.join(ARCHIVE);
     println!("cargo:rerun-if-changed={}", archive.display());
     if !archive.is_file() {
-        println!("cargo::error={ARCHIVE} is missing; this command makes it: rt staticlib unit");
+        println!("cargo::error={ARCHIVE} is missing; this command makes it: tools/build unit_c");
         return;
     }
     let folder = archive.parent().expect("the archive's folder");

@@ -9,7 +9,7 @@ use std::io::Write;
 use std::path::Path;
 use std::process::{Command, Stdio};
 
-/// The program `crash_report`, as `rt check` leaves it.
+/// The program `crash_report`, as `tools/build` leaves it.
 pub const CRASH_REPORT: &str =
     concat!(env!("CARGO_MANIFEST_DIR"), "/../../target/bin/crash_report");
 
@@ -26,7 +26,7 @@ pub fn is_made(program: &str) -> Result<(), String> {
     match path.is_file() {
         true => Ok(()),
         false => Err(format!(
-            "target/bin/{name} is missing; this command makes it: rt check {name}"
+            "target/bin/{name} is missing; this command makes it: tools/build {name}"
         )),
     }
 }
