@@ -1,4 +1,4 @@
-// Two-way left_turn lane and passing lane of a segment.
+// Two-way left-turn lane and passing lane of a segment.
 ghost use Rattle.std.specs.Prelude.{◌≡◌, ◌≤◌};
 ghost use Rattle.model.specs.Access as access;
 ghost use Rattle.bracket.specs.Ratio.{coded};
@@ -8,7 +8,7 @@ use bracket::Ratio;
 // None, a passing lane, a short four-lane section, in hundredths.
 const PASSING: [u64; 3] = [100, 75, 65];
 
-// The factor of a two_way left_turn lane: 1 without one, and below 5 driveways per mile.
+// The factor of a two-way left-turn lane: 1 without one, and below 5 driveways per mile.
 pub fn two_way_lane(present: u64, driveways: u64) -> Ratio
     requires { driveways ≤ 50 }
     ensures { result ≡ coded (access.two_way_lane present driveways) }

@@ -35,7 +35,7 @@ const RIGHT_TURN_TWO: [[u64; 3]; 4] = [
     [1000, 960, 920],
 ];
 
-// The factor of the major road's left_turn lanes. A table is written out where it is read, so the edition's own alone is.
+// The factor of the major road's left-turn lanes. A table is written out where it is read, so the edition's own alone is.
 pub fn left_turn(edition: u64, kind: u8, lanes: u64) -> Ratio
     requires { (kind ≤ 3) × (lanes ≤ 2) }
     ensures { result ≡ coded (crossings.left_turn (coefficients_of edition) kind lanes) }
@@ -52,7 +52,7 @@ pub fn left_turn(edition: u64, kind: u8, lanes: u64) -> Ratio
     }
 }
 
-// The factor of its right_turn lanes.
+// The factor of its right-turn lanes.
 pub fn right_turn(edition: u64, kind: u8, lanes: u64) -> Ratio
     requires { (kind ≤ 3) × (lanes ≤ 2) }
     ensures { result ≡ coded (crossings.right_turn (coefficients_of edition) kind lanes) }

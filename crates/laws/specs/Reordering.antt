@@ -1,7 +1,7 @@
 -- LISTS WITH THE SAME ELEMENTS IN ANOTHER ORDER, each as often as before.
 use Rattle.std.specs.Prelude.{ℕ, ◌<◌, ◌≡◌, List, length, get_or}
 
--- a one_to_one map of the places of one list to those of another that is as long, with the same element at a place and at its image
+-- a one-to-one map of the places of one list to those of another that is as long, with the same element at a place and at its image
 pub record Reordering {A : Type 0} (xs ys : List A) (image : ℕ → ℕ) : Type 0 where
   pub same_length : length ys ≡ length xs
   pub inside : (i : ℕ) → i < length xs → image i < length ys

@@ -1,4 +1,4 @@
--- Driveways, two_way left_turn lane and passing lane of a segment.
+-- Driveways, two-way left-turn lane and passing lane of a segment.
 use Rattle.std.specs.Prelude.{ℕ, ◌+◌, ◌-◌, ◌*◌, cond, ◌&&◌, [], ◌∷◌, get_or, ltb, leb, eqb}
 use Rattle.estimate.specs.Fraction.{Fraction, ◌÷◌, whole}
 use Rattle.model.specs.Coefficients.{Coefficients}

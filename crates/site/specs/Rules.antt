@@ -56,7 +56,7 @@ grade = Default 0 12 0
 abbrev pub driveways : Rule
 driveways = Default 0 50 5
 
--- "two_way left_turn lane, 0 or 1 (0)"
+-- "two-way left-turn lane, 0 or 1 (0)"
 abbrev pub two_way_lane : Rule
 two_way_lane = Default 0 1 0
 
@@ -72,7 +72,7 @@ hazard_rating = Default 1 7 3
 abbrev pub skew : Rule
 skew = Default 0 60 0
 
--- "major-road left_turn lanes (0); right_turn lanes (0), each up to 1 at 3ST and 2 elsewhere"
+-- "major-road left-turn lanes (0); right-turn lanes (0), each up to 1 at 3ST and 2 elsewhere"
 abbrev pub turn_lanes : ℕ → Rule
 turn_lanes most = Default 0 most 0
 
@@ -111,7 +111,7 @@ segment =
     ∷ Always Foreign
     ∷ []
 
--- a crossing's skew, left_turn lanes, right_turn lanes and limited sight after what all crossings have
+-- a crossing's skew, left-turn lanes, right-turn lanes and limited sight after what all crossings have
 abbrev pub crossing : Rule → Rule → Rule → Rule → List Entry
 crossing angle left right sight =
     Always traffic
