@@ -100,15 +100,3 @@ carried_high (f ∷ fs) (x ∷ xs) low high l h n d U w b e =
 pub record CarriedWidth (R a r l h : ℕ) : Type 0 where
   pub in_order : l ≤ h
   pub narrow : Narrow R a r l h
-
-pub carried_width : (fs : List Bracket) (rs : List ℕ) (R a r low high l h : ℕ) → Widths R fs rs → low ≤ high → Narrow R a r low high
-    → carried low high fs ≡ Carried l h → CarriedWidth R (absolute_part a fs) (relative_part r rs) l h
-carried_width [] [] R a r low high l h w o n e = let p : low ≡ l = cc in let q : high ≡ h = cc in rw (← p, ← q) (record { in_order = o; narrow = n })
-carried_width [] (p ∷ ps) R a r low high l h w o n e = absurd w
-carried_width (f ∷ fs) [] R a r low high l h w o n e = absurd w
-carried_width (f ∷ fs) (p ∷ ps) R a r low high l h w o n e =
-    let g = past f fs low high l h e in
-    let b = ceiling a f.high_num f.high_den in
-    let most = ceiling_ge a f.high_num f.high_den g.high_den in
-    carried_width fs ps R (b + 2) (r + p) _ _ l h w.2 (scaled_order low high _ _ _ _ g.low_den g.high_den o w.0)
-    (scaled_width R a b r p low high _ _ _ _ g.low_den g.high_den o n w.1.width most) g.rest

@@ -12,7 +12,7 @@ use Rattle.wide.specs.declared.scale.Scaled.TheVariants as scaled
 use Rattle.bracket.specs.Bracket.{Stands, RelativeWidth}
 use Rattle.bracket.specs.Ratio.{exactly}
 use Rattle.bracket.specs.Carry.{onward, carried, LowsBelow, HighsAbove, product_num, product_den, Widths, absolute_part, relative_part}
-use Rattle.bracket.specs.CarryLaws.{carried_low, carried_high, carried_width}
+use Rattle.bracket.specs.CarryLaws.{carried_low, carried_high}
 use Rattle.bracket.specs.declared.Bracket.{Bracket}
 use Rattle.bracket.specs.declared.carry.CarryAnswer.TheVariants.{Carried}
 
@@ -69,7 +69,7 @@ has_room high [] = true
 has_room high (m ∷ ms) = both (ltb (ceiling high m.num m.den) (2 ^ 64)) (has_room (ceiling high m.num m.den) ms)
 
 -- a larger start and a larger factor give a larger ceiling
-ceiling_mono : (a b n d m e : ℕ) → 0 < d → 0 < e → a ≤ b → n * e ≤ m * d → ceiling a n d ≤ ceiling b m e
+pub ceiling_mono : (a b n d m e : ℕ) → 0 < d → 0 < e → a ≤ b → n * e ≤ m * d → ceiling a n d ≤ ceiling b m e
 ceiling_mono a b n d m e hd he h k =
     ceiling-≤ a n d (ceiling b m e) hd
     (le_of_mul-le-mul_right {k = e} (omega (arith, mul-le-mul h k, mul-le-mul_right d (ceiling_ge b m e he))) he)
@@ -108,42 +108,10 @@ carried_room R (p ∷ ps) low high H k o h t =
       small = r.small;
     }
 
--- THE PRODUCT of a list, by numerators and denominators
-product_num_lem : (n : ℕ) (xs : List Fraction) → product_num n xs ≡ n * (product xs).num
-unfolding product whole fraction ◌*ᶠ◌
-product_num_lem n [] = omega arith
-product_num_lem n (x ∷ xs) = omega (arith, product_num_lem (n * x.num) xs)
-
-product_den_lem : (n : ℕ) (xs : List Fraction) → product_den n xs ≡ n * (product xs).den
-unfolding product whole fraction ◌*ᶠ◌
-product_den_lem n [] = omega arith
-product_den_lem n (x ∷ xs) = omega (arith, product_den_lem (n * x.den) xs)
-
--- what is kept of each factor, in the forms of the laws of carrying
-lows_below : (R d : ℕ) → 1 ≤ d → (ps : List Piece) → AllKept R ps → LowsBelow (brackets ps) (overs d ps)
-unfolding fraction
-lows_below R d l [] k = tt
-lows_below R d l (p ∷ ps) k = ((k.0.stands.low_right.at d l).cross, lows_below R d l ps k.1)
-
-highs_above : (R d : ℕ) → 1 ≤ d → (ps : List Piece) → AllKept R ps → HighsAbove (brackets ps) (unders d ps)
-unfolding fraction
-highs_above R d l [] k = tt
-highs_above R d l (p ∷ ps) k = ((k.0.stands.high_right.at d l).cross, highs_above R d l ps k.1)
-
-widths : (R : ℕ) (ps : List Piece) → AllKept R ps → Widths R (brackets ps) (shares ps)
-unfolding fraction
-widths R [] k = tt
-widths R (p ∷ ps) k = (k.0.stands.in_order.cross, k.0.narrow, widths R ps k.1)
-
 -- the absolute part of the width, by the bounds
 abbrev pub absolute_most : ℕ → List Fraction → ℕ
 absolute_most a [] = a
 absolute_most a (m ∷ ms) = absolute_most (ceiling a m.num m.den + 2) ms
-
-absolute_bounded : (R : ℕ) (ps : List Piece) (a b : ℕ) → AllKept R ps → a ≤ b → absolute_part a (brackets ps) ≤ absolute_most b (bounds ps)
-absolute_bounded R [] a b k h = h
-absolute_bounded R (p ∷ ps) a b k h =
-    absolute_bounded R ps _ _ k.1 (omega (arith, ceiling_mono a b _ _ _ _ k.0.stands.high_den p.most.pos h k.0.bounded))
 
 -- THE END OF A CARRY from S units of 1 / (c * M), which are exactly `start`: rounded outward by c to units of 1 / M
 pub record Ends (R M c : ℕ) (start : Fraction) (ps : List Piece) (S H : ℕ) : Type 0 where
@@ -155,35 +123,3 @@ pub record Ends (R M c : ℕ) (start : Fraction) (ps : List Piece) (S H : ℕ) :
   pub in_order : floor low_end 1 c ≤ ceiling high_end 1 c
   pub narrow : (a : ℕ) → absolute_most 0 (bounds ps) ≤ a * c → Narrow R (a + 2) (relative_part 0 (shares ps)) (floor low_end 1 c) (ceiling high_end 1 c)
   pub small : high_end ≤ grown H (bounds ps)
-
--- a low of l units of 1 / (c * M), rounded down by c, and a high rounded up
-rounded_low : (l c M N D : ℕ) → 0 < c → l * D ≤ N * (c * M) → floor l 1 c * D ≤ N * M
-rounded_low l c M N D hc h = le_of_mul-le-mul_right {k = c} (omega (arith, mul-le-mul_right D (floor_le l 1 c), h)) hc
-
-rounded_high : (l c M N D : ℕ) → 0 < c → N * (c * M) ≤ l * D → N * M ≤ ceiling l 1 c * D
-rounded_high l c M N D hc h = le_of_mul-le-mul_right {k = c} (omega (arith, mul-le-mul_right D (ceiling_ge l 1 c hc), h)) hc
-
-module _ (R M c : ℕ) (start : Fraction) (ps : List Piece) (S H : ℕ) (hc : 0 < c) (k : AllKept R ps) (few : S ≤ H) (t : T (has_room H (bounds ps)))
-    (exact : S * start.den ≡ start.num * (c * M)) where
-  pub carried_ends : Ends R M c start ps S H
-  unfolding ◌*ᶠ◌
-  carried_ends =
-      let r = carried_room R ps S S H k (le_refl S) few t in
-      let w = carried_width (brackets ps) (shares ps) R 0 0 S S _ _ (widths R ps k) (le_refl S) (record { width = omega arith }) r.is in
-      record {
-        low_end = r.low_end;
-        high_end = r.high_end;
-        is = r.is;
-        low_right = λ d l. rounded_low r.low_end c M _ _ hc
-            (rw (← product_den_lem start.den (overs d ps), ← product_num_lem start.num (overs d ps))
-            (carried_low (brackets ps) (overs d ps) S S _ _ start.num start.den (c * M) (lows_below R d l ps k) (omega (arith, exact)) r.is));
-        high_right = λ d l. rounded_high r.high_end c M _ _ hc
-            (rw (← product_den_lem start.den (unders d ps), ← product_num_lem start.num (unders d ps))
-            (carried_high (brackets ps) (unders d ps) S S _ _ start.num start.den (c * M) (highs_above R d l ps k) (omega (arith, exact)) r.is));
-        in_order = scaled_order r.low_end r.high_end 1 c 1 c hc hc w.in_order (omega arith);
-        narrow = λ a most.
-            let n = scaled_width R (absolute_part 0 (brackets ps)) a (relative_part 0 (shares ps)) 0 _ _ 1 c 1 c hc hc w.in_order w.narrow (omega arith)
-            (omega (arith, most, absolute_bounded R ps 0 0 k (le_refl 0))) in
-            record { width = omega (arith, n.width) };
-        small = r.small;
-      }

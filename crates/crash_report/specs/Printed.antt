@@ -5,17 +5,20 @@ use Rattle.std.proofs.Math.Seq.{length-sets}
 use Rattle.header.specs.Header.{header_length, edition_in, most_sites}
 use Rattle.project.specs.declared.ScanAnswer.{ScanAnswer}
 use Rattle.project.specs.declared.ScanAnswer.TheVariants as scan
-use Rattle.site.specs.Theorems.{longest, read_length}
+use Rattle.site.specs.Theorems.{longest}
+use Rattle.site.proofs.Theorems.{read_length}
 use Rattle.project.specs.File.{years_in, scan_file}
 use Rattle.project.specs.Causes.{Starts, first, next, report_length}
-use Rattle.project.specs.Scan.{accepted_exactly}
-use Rattle.project.specs.SitesRead.{accepted_sites}
-use Rattle.project.specs.Prefix.{longest_file, scan_prefix}
+use Rattle.project.proofs.Scan.{accepted_exactly}
+use Rattle.project.proofs.SitesRead.{accepted_sites}
+use Rattle.project.specs.Prefix.{longest_file}
+use Rattle.project.proofs.Prefix.{scan_prefix}
 use Rattle.report.specs.declared.ProjectAnswer.{ProjectAnswer}
 use Rattle.report.specs.declared.ProjectAnswer.TheVariants.{Reported, Refused}
 use Rattle.report.specs.Report.{report_numbers, lines_in, project_answer, report_after}
 use Rattle.report.specs.Demand.{ReportsProject}
-use Rattle.report.specs.Accepted.{length_report, count_lines}
+use Rattle.report.specs.Accepted.{length_report}
+use Rattle.report.proofs.Accepted.{count_lines}
 use Rattle.report_text.specs.Text.{report_text, refusal_text}
 use Rattle.laws.specs.Stores.{Puts, puts_start}
 

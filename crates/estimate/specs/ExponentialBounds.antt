@@ -5,7 +5,7 @@ use Rattle.estimate.specs.Fraction.{Fraction, fraction, ◌≤ᶠ◌, ◌<ᶠ◌
 use Rattle.estimate.specs.FractionLaws.{≤ᶠ-trans, ≤ᶠ-refl, *ᶠ-mono, ^ᶠ-mono, inverse_antitone}
 use Rattle.estimate.specs.Standing.{LowRight, HighRight}
 use Rattle.estimate.specs.Exponential.{partial_sum, sum_with_tail, last_term, exp_under, exp_over, exp_neg_under, exp_neg_over, exp_under_positive, exp_over_positive}
-use Rattle.estimate.specs.ExponentialLaws.{tail_bounds_every_sum, partial_sum_mono, sum_with_tail_mono, partial_sum_strict, sum_with_tail_strict}
+use Rattle.estimate.specs.ExponentialLaws.{partial_sum_mono, sum_with_tail_mono, partial_sum_strict, sum_with_tail_strict}
 use Rattle.estimate.specs.ExponentialLaws.{sum-≤-with_tail, one-≤-partial_sum, one_plus-≤-partial_sum, sum_with_tail_zero}
 use Rattle.estimate.specs.ExponentialProducts.{partial_sum_submultiplicative, partial_sum_supermultiplicative}
 use Rattle.estimate.specs.ExponentialProducts.{partial_sum_of_multiple, power_of_partial_sum}
@@ -22,9 +22,6 @@ pub record AtLeastExp (w x : Fraction) : Type 0 where
 -- by computation: one sum, and one sum with its tail
 pub at_most_by_sum : {w x : Fraction} (m : ℕ) → w ≤ᶠ partial_sum m x → AtMostExp w x
 at_most_by_sum m h = record { terms = m; reached = h }
-
-pub at_least_by_tail : {w x : Fraction} (m : ℕ) → whole 2 *ᶠ x ≤ᶠ whole (m + 2) → sum_with_tail m x ≤ᶠ w → AtLeastExp w x
-at_least_by_tail {w} {x} m b h = record { bounds = λ n. ≤ᶠ-trans (tail_bounds_every_sum x m b n) h }
 
 -- ORDER
 
@@ -64,18 +61,6 @@ pub exp_under_at_most : (d : ℕ) (x : Fraction) → AtMostExp (exp_under d x) x
 unfolding exp_under
 exp_under_at_most d x = at_most_by_sum (last_term d) (≤ᶠ-refl (partial_sum (last_term d) x))
 
--- up to 21 the tail law holds at depth 0 already
-pub exp_over_at_least : (d : ℕ) (x : Fraction) → x ≤ᶠ whole 21 → AtLeastExp (exp_over d x) x
-unfolding exp_over whole ◌*ᶠ◌
-exp_over_at_least d x h = at_least_by_tail (last_term d) (omega (arith, h.cross)) (≤ᶠ-refl (sum_with_tail (last_term d) x))
-
-pub exp_under-≤-over : (x : Fraction) → x ≤ᶠ whole 21 → (d e : ℕ) → exp_under d x ≤ᶠ exp_over e x
-exp_under-≤-over x h d e = exp_bounds_in_order (exp_under_at_most d x) (exp_over_at_least e x h) (≤ᶠ-refl x)
-
-pub exp_neg_under-≤-over : (x : Fraction) → x ≤ᶠ whole 21 → (d e : ℕ) → exp_neg_under d x ≤ᶠ exp_neg_over e x
-unfolding exp_neg_under exp_neg_over
-exp_neg_under-≤-over x h d e = inverse_antitone (exp_under_positive e x) (exp_over_positive d x) (exp_under-≤-over x h e d)
-
 pub exp_under-≥-one : (d : ℕ) (x : Fraction) → whole 1 ≤ᶠ exp_under d x
 unfolding exp_under
 exp_under-≥-one d x = one-≤-partial_sum (last_term d) x
@@ -83,10 +68,6 @@ exp_under-≥-one d x = one-≤-partial_sum (last_term d) x
 pub exp_over_zero : (d : ℕ) (x : Fraction) → x.num ≡ 0 → exp_over d x =ᶠ whole 1
 unfolding exp_over
 exp_over_zero d x e = sum_with_tail_zero (last_term d) x e
-
-pub exp_neg_under_positive : (d : ℕ) (x : Fraction) → 0 < (exp_neg_under d x).num
-unfolding exp_neg_under inverse
-exp_neg_under_positive d x = (exp_over d x).pos
 
 pub exp_under-≥-one_plus : (d : ℕ) (x : Fraction) → whole 1 +ᶠ x ≤ᶠ exp_under d x
 unfolding exp_under
@@ -112,16 +93,6 @@ exp_under_strict d h = partial_sum_strict h (last_term d) (omega arith)
 pub exp_over_strict : (d : ℕ) {x y : Fraction} → x <ᶠ y → exp_over d x <ᶠ exp_over d y
 unfolding exp_over
 exp_over_strict d h = sum_with_tail_strict h (last_term d) (omega arith)
-
--- STANDING
-
--- an argument up to 21, for which the tail bounds every sum
-pub within_tail_law : (x : ℕ) → x ≤ 210000 → ten_thousandths x ≤ᶠ whole 21
-unfolding ten_thousandths fraction whole
-within_tail_law x h = record { cross = omega arith }
-
-pub exp_low_stands : {w x : Fraction} → x ≤ᶠ whole 21 → AtMostExp w x → LowRight w (λ d. exp_over d x)
-exp_low_stands {w} {x} b h = record { at = λ d _. exp_bounds_in_order h (exp_over_at_least d x b) (≤ᶠ-refl x) }
 
 pub exp_high_stands : {w x : Fraction} → AtLeastExp w x → HighRight w (λ d. exp_under d x)
 exp_high_stands {w} {x} h = record { at = λ d _. exp_bounds_in_order (exp_under_at_most d x) h (≤ᶠ-refl x) }

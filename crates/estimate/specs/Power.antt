@@ -57,18 +57,7 @@ pub record PowerValue (d A p q t : ℕ) : Type 0 where
   pub under : power_under d A p q ≡ decimal d t
   pub over : power_over d A p q ≡ decimal d (t + 1)
 
-pub power_value : (d A p q t : ℕ) → 0 < q → AtMostPower t (10 ^ d) A p q → A ^ p * (10 ^ d) ^ q < (t + 1) ^ q → PowerValue d A p q t
-unfolding power_under power_over
-power_value d A p q t hq h k = let is = power_largest_value d A p q t hq h k in record { under = ap (λ s. decimal d s) is; over = ap (λ s. decimal d (s + 1)) is }
-
 -- "32^0.60 at depth 1: 8.0 and 8.1"
 pub record ThirtyTwoToSixTenths : Type 0 where
   pub under : power_under 1 32 60 100 =ᶠ 80 ÷ 10
   pub over : power_over 1 32 60 100 =ᶠ 81 ÷ 10
-
-thirty_two : PowerValue 1 32 60 100 80
-thirty_two = power_value 1 32 60 100 _ (lit< tt) (lit≤ tt) (lit< tt)
-
-pub thirty_two_to_six_tenths : ThirtyTwoToSixTenths
-unfolding decimal ◌÷◌
-thirty_two_to_six_tenths = record { under = rw thirty_two.under (omega arith); over = rw thirty_two.over (omega arith) }

@@ -8,7 +8,7 @@ use Rattle.exponential.specs.Stored.{stored_exp}
 use Rattle.exponential.specs.StoredLaws.{stored_bounds_lem}
 use Rattle.exponential.specs.Taylor.{taylor_low, taylor_high}
 use Rattle.exponential.specs.Exponential.{exp_low, exp_high, at_scale, exp_bracket, exponential_limit}
-use Rattle.exponential.specs.ExponentialEnds.{exp_low_most, exp_high_most}
+use Rattle.exponential.proofs.ExponentialEnds.{exp_low_most, exp_high_most}
 
 -- e is the stored number, l and h are the ends of the rest
 pub record Ends (x e l h : ℕ) : Type 0 where

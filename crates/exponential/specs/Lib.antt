@@ -8,7 +8,6 @@ pub mod Taylor
 pub mod StoredLaws
 pub mod TaylorLaws
 pub mod ExponentialEnds
-pub mod ExponentialLaws
 pub mod ExponentialMost
 pub mod StoredBrackets
 pub mod StoredBracketLaws

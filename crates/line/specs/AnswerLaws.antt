@@ -9,7 +9,7 @@ use Rattle.site.specs.Rules.{edition_known}
 use Rattle.site.specs.Writing.{sound}
 use Rattle.header.specs.declared.Header.{Header}
 use Rattle.header.specs.Header.{in_limits}
-use Rattle.header.specs.HeaderLaws.{limits_of, limits_pass}
+use Rattle.header.proofs.HeaderLaws.{limits_of, limits_pass}
 use Rattle.model.specs.Coefficients.{Coefficients}
 use Rattle.line.specs.declared.LineAnswer.{LineAnswer}
 use Rattle.line.specs.declared.LineAnswer.TheVariants.{Made, EditionUnknown, OutsideLimits, OutsideRange}

@@ -10,7 +10,7 @@ use Rattle.model.specs.Coefficients.{Coefficients, by_kind, dispersion_by_kind, 
 use Rattle.model.specs.Editions.{by_edition}
 use Rattle.model.specs.Expected.{overdispersion_of}
 use Rattle.model.specs.StatedWidths.{predicted_each, expected_each, sites_counted, crashes_counted}
-use Rattle.model.specs.TermLaws.{by_count}
+use Rattle.model.proofs.TermLaws.{by_count}
 
 -- sizes of kn / kd with which the code's numbers fit
 pub record Overdispersed (kn kd : ℕ) : Type 0 where

@@ -6,4 +6,3 @@ pub mod Dispersion
 pub mod LineLaws
 pub mod Weighing
 pub mod AnswerLaws
-pub mod NeededParts

@@ -19,7 +19,8 @@ use Rattle.model.specs.Predicted.{predicted_under, predicted_over}
 use Rattle.model.specs.StatedWidths.{sites_counted}
 use Rattle.prediction.specs.declared.Pair.{Pair}
 use Rattle.prediction.specs.Kept.{Rated}
-use Rattle.prediction.specs.PredictedLaws.{PairStands, predicted_stands, predicted_small}
+use Rattle.prediction.specs.PredictedLaws.{PairStands}
+use Rattle.prediction.proofs.PredictedLaws.{predicted_stands, predicted_small}
 use Rattle.line.specs.Line.{expected_pair, line_by, site_line}
 use Rattle.line.specs.Dispersion.{Overdispersed, Dispersed}
 use Rattle.line.specs.LineLaws.{low_between, high_between}

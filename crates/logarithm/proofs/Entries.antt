@@ -12,7 +12,8 @@ use Rattle.laws.specs.Table.{both, both_left, both_right, passes_all, entry_pass
 use Rattle.estimate.specs.Fraction.{Fraction, ◌≤ᶠ◌, ◌<ᶠ◌, leᶠ, fraction, whole, decimal}
 use Rattle.estimate.specs.FractionLaws.{leᶠ-sound, whole_mono, ≤ᶠ-<ᶠ-trans, <ᶠ-≤ᶠ-trans}
 use Rattle.estimate.specs.Exponential.{term_num, term_den, partial_sum, sum_with_tail, exp_under, exp_over, term_den_positive}
-use Rattle.estimate.specs.Logarithm.{ln_largest_value, ln_smallest_value}
+use Rattle.estimate.proofs.Logarithm.{ln_largest_value}
+use Rattle.estimate.specs.Logarithm.{ln_smallest_value}
 use Rattle.logarithm.specs.Stored.{stored_low, stored_high, StoredLogarithms}
 
 -- the estimates of e^(t/10^12) at depth 12

@@ -1,2 +1,4 @@
 -- What the proofs share.
 pub mod Entries
+pub mod AnswerLaws
+pub mod LogarithmLaws

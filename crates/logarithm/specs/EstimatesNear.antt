@@ -8,8 +8,9 @@ use Rattle.estimate.specs.Fraction.{Fraction, ◌≤ᶠ◌, fraction, whole, dec
 use Rattle.estimate.specs.FractionLaws.{≤ᶠ-trans, ≤ᶠ-of-not-<ᶠ, <ᶠ-≤ᶠ}
 use Rattle.estimate.specs.Exponential.{term_num, term_den, sum_num, partial_sum, sum_with_tail, exp_under, exp_over}
 use Rattle.estimate.specs.ExponentialLaws.{term_mono}
-use Rattle.estimate.specs.Logarithm.{ln_largest, ln_smallest, ln_under, ln_largest_is, ln_smallest_is}
-use Rattle.estimate.specs.LogarithmLaws.{ln_under-≤-ten}
+use Rattle.estimate.specs.Logarithm.{ln_largest, ln_smallest, ln_under, ln_smallest_is}
+use Rattle.estimate.proofs.Logarithm.{ln_largest_is}
+use Rattle.estimate.proofs.LogarithmLaws.{ln_under-≤-ten}
 
 -- 1/D more of x = n/D adds 1/D at least to each sum from the second on
 one_more : (D S S' den c T T' : ℕ) → D * S + den ≤ D * S' → T ≤ T' → D * (S * c + T) + den * c ≤ D * (S' * c + T')

@@ -4,4 +4,3 @@ pub mod Logarithm
 pub mod Stored
 pub mod EstimatesNear
 pub mod LogarithmLaws
-pub mod AnswerLaws

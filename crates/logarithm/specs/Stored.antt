@@ -4,8 +4,10 @@ use Rattle.std.proofs.Common.{arith}
 use Rattle.estimate.specs.Fraction.{◌≤ᶠ◌, fraction, whole, decimal}
 use Rattle.estimate.specs.FractionLaws.{whole_mono}
 use Rattle.estimate.specs.ExponentialBounds.{AtMostExp, AtLeastExp}
-use Rattle.estimate.specs.Logarithm.{ln_largest, ln_smallest, ln_under, ln_over, ln_one}
-use Rattle.estimate.specs.LogarithmLaws.{ln_under_at_least, ln_over_at_most, ln_under-≤-over, ln_under-≤-ten, ln_over-≤-ten}
+use Rattle.estimate.specs.Logarithm.{ln_largest, ln_smallest, ln_under, ln_over}
+use Rattle.estimate.proofs.Logarithm.{ln_one}
+use Rattle.estimate.proofs.LogarithmLaws.{ln_under_at_least, ln_under-≤-over, ln_under-≤-ten, ln_over-≤-ten}
+use Rattle.estimate.specs.LogarithmLaws.{ln_over_at_most}
 use Rattle.remainder.specs.Remainder.{scale}
 use Rattle.logarithm.specs.EstimatesNear.{ln_estimates_near}
 

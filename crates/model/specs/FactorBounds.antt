@@ -1,5 +1,5 @@
 -- Each exact factor, over its valid range, is positive and at most a cap. A table's bounds are one computed test, and one law
--- carries it to the entries.
+pub -- carries it to the entries.
 use Rattle.std.specs.Prelude.{ℕ, ◌+◌, ◌-◌, ◌*◌, ◌≤◌, ◌<◌, Bool, true, false, cond, ◌&&◌, List, [], ◌∷◌, ◌≡◌, refl, T, leb, ltb, eqb, get_or}
 use Rattle.std.proofs.Common.{ap, mul-pos, mul-le-mul, mul-le-mul_right, mul-le-mul_left, arith, ltb→lt, lit<, lit≤, leb-true}
 use Rattle.std.proofs.Math.Dec.{leb→le}
@@ -9,7 +9,6 @@ use Rattle.laws.specs.Table.{both, both_left, both_right, all_of, entry_of, all_
 use Rattle.model.specs.Coefficients.{Coefficients, at_lanes, edition_one, left_turn_one, right_turn_one, edition_two, left_turn_two, right_turn_two}
 use Rattle.model.specs.Widths.{Column, none, at_traffic, width_unit, lane_columns, lane_column, lane_value, of_related, lane}
 use Rattle.model.specs.Widths.{shoulder_columns, width_at, type_at, shoulder_value, type_value, shoulder_unit, shoulder}
-use Rattle.model.specs.Neighbours.{columns_few}
 use Rattle.model.specs.Alignment.{curve, superelevation}
 use Rattle.model.specs.Access.{access_density, two_way_lane, passing}
 use Rattle.model.specs.Crossings.{left_turn, right_turn, sight}
@@ -21,32 +20,16 @@ pub record Capped (cap x : Fraction) : Type 0 where
   pub at_most : x ≤ᶠ cap
   pub positive : 0 < x.num
 
--- by the cross product of two quotients
-quotient_within : (n d m e : ℕ) → 0 < d → 0 < e → 0 < n → n * e ≤ m * d → Capped (m ÷ e) (n ÷ d)
-quotient_within n d m e hd he hn l = record {
-  at_most = record { cross = rw (÷-num n d, ÷-den n d hd, ÷-num m e, ÷-den m e he) l };
-  positive = rw (÷-num n d) hn;
-}
-
 -- a quotient that is at most 1
-one_within : (n d : ℕ) → 0 < d → 0 < n → n ≤ d → Capped (whole 1) (n ÷ d)
+pub one_within : (n d : ℕ) → 0 < d → 0 < n → n ≤ d → Capped (whole 1) (n ÷ d)
 unfolding whole fraction
 one_within n d hd hn l = record {
   at_most = record { cross = rw (÷-num n d, ÷-den n d hd) (omega arith) };
   positive = rw (÷-num n d) hn;
 }
 
--- 1 under a cap of at least 1
-above_one : (m e : ℕ) → 0 < e → e ≤ m → Capped (m ÷ e) (whole 1)
-unfolding whole fraction
-above_one m e he l = record { at_most = record { cross = rw (÷-num m e, ÷-den m e he) (omega arith) }; positive = lit< tt }
-
-one : Capped (whole 1) (whole 1)
-unfolding whole fraction
-one = record { at_most = ≤ᶠ-refl (whole 1); positive = lit< tt }
-
 -- what holds of both choices, each where its test answers so, holds of the one that is taken
-by_test : {A : Type 0} (P : A → Type 0) (test : Bool) {x y : A} → (test ≡ true → P x) → (test ≡ false → P y) → P (cond test x y)
+pub by_test : {A : Type 0} (P : A → Type 0) (test : Bool) {x y : A} → (test ≡ true → P x) → (test ≡ false → P y) → P (cond test x y)
 by_test P true f g = f refl
 by_test P false f g = g refl
 
@@ -80,7 +63,7 @@ column_within_lem c h =
     }
 
 -- a value of a column
-record ValueWithin (c : Column) (v : ℕ) : Type 0 where
+pub record ValueWithin (c : Column) (v : ℕ) : Type 0 where
   positive : 0 < v
   at_most : v ≤ highest c
 
@@ -163,59 +146,9 @@ means_within_lem surface i j traffic s hi hj =
       at_most = omega (arith, mul-le-mul_right (type_at surface i + type_at surface j) sum, most);
     }
 
-pub shoulder_value_within : (surface feet traffic : ℕ) → surface ≤ 3 → MeansWithin (shoulder_value feet traffic) (type_value surface feet)
-unfolding shoulder_value type_value
-shoulder_value_within surface feet traffic h = let few = columns_few feet in means_within_lem surface _ _ traffic h few.0 few.1
-
 -- an r of at most 1.5 makes a factor of at most 1 + share / 2
 abbrev pub related_most : Coefficients → Fraction
 related_most k = (2000 + k.related_share) ÷ 2000
-
-related_within : (share r unit : ℕ) → share ≤ 1000 → 0 < unit → 0 < r → 2 * r ≤ 3 * unit → Capped ((2000 + share) ÷ 2000) (of_related share r unit)
-related_within share r unit hs hu hr top =
-    quotient_within _ _ _ _ (omega arith) (lit< tt) (positive (1000 - share) share (omega arith)) (most (1000 - share) share (omega arith))
-  where
-    positive : (rest s : ℕ) → rest + s ≡ 1000 → 0 < rest * unit + s * r
-    positive rest s e = omega (arith, mul-le-mul_left rest hu, mul-le-mul_left s hr)
-
-    most : (rest s : ℕ) → rest + s ≡ 1000 → (rest * unit + s * r) * 2000 ≤ (2000 + s) * (1000 * unit)
-    most rest s e = omega (arith, mul-le-mul_left s top, ap (λ z. z * unit) e)
-
-lane_within : (k : Coefficients) (feet traffic : ℕ) → k.related_share ≤ 1000 → Capped (related_most k) (lane k feet traffic)
-unfolding lane
-lane_within k feet traffic h =
-    let v = lane_value_within feet traffic in
-    related_within k.related_share (lane_value feet traffic) width_unit h (lit< tt) v.0 (omega (arith, v.1))
-
-shoulder_within : (k : Coefficients) (feet surface traffic : ℕ) → k.related_share ≤ 1000 → surface ≤ 3
-    → Capped (related_most k) (shoulder k feet surface traffic)
-unfolding shoulder
-shoulder_within k feet surface traffic h t =
-    let v = shoulder_value_within surface feet traffic t in
-    related_within k.related_share (shoulder_value feet traffic * type_value surface feet) shoulder_unit h (lit< tt)
-    (mul-pos v.width_positive v.multiplier_positive) v.at_most
-
--- ALIGNMENT
-
--- the sharpest and shortest curve is 1 + 80.2 / 100 / 0.00155 miles, under 518.42
-curve_within : (length radius spirals : ℕ) → 1 ≤ length → 100 ≤ radius → Capped (51842 ÷ 100) (curve length radius spirals)
-unfolding curve
-curve_within length radius spirals hl hr =
-    by_test (Capped (51842 ÷ 100)) (ltb 8020000 (600 * spirals * radius))
-    (λ _. above_one 51842 100 (lit< tt) (lit≤ tt))
-    (λ _. bent (155 * length * radius) (600 * spirals * radius) (omega (arith, mul-le-mul hl hr)))
-  where
-    bent : (straight spiral : ℕ) → 15500 ≤ straight → Capped (51842 ÷ 100) ((straight + (8020000 - spiral)) ÷ straight)
-    bent straight spiral h = quotient_within _ _ _ _ (omega arith) (lit< tt) (omega arith) (omega arith)
-
-superelevation_within : (deficiency : ℕ) → deficiency ≤ 100 → Capped (13 ÷ 10) (superelevation deficiency)
-unfolding superelevation
-superelevation_within deficiency h =
-    by_test (Capped (13 ÷ 10)) (ltb deficiency 10)
-    (λ _. above_one 13 10 (lit< tt) (lit≤ tt))
-    (λ _. by_test (Capped (13 ÷ 10)) (leb deficiency 20)
-    (λ e. quotient_within (940 + 6 * deficiency) 1000 13 10 (lit< tt) (lit< tt) (omega arith) (omega (arith, leb-true deficiency 20 e)))
-    (λ _. quotient_within (1000 + 3 * deficiency) 1000 13 10 (lit< tt) (lit< tt) (omega arith) (omega arith)))
 
 -- an edition's grade up to 12 percent, by one test for each of its two factors
 grade_within : (ℕ → Fraction) → ℕ → Bool
@@ -230,40 +163,22 @@ grade_by_test grade tested percent h =
       positive = ltb→lt _ _ (both_right (leᶠ (grade percent) (grade 12)) _ t);
     }
 
--- ACCESS AND CROSSINGS
-
-two_way_lane_within : (present driveways : ℕ) → Capped (whole 1) (two_way_lane present driveways)
-unfolding two_way_lane
-two_way_lane_within present driveways =
-    by_test (Capped (whole 1)) (eqb present 1 && leb 5 driveways) (λ _. under_one (access_density driveways)) (λ _. one)
-  where
-    under_one : (density : ℕ) → Capped (whole 1) ((1199000 + 65 * density) ÷ (1199000 + 100 * density))
-    under_one density = one_within _ _ (omega arith) (omega arith) (omega arith)
-
 -- a part of a whole: from 1 to `unit` of its units
-is_part : (unit part : ℕ) → Bool
+pub is_part : (unit part : ℕ) → Bool
 is_part unit part = both (ltb 0 part) (leb part unit)
 
-part_within : (unit part : ℕ) → T (is_part unit part) → Capped (whole 1) (part ÷ unit)
+pub part_within : (unit part : ℕ) → T (is_part unit part) → Capped (whole 1) (part ÷ unit)
 unfolding is_part
 part_within unit part t =
     let least = ltb→lt _ _ (both_left (ltb 0 part) _ t) in
     let most = leb→le _ _ (both_right (ltb 0 part) _ t) in
     one_within part unit (omega arith) least most
 
-passing_within : (kind : ℕ) → Capped (whole 1) (passing kind)
-unfolding passing is_part all_of
-passing_within kind = part_within 100 _ (entry_of (is_part 100) 100 tt (100 ∷ 75 ∷ 65 ∷ []) tt kind)
-
 -- a table of thousandths by kind and count of lanes
 turn_within : (table : List (List ℕ)) → T (all_of (all_of (is_part 1000)) table) → (kind lanes : ℕ) → Capped (whole 1) (at_lanes table kind lanes ÷ 1000)
 unfolding is_part all_of
 turn_within table t kind lanes =
     part_within 1000 _ (entry_of (is_part 1000) 1000 tt (get_or table kind []) (entry_of (all_of (is_part 1000)) [] tt table t kind) lanes)
-
-sight_within : (quadrants : ℕ) → quadrants ≤ 4 → Capped (6 ÷ 5) (sight quadrants)
-unfolding sight
-sight_within quadrants h = quotient_within (100 + 5 * quadrants) 100 6 5 (lit< tt) (lit< tt) (omega arith) (omega arith)
 
 -- ANY EXACT FACTOR
 
@@ -325,16 +240,3 @@ edition_one_bounded = bounded_by_tests edition_one tt tt tt left_turn_one right_
 pub edition_two_bounded : Bounded edition_two
 unfolding all_below grade_within leᶠ is_part all_of edition_two whole ◌^ᶠ◌ ◌÷◌ fraction
 edition_two_bounded = bounded_by_tests edition_two tt tt tt left_turn_two right_turn_two refl refl tt tt
-
-pub capped : (k : Coefficients) → Bounded k → (factor : ExactFactor) → ExactSized factor → Capped (cap_of k factor) (exact_value k factor)
-capped k b (Lane feet traffic) s = lane_within k feet traffic b.share_most
-capped k b (Shoulder feet surface traffic) s = shoulder_within k feet surface traffic b.share_most s
-capped k b (Grade percent) s = b.grade percent s
-capped k b (SteepGrade percent) s = b.steep_grade percent s
-capped k b (TwoWayLane present count) s = two_way_lane_within present count
-capped k b (Passing kind) s = passing_within kind
-capped k b (Curve length radius spirals) s = curve_within length radius spirals s.0 s.1
-capped k b (Superelevation deficiency) s = superelevation_within deficiency s
-capped k b (LeftTurn kind lanes) s = b.left_turn kind lanes
-capped k b (RightTurn kind lanes) s = b.right_turn kind lanes
-capped k b (Sight quadrants) s = sight_within quadrants s

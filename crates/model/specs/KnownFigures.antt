@@ -1,8 +1,10 @@
 -- "Table of twelve, settled by proof as a whole."
 use Rattle.std.specs.Prelude.{ℕ, ◌≡◌, refl}
 use Rattle.estimate.specs.Fraction.{Fraction, fraction, ◌÷◌, ◌=ᶠ◌, whole, millionths, ◌^ᶠ◌}
-use Rattle.estimate.specs.Power.{ThirtyTwoToSixTenths, thirty_two_to_six_tenths}
-use Rattle.estimate.specs.Logarithm.{LnOne, ln_one}
+use Rattle.estimate.specs.Power.{ThirtyTwoToSixTenths}
+use Rattle.estimate.proofs.Power.{thirty_two_to_six_tenths}
+use Rattle.estimate.specs.Logarithm.{LnOne}
+use Rattle.estimate.proofs.Logarithm.{ln_one}
 use Rattle.model.specs.Coefficients.{edition_one}
 use Rattle.model.specs.Widths.{lane, lane_value, shoulder, shoulder_value, type_value}
 use Rattle.model.specs.Alignment.{curve, superelevation}

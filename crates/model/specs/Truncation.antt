@@ -8,7 +8,7 @@ use Rattle.estimate.specs.Fraction.{Fraction, whole, fraction, ◌≤ᶠ◌}
 use Rattle.estimate.specs.FractionLaws.{whole_mono}
 use Rattle.estimate.specs.Logarithm.{ln_under, ln_over}
 use Rattle.laws.specs.Table.{both, both_left, both_right}
-use Rattle.estimate.specs.LogarithmLaws.{ln_over-≤-ten, ln_under-≤-ten}
+use Rattle.estimate.proofs.LogarithmLaws.{ln_over-≤-ten, ln_under-≤-ten}
 use Rattle.model.specs.Widths.{Column, none, lane_columns, shoulder_columns}
 
 -- "c = 0.05 − 0.005 ln A": both estimates of ln A are at most 10 at every depth, so 50 − 5 ln A thousandths is exact. At

@@ -5,7 +5,4 @@ pub mod Power
 pub mod Exponents
 pub mod Stored
 pub mod PowerWidth
-pub mod PowerLaws
-pub mod PowerMost
 pub mod Ends
-pub mod AnswerLaws

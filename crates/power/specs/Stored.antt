@@ -5,7 +5,7 @@ use Rattle.std.proofs.Common.{le_trans, mul_comm, arith}
 use Rattle.std.proofs.Math.Nat.{mul-le-mul_right, one-le-pow, pow-le-pow_left, pow-le-pow_right}
 use Rattle.estimate.specs.WholePower.{mul_pow, pow_mul, pow_le_cancel}
 use Rattle.estimate.specs.Power.{power_largest, power_largest_is}
-use Rattle.estimate.specs.PowerLaws.{above_power}
+use Rattle.estimate.proofs.PowerLaws.{above_power}
 use Rattle.remainder.specs.Remainder.{Exponent}
 use Rattle.remainder.specs.declared.Bounds.{Bounds}
 use Rattle.power.specs.Exponents.{exponent_at}

@@ -27,7 +27,6 @@ use Rattle.prediction.specs.declared.Pair.{Pair}
 use Rattle.prediction.specs.Factors.{brackets_of}
 use Rattle.prediction.specs.Pair.{segment_units, crossing_units, pair_of, segment_pair, crossing_pair, term_pair, plus, sum_pair, predicted_pair, most_predicted}
 use Rattle.prediction.specs.Kept.{Rated}
-use Rattle.prediction.specs.PredictedLaws.{predicted_stands, predicted_small}
 use Rattle.prediction.specs.Terms.{no_term}
 use Rattle.laws.specs.Walk.{next, at_end}
 
@@ -101,39 +100,3 @@ module _ (k : Coefficients) (header : Header) (site : Site) (term : Term) where
       → pair_of k (crossing_units term.years header.crossings) (crossing_factors v) ≡ term_pair k header site term
   unfolding term_pair crossing_pair
   crossing_pair_lem i f = rw (i, ne_eqb site.kind 0 f)
-
--- THE PAIR of a site is the sum of its terms'
-plus_none : (x : Pair) → x ≡ plus x (record { low = 0; high = 0 })
-plus_none x = rw (add-zero x.low, add-zero x.high)
-
-plus_assoc : (x y z : Pair) → plus (plus x y) z ≡ plus x (plus y z)
-plus_assoc x y z = rw (add_assoc x.low y.low z.low, add_assoc x.high y.high z.high)
-
-none_plus : (x : Pair) → plus (record { low = 0; high = 0 }) x ≡ x
-none_plus x = rw (zero-add x.low, zero-add x.high)
-
-module _ (k : Coefficients) (header : Header) (site : Site) where
-  -- WHAT THE LOOP KEEPS: the sum so far, and the terms from a place on
-  pub record Summed (i : ℕ) (sum : Pair) : Type 0 where
-    pub whole : plus sum (sum_pair k header site (drop i (terms_of header site))) ≡ predicted_pair k header site
-
-  pub none_summed : Summed 0 (record { low = 0; high = 0 })
-  unfolding predicted_pair
-  none_summed = record { whole = none_plus _ }
-
-  pub next_summed : (i : ℕ) (sum : Pair) → i < length (terms_of header site) → Summed i sum
-      → Summed (i + 1) (plus sum (term_pair k header site (get_or (terms_of header site) i no_term)))
-  unfolding sum_pair
-  next_summed i sum h s = record { whole = rw (plus_assoc sum _ _) (rw (next (terms_of header site) i no_term h) at s.whole) }
-
-  pub all_summed : (i : ℕ) (sum : Pair) → length (terms_of header site) ≤ i → Summed i sum → sum ≡ predicted_pair k header site
-  unfolding sum_pair
-  all_summed i sum h s = plus_none sum ∙ rw (at_end (terms_of header site) i h) at s.whole
-
-  -- no sum on the way is above the whole
-  pub summed_small : Rated k → HeaderWithin header → Valid header.edition header.years site → {i : ℕ} {sum : Pair} → Summed i sum
-      → (sum.low ≤ most_predicted) × (sum.high ≤ most_predicted)
-  summed_small rated limits valid s =
-      let stands = predicted_stands k rated header limits site valid in
-      let small = predicted_small k rated header limits site valid in
-      (omega (arith, ap (λ (p : Pair). p.low) s.whole, stands.in_order), omega (arith, ap (λ (p : Pair). p.high) s.whole))

@@ -10,12 +10,14 @@ use Rattle.bracket.specs.Ratio.{exactly, exactly_stands}
 use Rattle.bracket.specs.WidthLaws.{in_parts}
 use Rattle.bracket.specs.Pieces.{Piece, Kept, AllKept, exactly_narrow, bounds, has_room, grown, absolute_most}
 use Rattle.exponential.specs.Exponential.{exp_bracket}
-use Rattle.exponential.specs.ExponentialLaws.{exp_promised}
-use Rattle.exponential.specs.ExponentialMost.{sum_at_most, exp_below}
+use Rattle.exponential.proofs.ExponentialLaws.{exp_promised}
+use Rattle.exponential.specs.ExponentialMost.{sum_at_most}
+use Rattle.exponential.proofs.ExponentialMost.{exp_below}
 use Rattle.exponential.specs.StoredBrackets.{stored_bracket, stored_limit, stored_width, stored_at_most}
-use Rattle.exponential.specs.StoredBracketLaws.{stored_promised, stored_high_bounds, stored_bounded}
+use Rattle.exponential.proofs.StoredBracketLaws.{stored_promised}
+use Rattle.exponential.specs.StoredBracketLaws.{stored_high_bounds, stored_bounded}
 use Rattle.power.specs.Power.{power_bracket}
-use Rattle.power.specs.PowerMost.{hundredths_standing, hundredths_below}
+use Rattle.power.proofs.PowerMost.{hundredths_standing, hundredths_below}
 use Rattle.driveways.specs.DrivewayLaws.{driveways_stand, driveways_width, driveways_most_lem}
 use Rattle.site.specs.declared.numbers.Segment.{Segment}
 use Rattle.site.specs.declared.numbers.Crossing.{Crossing}
@@ -28,7 +30,8 @@ use Rattle.model.specs.Crossings.{major_exponent, minor_exponent, skew_exponent}
 use Rattle.model.specs.Parts.{power, exponential, base_exponent, hazard_exponent}
 use Rattle.model.specs.Parts.{ExactFactor, Factor, Exact, Base, Hazard, Driveways, MajorTraffic, MinorTraffic, Skew}
 use Rattle.model.specs.Parts.{straight_factors, curve_factors, segment_factors, crossing_factors}
-use Rattle.model.specs.FactorBounds.{ExactSized, Bounded, capped}
+use Rattle.model.specs.FactorBounds.{ExactSized, Bounded}
+use Rattle.model.proofs.FactorBounds.{capped}
 use Rattle.prediction.specs.Factors.{parts, width_share, hazard_most, skew_most, major_most, minor_most, piece_of, pieces_of}
 use Rattle.prediction.specs.Pair.{unit}
 

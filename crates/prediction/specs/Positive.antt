@@ -8,8 +8,9 @@ use Rattle.std.proofs.lemmas.Bool.{eqb-false}
 use Rattle.estimate.specs.Fraction.{Fraction, fraction, ◌÷◌, whole, ◌+ᶠ◌, ◌*ᶠ◌}
 use Rattle.estimate.specs.FractionLaws.{÷-num, positive_above, lesser_by}
 use Rattle.estimate.specs.Power.{power_under}
-use Rattle.estimate.specs.PowerLaws.{power_under-≥-one}
-use Rattle.estimate.specs.SignedExponent.{Plus, signed_under_positive}
+use Rattle.estimate.proofs.PowerLaws.{power_under-≥-one}
+use Rattle.estimate.specs.SignedExponent.{Plus}
+use Rattle.estimate.proofs.SignedExponent.{signed_under_positive}
 use Rattle.site.specs.declared.values.Site.{Site}
 use Rattle.site.specs.Writing.{Valid}
 use Rattle.site.specs.Numbers.{segment_of, crossing_of, segment_sizes, crossing_sizes}
@@ -19,7 +20,7 @@ use Rattle.model.specs.Crossings.{skew_exponent}
 use Rattle.model.specs.Parts.{Term, base_exponent, hazard_exponent}
 use Rattle.model.specs.Parts.{Factor, Exact, Base, Hazard, Driveways, MajorTraffic, MinorTraffic, Skew, part_of}
 use Rattle.model.specs.Parts.{segment_factors, crossing_factors, segment_start, crossing_start, segment_parts, crossing_parts, parts_of}
-use Rattle.model.specs.FactorBounds.{capped}
+use Rattle.model.proofs.FactorBounds.{capped}
 use Rattle.header.specs.declared.Header.{Header}
 use Rattle.header.specs.HeaderLaws.{HeaderWithin}
 use Rattle.model.specs.Predicted.{product_under, term_of, later_terms, sum_under, predicted_under}

@@ -20,10 +20,6 @@ abbrev pub after_record : (at : ℕ) → SiteAnswer → (ℕ → ScanAnswer) →
 after_record at (site.Refused number) k = Refused number (at + read_value (site.Refused number))
 after_record at (site.Read site n) k = k (at + n)
 
--- "Place is the record's first byte": the reader's place is 0
-pub place_of_record : (at number : ℕ) (k : ℕ → ScanAnswer) → after_record at (site.Refused number) k ≡ Refused number at
-place_of_record at number k = ap (λ (place : ℕ). Refused number place) (add-zero at)
-
 -- "each record in turn .. last 2": the records that are left, from a place on, and then "bytes after the last record"
 unfoldable pub scan_records : (edition years sites left at : ℕ) → List ℕ → ScanAnswer
 scan_records edition years sites zero at s = cond (ltb at (length s)) (Refused 2 at) (Accepted sites)

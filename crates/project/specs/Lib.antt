@@ -4,6 +4,5 @@ pub mod File
 pub mod Causes
 pub mod Scan
 pub mod Promise
-pub mod Acceptance
 pub mod SitesRead
 pub mod Prefix

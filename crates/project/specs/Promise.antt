@@ -5,7 +5,6 @@ use Rattle.project.specs.declared.ScanAnswer.{ScanAnswer}
 use Rattle.project.specs.declared.ScanAnswer.TheVariants.{Accepted, Refused}
 use Rattle.project.specs.File.{scan_file}
 use Rattle.project.specs.Causes.{FirstInBytes, Whole}
-use Rattle.project.specs.Scan.{accepted_exactly, refused_exactly}
 
 -- 0 for a file that is accepted
 abbrev pub scan_number : ScanAnswer → ℕ
@@ -25,10 +24,3 @@ ScanTells s (Refused number place) = FirstInBytes s (scan_number (Refused number
 pub record ScansFile (s : List ℕ) (answer : ScanAnswer) : Type 0 where
   pub answer_is : answer ≡ scan_file s
   pub tells : ScanTells s answer
-
-pub scans_file : (s : List ℕ) (answer : ScanAnswer) → answer ≡ scan_file s → ScansFile s answer
-scans_file s answer e = record { answer_is = e; tells = told answer (sym e) }
-  where
-    told : (given : ScanAnswer) → scan_file s ≡ given → ScanTells s given
-    told (Accepted sites) q = (refl, (accepted_exactly s sites).0 q)
-    told (Refused number place) q = (refused_exactly s number place).0 q

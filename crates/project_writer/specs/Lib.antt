@@ -9,6 +9,4 @@ pub mod Sound
 pub mod Exactly
 pub mod Walks
 pub mod Promise
-pub mod WholeCourse
 pub mod Theorems
-pub mod AnyOrder

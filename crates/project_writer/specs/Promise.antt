@@ -5,16 +5,9 @@ use Rattle.header.specs.declared.Header.{Header}
 use Rattle.project_writer.specs.declared.course.FileAnswer.{FileAnswer}
 use Rattle.project_writer.specs.ProjectFile.{file_answer, file_number, file_value, buffer_after}
 use Rattle.project_writer.specs.Causes.{FileCause}
-use Rattle.project_writer.specs.Exactly.{cause_of}
 
 -- "The file comes out complete, or nothing is written", and why not
 pub record WritesProject (header : Header) (sites : List Site) (before afterwards : List ℕ) (answer : FileAnswer) : Type 0 where
   pub answer_is : answer ≡ file_answer header sites (length before)
   pub buffer_is : afterwards ≡ buffer_after header sites before
   pub cause : FileCause header sites (length before) (file_number answer) (file_value answer)
-
-pub writes_project : (header : Header) (sites : List Site) (before afterwards : List ℕ) (answer : FileAnswer)
-    → answer ≡ file_answer header sites (length before) → afterwards ≡ buffer_after header sites before
-    → WritesProject header sites before afterwards answer
-writes_project header sites before afterwards answer e b =
-    record { answer_is = e; buffer_is = b; cause = rw e (cause_of header sites (length before)) }

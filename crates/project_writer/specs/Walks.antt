@@ -10,8 +10,8 @@ use Rattle.site.specs.declared.values.Site.{Site}
 use Rattle.site.specs.declared.values.WriteAnswer.{WriteAnswer}
 use Rattle.site.specs.declared.values.WriteAnswer.TheVariants.{Written}
 use Rattle.site.specs.Writing.{record_of, sound, Valid}
-use Rattle.site.specs.Theorems.{record_length}
-use Rattle.site.specs.Written.{length_answered, record_written}
+use Rattle.site.proofs.Theorems.{record_length}
+use Rattle.site.proofs.Written.{length_answered, record_written}
 use Rattle.site.specs.Promises.{WritesSite}
 use Rattle.project_writer.specs.declared.course.FileAnswer.{FileAnswer}
 use Rattle.project_writer.specs.declared.course.FileAnswer.TheVariants.{OutsideRange}
@@ -21,13 +21,13 @@ use Rattle.project_writer.specs.ProjectFile.{records_of, sound_sites}
 use Rattle.project_writer.specs.Course.{step_course, step_buffer, walk_course, walk_buffer, Walks}
 use Rattle.project_writer.specs.Sound.{sound_first, outside_first, all_sound}
 
-records_length : (edition : ℕ) (site : Site) (sites : List Site)
+pub records_length : (edition : ℕ) (site : Site) (sites : List Site)
     → length (records_of edition (site ∷ sites)) ≡ length (record_of edition site) + length (records_of edition sites)
 unfolding records_of
 records_length edition site sites = simp length-append (omega arith)
 
 -- one site more is measured, by the test of its values
-abbrev measured_by : (edition : ℕ) → Bool → Site → (i n : ℕ) → Course
+abbrev pub measured_by : (edition : ℕ) → Bool → Site → (i n : ℕ) → Course
 measured_by edition b site i n = cond b (Measured (i + 1) (n + length (record_of edition site))) (Stopped (OutsideRange i))
 
 -- WHERE IT ENDS: a walk that has stopped moves nothing
@@ -110,49 +110,6 @@ step_length edition site (Measured i n) buffer = refl
 step_length edition site (Placed at) buffer = length-sets buffer at (record_of edition site)
 step_length edition site (Stopped answer) buffer = refl
 
--- WHAT IT NEEDS, where a site is written: that it is valid, and space for its record
-module _ (edition years : ℕ) (site : Site) (sites : List Site) where
-  pub walks_valid : (at room : ℕ) → Walks edition years (site ∷ sites) (Placed at) room
-      → Valid edition years site × (at + length (record_of edition site) ≤ room)
-  walks_valid at room w = ((all_sound edition years site sites w.0).0, omega (arith, records_length edition site sites))
-
-  -- what its step needs, and the walk from there
-  pub walks_first : (course : Course) (room : ℕ) → Walks edition years (site ∷ sites) course room → Walks edition years (site ∷ []) course room
-  unfolding records_of sound_sites
-  walks_first (Measured i n) room w = (omega arith, w.1)
-  walks_first (Placed at) room w = let p = walks_valid at room w in (rw p.0.is_sound, rw (append-nil (record_of edition site)) p.1)
-  walks_first (Stopped answer) room w = w
-
-  pub walks_rest : (course : Course) (room : ℕ) → Walks edition years (site ∷ sites) course room
-      → Walks edition years sites (step_course edition years site course) room
-  walks_rest (Measured i n) room w = by (sound edition years site) refl
-    where
-      by : (b : Bool) → sound edition years site ≡ b → Walks edition years sites (measured_by edition b site i n) room
-      by true q = (omega arith, omega (arith, (record_length edition years site (record { is_sound = q })).at_most))
-      by false q = tt
-  walks_rest (Placed at) room w = ((all_sound edition years site sites w.0).1, omega (arith, records_length edition site sites))
-  walks_rest (Stopped answer) room w = w
-
--- AS THE SITE WRITER: where a site is written, the step leaves what `write_site` would, called for the part of the buffer from the
--- place reached, and goes on by the length that it would answer
-pub as_site_writer : (edition years : ℕ) (site : Site) (at : ℕ) (buffer afterwards : List ℕ) (answer : WriteAnswer)
-    → Walks edition years (site ∷ []) (Placed at) (length buffer) → WritesSite edition years site (drop at buffer) afterwards answer
-    → (answer ≡ Written (length (record_of edition site))) × (step_buffer edition site (Placed at) buffer ≡ take at buffer ++ afterwards)
-as_site_writer edition years site at buffer afterwards answer w s =
-    let p = walks_valid edition years site [] at (length buffer) w in
-    let fits : length (record_of edition site) ≤ length (drop at buffer) = omega (arith, p.1, length-drop at buffer) in (
-      s.answer_is ∙ length_answered (drop at buffer) p.0 fits,
-      rw (
-        s.buffer_is,
-        record_written (drop at buffer) p.0 fits,
-        sets-eq (record_of edition site) buffer at p.1,
-        sets-eq (record_of edition site) (drop at buffer) 0 (omega arith),
-        drop-drop,
-        zero-add,
-        append_assoc,
-      ) refl,
-    )
-
 -- A LOOP that has come to the site at an index: the sites from there on take it where the whole walk ends
 pub record Walked (edition years : ℕ) (sites : List Site) (start : Course) (before : List ℕ) (i : ℕ) (course : Course) (buffer : List ℕ) : Type 0 where
   pub course_is : walk_course edition years (drop i sites) course ≡ walk_course edition years sites start
@@ -162,29 +119,3 @@ pub record Walked (edition years : ℕ) (sites : List Site) (start : Course) (be
 pub walked_none : {edition years : ℕ} {sites : List Site} {start : Course} {before : List ℕ} → Walks edition years sites start (length before)
     → Walked edition years sites start before 0 start before
 walked_none w = record { course_is = refl; buffer_is = refl; walks = w }
-
-module _ {edition years : ℕ} {sites : List Site} {start : Course} {before : List ℕ} {i : ℕ} {course : Course} {buffer : List ℕ}
-    (w : Walked edition years sites start before i course buffer) where
-  module _ (d site : Site) (more : i < length sites) (site_is : site ≡ get_or sites i d) where
-    from_site : drop i sites ≡ site ∷ drop (i + 1) sites
-    from_site = next sites i d more ∙ ap (λ (first : Site). first ∷ drop (i + 1) sites) (sym site_is)
-
-    pub walked_needs : Walks edition years (site ∷ []) course (length buffer)
-    walked_needs = walks_first edition years site (drop (i + 1) sites) course (length buffer) (rw from_site at w.walks)
-
-    pub walked_more : (course' : Course) (buffer' : List ℕ)
-        → (course' ≡ step_course edition years site course) × (buffer' ≡ step_buffer edition site course buffer)
-        → Walked edition years sites start before (i + 1) course' buffer'
-    unfolding walk_course walk_buffer
-    walked_more course' buffer' step =
-        record {
-          course_is = rw step.0 (rw from_site at w.course_is);
-          buffer_is = rw (step.0, step.1) (rw from_site at w.buffer_is);
-          walks =
-              rw (step.0, step.1, step_length edition site course buffer)
-              (walks_rest edition years site (drop (i + 1) sites) course (length buffer) (rw from_site at w.walks));
-        }
-
-  pub walked_all : length sites ≤ i → (course ≡ walk_course edition years sites start) × (buffer ≡ walk_buffer edition years sites start before)
-  unfolding walk_course walk_buffer
-  walked_all h = (rw (at_end sites i h) at w.course_is, rw (at_end sites i h) at w.buffer_is)

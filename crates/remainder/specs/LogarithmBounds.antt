@@ -5,7 +5,8 @@ use native.Mathlib.Omega.{arith}
 use Rattle.estimate.specs.Fraction.{◌≤ᶠ◌, fraction, decimal}
 use Rattle.estimate.specs.FractionLaws.{≤ᶠ-refl}
 use Rattle.estimate.specs.ExponentialBounds.{AtMostExp, AtLeastExp, at_most_weaker, at_least_weaker}
-use Rattle.estimate.specs.Remainder.{ratio, twice_z, twice_zAnd_cube, ratio_at_least, ratio_at_most}
+use Rattle.estimate.specs.Remainder.{ratio, twice_z, twice_zAnd_cube, ratio_at_least}
+use Rattle.estimate.proofs.Remainder.{ratio_at_most}
 use Rattle.laws.specs.Quotient.{quotient_up, RoundedDown, RoundedUp, rounded_down, quotient_up_lem, quotient_up_zero, half_up, at_most, product-≤}
 use Rattle.remainder.specs.Remainder.{SmallRest, most_log, scale, log_low, log_high, with_cube}
 

@@ -1,7 +1,7 @@
 -- The bounds of ((N+r)/N)^(p/q), for every exponent p/q up to 1: that they are bounds, how near they are and how large.
 use Rattle.std.specs.Prelude.{ℕ, ◌+◌, ◌*◌, ◌^◌, ◌≤◌, ◌<◌, ◌≡◌}
 use Rattle.std.proofs.Common.{mul-le-mul, mul-le-mul_left, mul-le-mul_right, arith, lit<, lit≤}
-use Rattle.estimate.specs.Remainder.{ratio_power_low_whole, ratio_power_high_whole}
+use Rattle.estimate.proofs.Remainder.{ratio_power_low_whole, ratio_power_high_whole}
 use Rattle.laws.specs.Quotient.{quotient_down, quotient_up, RoundedDown, RoundedUp, rounded_down, down_near, quotient_up_lem, at_most}
 use Rattle.remainder.specs.Remainder.{SmallRest, Exponent, most_denominator, most_log, scale, log_low, log_high, remainder_low, remainder_high, NearOne}
 use Rattle.remainder.specs.LogarithmBounds.{log_low_stands, log_low_small, log_high_stands, log_high_small, log_near, log_near_whole}

@@ -15,8 +15,9 @@ use Rattle.site.specs.declared.values.SiteAnswer.TheVariants as reading
 use Rattle.site.specs.Record.{read_site}
 use Rattle.site.specs.Promises.{ReadsSite}
 use Rattle.site.specs.Writing.{Valid}
-use Rattle.site.specs.Theorems.{longest, RecordLength, read_length}
-use Rattle.site.specs.ReadWrite.{read_valid}
+use Rattle.site.specs.Theorems.{longest, RecordLength}
+use Rattle.site.proofs.Theorems.{read_length}
+use Rattle.site.proofs.ReadWrite.{read_valid}
 use Rattle.header.specs.declared.Header.{Header}
 use Rattle.header.specs.Header.{header_length, edition_in, header_in, count_in, most_sites}
 use Rattle.header.specs.HeaderLaws.{HeaderWithin}

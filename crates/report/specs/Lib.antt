@@ -6,7 +6,6 @@ pub mod DemandLaws
 pub mod Fill
 pub mod Accepted
 pub mod NeededParts
-pub mod Zeros
 pub mod OneReport
 pub mod ReaderCauses
 pub mod LinesLeft

@@ -7,8 +7,8 @@ use Rattle.line.specs.declared.Line.{Line}
 use Rattle.line.specs.Line.{site_line}
 use Rattle.project.specs.File.{sites_in}
 use Rattle.project.specs.Causes.{report_length, NoCause}
-use Rattle.project.specs.SitesRead.{accepted_sites}
-use Rattle.project.specs.Acceptance.{no_cause_exactly}
+use Rattle.project.proofs.SitesRead.{accepted_sites}
+use Rattle.project.proofs.Acceptance.{no_cause_exactly}
 use Rattle.report.specs.declared.ProjectAnswer.TheVariants.{Reported}
 use Rattle.report.specs.Report.{numbers_of, all_numbers, no_line, total_of, report_numbers, coefficients_in, lines_in, report_after}
 use Rattle.report.specs.Demand.{line_at, site_at, ReportsProject}

@@ -5,12 +5,12 @@ use Rattle.std.proofs.Math.Path.{refl, sym}
 use Rattle.std.proofs.Common.{ap, ◌∙◌, ⊎_elim, arith}
 use borrow.Author.Tests.{le-leb, lt-leb, leb-true}
 use Rattle.laws.specs.Lent.{laid_over}
-use Rattle.site.specs.RecordCauses.{cause_not_zero}
+use Rattle.site.proofs.RecordCauses.{cause_not_zero}
 use Rattle.header.specs.Header.{count_in}
-use Rattle.header.specs.HeaderLaws.{header_not_zero}
+use Rattle.header.proofs.HeaderLaws.{header_not_zero}
 use Rattle.project.specs.Causes.{report_length, NoCause, FirstCause, in_bytes, in_report, in_header, in_record, in_rest}
-use Rattle.project.specs.Scan.{refused_exactly, accepted_exactly}
-use Rattle.project.specs.Acceptance.{no_cause_exactly, FirstFound, first_or_none}
+use Rattle.project.proofs.Scan.{refused_exactly, accepted_exactly}
+use Rattle.project.proofs.Acceptance.{no_cause_exactly, FirstFound, first_or_none}
 use Rattle.project.specs.declared.ScanAnswer.TheVariants as scan
 use Rattle.project.specs.File.{scan_file}
 use Rattle.report.specs.declared.ProjectAnswer.TheVariants.{Reported, Refused}

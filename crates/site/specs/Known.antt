@@ -64,7 +64,7 @@ unfolding quarry entries_of any_field words fields_number fields_values later_re
 quarry_read edition kept = (rw kept, record { traffic = refl; second = refl; third = refl; fourth = refl; length = refl })
 
 -- and a 3ST over two years: 3,000 and 3,500 vehicles a day on its major road, 400 and 450 on its minor road
-pub turn_off : List ℕ
+unfoldable pub turn_off : List ℕ
 turn_off = 0x01 ∷ 0x80 ∷ 0x03 ∷ 0x0B ∷ 0xB8 ∷ 0x0D ∷ 0xAC ∷ 0x01 ∷ 0x90 ∷ 0x01 ∷ 0xC2 ∷ []
 
 pub record TurnOffRead (site : Site) : Type 0 where
@@ -89,7 +89,7 @@ unfolding quarry entries_of any_field words fields_number later_allowed record_n
 quarry_short edition kept = rw kept
 
 -- document 02, request 6: "Bit 6 of a crossing gets 6 in edition 2": a 3ST with two quadrants of limited sight, and without them
-pub hidden : List ℕ
+unfoldable pub hidden : List ℕ
 hidden = 0x01 ∷ 0x00 ∷ 0x43 ∷ 0x0B ∷ 0xB8 ∷ 0x01 ∷ 0x90 ∷ 0x00 ∷ 0x02 ∷ []
 
 pub record SightRead : Type 0 where
@@ -98,10 +98,6 @@ pub record SightRead : Type 0 where
   pub lacked : refusal_of 2 5 hidden ≡ 6
   pub default_first : (site_in 1 2 turn_off).limited_sight ≡ Number 0
   pub absent_second : (site_in 2 2 turn_off).limited_sight ≡ Absent
-
-pub sight_read : SightRead
-unfolding hidden turn_off entries_of any_field words fields_number fields_values later_read later_allowed record_number refusal_of read_site
-sight_read = record { first = refl; quadrants = refl; lacked = refl; default_first = refl; absent_second = refl }
 
 -- "3 now means neither 1 nor 2", and is tried before the years
 pub edition_three : refusal_of 3 0 quarry ≡ 3

@@ -25,6 +25,5 @@ pub mod PlaceLaws
 pub mod FieldsRead
 pub mod RecordCauses
 pub mod Theorems
-pub mod Written
 pub mod Known
 pub mod Promises

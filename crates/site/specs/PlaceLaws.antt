@@ -14,7 +14,7 @@ use Rattle.laws.specs.Truth.{and_left, and_right, or_left}
 use Rattle.site.specs.LaterLaws.{gathered_first, gathered_second, gathered_rest}
 use Rattle.site.specs.Accepted.{MapPasses}
 use Rattle.site.specs.BitLaws.{later_told_lem, minor_told, word_at}
-use Rattle.site.specs.Curve.{map_matched, misses_by_bits}
+use Rattle.site.specs.Curve.{map_matched}
 
 -- "Bits 0 and 1 always stand"
 pub record BothStand (map : ℕ) : Type 0 where
@@ -29,11 +29,6 @@ matched_both zero map e =
     }
 matched_both (suc kind) map e =
     record { zeroth = eqb-true (map % 2) 1 (and_left (bit_at 0 map) _ e); first = eqb-true (map / 2 % 2) 1 (and_right (bit_at 0 map) _ e) }
-
-pub passes_both : (edition years : ℕ) (s : List ℕ) → MapPasses edition years s → BothStand (field_map_in s)
-passes_both edition years s p =
-    let m = or_left (misses (rules_in edition s) (field_map_in s)) _ p.miss in
-    matched_both (kind_in s) (field_map_in s) (not-false (map_matched (kind_in s) (field_map_in s)) (sym (misses_by_bits edition (kind_in s) (field_map_in s) p.head.known) ∙ m))
 
 -- one number each: the bits that stand
 below_ones : (b map : ℕ) → numbers_below (λ c. 1) b map ≡ standing b map
@@ -54,35 +49,6 @@ module _ (kind later map : ℕ) (both : BothStand map) where
   pub two_stand : (b : ℕ) → 2 ≤ standing (suc (suc b)) map
   unfolding standing
   two_stand b = omega (arith, both.zeroth, both.first)
-
--- THE NUMBER OF A BIT among the gathered fields is that of its place
-module _ (years : ℕ) (s : List ℕ) (both : BothStand (field_map_in s)) (between : 4 + 2 * later_in years s + 2 * later_minor_in years s ≤ length (drop 3 s)) where
-  pub number_of : (b : ℕ) → word_at b (field_map_in s) (fields_in years s) ≡ number_at years b s
-  unfolding numbers_below standing
-  number_of zero = gathered_first (later_in years s) (later_minor_in years s) (drop 3 s) between
-  number_of (suc zero) =
-      let n = later_in years s in
-      let one = below_one (kind_in s) (later_told years s) (field_map_in s) both in
-      let e : 2 * (field_map_in s % 2 + 0) ≡ 2 = omega (arith, both.zeroth) in
-      let f : place_of years 1 s + 2 * 0 ≡ 3 + (2 + 2 * n) = omega (arith, one, later_told_lem years s) in
-      rw e (gathered_second n (later_minor_in years s) (drop 3 s) between ∙ ap word (drop-drop (2 + 2 * n) 3 s ∙ ap (λ (k : ℕ). drop k s) (sym f)))
-  number_of (suc (suc b)) =
-      let told = later_told years s in
-      let two = two_stand (kind_in s) told (field_map_in s) both b in
-      let more = below_more (kind_in s) told (field_map_in s) both b in
-      at (2 * standing (suc (suc b)) (field_map_in s)) (omega arith) (omega (arith, more, later_told_lem years s, minor_told years s))
-    where
-      at : (p : ℕ) → 4 ≤ p → place_of years (suc (suc b)) s + 2 * 0 ≡ 3 + (p + (2 * later_in years s + 2 * later_minor_in years s))
-          → word (drop p (fields_in years s)) ≡ number_at years (suc (suc b)) s
-      at (suc (suc (suc (suc p)))) h e =
-          let f : suc (suc (suc (suc p))) ≡ 4 + p = omega arith in
-          let g : 4 + p + (2 * later_in years s + 2 * later_minor_in years s) ≡ suc (suc (suc (suc p))) + (2 * later_in years s + 2 * later_minor_in years s) = omega arith in
-          ap word (ap (λ (k : ℕ). drop k (fields_in years s)) f ∙ gathered_rest (later_in years s) (later_minor_in years s) (drop 3 s) between p
-          ∙ drop-drop (4 + p + (2 * later_in years s + 2 * later_minor_in years s)) 3 s ∙ ap (λ (k : ℕ). drop k s) (ap (λ (k : ℕ). 3 + k) g ∙ sym e))
-      at zero h e = absurd (omega arith)
-      at (suc zero) h e = absurd (omega arith)
-      at (suc (suc zero)) h e = absurd (omega arith)
-      at (suc (suc (suc zero))) h e = absurd (omega arith)
 
 -- the later values of the two first bits
 pub later_of : (years : ℕ) (s : List ℕ) (i : ℕ) → word (drop (2 * i) (later_at s)) ≡ value_at years 0 (suc i) s

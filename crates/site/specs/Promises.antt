@@ -14,13 +14,11 @@ use Rattle.site.specs.Record.{length_in, site_in, refusal_of, read_site}
 use Rattle.site.specs.Fields.{FieldsRead}
 use Rattle.site.specs.Writing.{record_of, sound_site, sound, Valid, measure_of, write_refusal, measure_refusal, write_answer, write_into}
 use Rattle.site.specs.Accepted.{number_of_answer, number_read}
-use Rattle.site.specs.ReadWrite.{read_valid}
-use Rattle.site.specs.FieldsRead.{fields_read}
-use Rattle.site.specs.RecordCauses.{RecordCause, refused_by_cause}
-use Rattle.site.specs.Theorems.{RecordLength, read_length}
+use Rattle.site.specs.RecordCauses.{RecordCause}
+use Rattle.site.specs.Theorems.{RecordLength}
 
 -- the value of an answer by a number: a refusal's is 0
-value_of_answer : {A : Type 0} (value_of : A → ℕ) (number n : ℕ) (success refusal : A) → value_of success ≡ n → value_of refusal ≡ 0
+pub value_of_answer : {A : Type 0} (value_of : A → ℕ) (number n : ℕ) (success refusal : A) → value_of success ≡ n → value_of refusal ≡ 0
     → value_of (cond (eqb number 0) success refusal) ≡ beside number n
 value_of_answer value_of number n success refusal s r = by (eqb number 0)
   where
@@ -37,24 +35,6 @@ pub record ReadsSite (edition years : ℕ) (part : List ℕ) (answer : SiteAnswe
   pub bounds : (site : Site) (n : ℕ) → answer ≡ Read site n → RecordLength part n
   pub fields : (site : Site) (n : ℕ) → answer ≡ Read site n → FieldsRead edition years part site n
   pub cause : (number : ℕ) → answer ≡ Refused number → RecordCause edition years part number
-
-value_read : (edition years : ℕ) (part : List ℕ) → read_value (read_site edition years part) ≡ beside (refusal_of edition years part) (length_in edition years part)
-unfolding read_site
-value_read edition years part =
-    value_of_answer read_value (refusal_of edition years part) (length_in edition years part) (Read (site_in edition years part) (length_in edition years part))
-    (Refused (refusal_of edition years part)) refl refl
-
-pub reads_site : (edition years : ℕ) (part : List ℕ) (answer : SiteAnswer) → answer ≡ read_site edition years part → ReadsSite edition years part answer
-reads_site edition years part answer e =
-    record {
-      answer_is = e;
-      number_is = ap read_number e ∙ number_read edition years part;
-      value_is = ap read_value e ∙ value_read edition years part;
-      valid = λ site n q. read_valid edition years part site n (sym e ∙ q);
-      bounds = λ site n q. read_length edition years part site n (sym e ∙ q);
-      fields = λ site n q. fields_read edition years part site n (sym e ∙ q);
-      cause = λ number q. (refused_by_cause edition years part number).0 (sym e ∙ q);
-    }
 
 -- a site measured: its answer, and document 01's number and value for it
 pub record MeasuresSite (edition years : ℕ) (site : Site) (answer : Measure) : Type 0 where

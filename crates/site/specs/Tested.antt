@@ -23,30 +23,6 @@ by_kind P segment three_leg_stop four_leg_stop signal (suc (suc zero)) h = four_
 by_kind P segment three_leg_stop four_leg_stop signal (suc (suc (suc zero))) h = signal
 by_kind P segment three_leg_stop four_leg_stop signal (suc (suc (suc (suc kind)))) h = absurd (omega arith)
 
--- 1 and 2 are the editions
-pub unknown_neither : (edition : ℕ) → edition_known edition ≡ false → (edition ≡ 1 → ⊥) × (edition ≡ 2 → ⊥)
-unknown_neither edition e = (λ one. true≢false (rw one at e), λ two. true≢false (rw two at e))
-
-pub neither_unknown : (edition : ℕ) → (edition ≡ 1 → ⊥) → (edition ≡ 2 → ⊥) → edition_known edition ≡ false
-neither_unknown zero one two = refl
-neither_unknown (suc zero) one two = absurd (one refl)
-neither_unknown (suc (suc zero)) one two = absurd (two refl)
-neither_unknown (suc (suc (suc edition))) one two =
-    let more : 2 < suc (suc (suc edition)) = omega arith in rw (lt-leb _ _ more) (and-false (leb 1 (suc (suc (suc edition)))))
-
-pub known_either : (edition : ℕ) → (edition_known edition ≡ true) ↔ ((edition ≡ 1) ⊎ (edition ≡ 2))
-known_either edition = (either edition, known)
-  where
-    either : (edition : ℕ) → edition_known edition ≡ true → (edition ≡ 1) ⊎ (edition ≡ 2)
-    either zero e = not_both _ e refl
-    either (suc zero) e = inl refl
-    either (suc (suc zero)) e = inr refl
-    either (suc (suc (suc edition))) e = not_both _ e (neither_unknown (suc (suc (suc edition))) (λ one. omega arith) (λ two. omega arith))
-
-    known : (edition ≡ 1) ⊎ (edition ≡ 2) → edition_known edition ≡ true
-    known (inl one) = rw one
-    known (inr two) = rw two
-
 -- 1 to 10 are the years
 pub years_exactly : (years : ℕ) → (years_known years ≡ true) ↔ ((1 ≤ years) × (years ≤ 10))
 years_exactly years = (

@@ -23,10 +23,10 @@ use Rattle.site.specs.Writing.{slots_of, rules_held, all_fit, map_of, two_bytes,
 use Rattle.site.specs.Writing.{sound, Valid, measure_of}
 use Rattle.site.specs.Writing.{write_refusal, write_answer, write_into}
 use Rattle.site.specs.Tested.{bit_count, tested_rules}
-use Rattle.site.specs.WriteRead.{first_field, second_field, other_fields, bytes_parts}
+use Rattle.site.proofs.WriteRead.{first_field, second_field, other_fields, bytes_parts}
 use Rattle.site.specs.LaterLaws.{later_read_back}
-use Rattle.site.specs.Theorems.{ten_exactly}
-use Rattle.site.specs.Written.{length_answered, record_written}
+use Rattle.site.proofs.Theorems.{ten_exactly}
+use Rattle.site.proofs.Written.{length_answered, record_written}
 use Rattle.site.specs.Promises.{MeasuresSite, measures_site, WritesSite, writes_site}
 
 -- an edition or years outside their limits, a kind above the last, or later years that are not right are outside their range

@@ -2,3 +2,7 @@
 pub mod Lending
 pub mod NumberSteps
 pub mod LineSteps
+pub mod Coding
+pub mod FileRoundTrips
+pub mod Given
+pub mod RoundTrips

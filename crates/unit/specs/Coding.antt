@@ -21,11 +21,6 @@ use Rattle.site.specs.Ranges.{tests, valid_kind}
 use Rattle.site.specs.LaterLaws.{firsts}
 use Rattle.unit.specs.SiteNumbers.{all_slots, site_of_all, all_count, code, read_values, slot_from, kind_from, slot_numbers, site_from, site_numbers}
 
--- THE LAW: the code of a slot that two bytes can hold is read as that slot
-pub code_read : (slot : Slot) → ((value : ℕ) → slot ≡ Number value → value < 65536) → slot_from (code slot) ≡ slot
-code_read Absent small = refl
-code_read (Number value) small = rw (lt-ltb value 65536 (small value refl))
-
 -- and a number up to 65,536 is the code of the slot that it is read as
 pub code_again : (number : ℕ) → number ≤ 65536 → code (slot_from number) ≡ number
 code_again number h = by (dec_lt number 65536)
@@ -39,17 +34,9 @@ pub too_large : (number : ℕ) → 65536 < number → slot_from number ≡ Numbe
 too_large number h = rw (le-ltb number 65536 (omega arith), ne_eqb number 65536 (λ e. omega arith))
 
 -- a slot that holds no number above 65,534, which a number that is no code stands for
-abbrev low : Slot → Bool
+abbrev pub low : Slot → Bool
 low Absent = true
 low (Number value) = ltb value 65535
-
-slots_read : (slots : List Slot) → every low slots ≡ true → map slot_from (map code slots) ≡ slots
-unfolding every
-slots_read [] e = refl
-slots_read (slot ∷ slots) e = rw (code_read slot (small slot (and_left _ _ e)), slots_read slots (and_right (low slot) _ e))
-  where
-    small : (held : Slot) → low held ≡ true → (value : ℕ) → held ≡ Number value → value < 65536
-    small held l value q = omega (arith, ltb-true value 65535 (rw q at l))
 
 numbers_again : (numbers : List ℕ) → every low (map slot_from numbers) ≡ true → map code (map slot_from numbers) ≡ numbers
 unfolding every
@@ -90,7 +77,7 @@ unfolding every
 every_more [] more e f = f
 every_more (slot ∷ slots) more e f = rw (and_left (low slot) _ e) (every_more slots more (and_right (low slot) _ e) f)
 
-valid_low : (edition years : ℕ) (site : Site) → Valid edition years site → every low (all_slots site) ≡ true
+pub valid_low : (edition years : ℕ) (site : Site) → Valid edition years site → every low (all_slots site) ≡ true
 valid_low edition years site valid =
     let t = tests edition years site valid in
     let s = tested_rules edition site.kind (curve_held (entries_of edition site.kind) (slots_of site)) (valid_kind edition years site valid) in
@@ -121,15 +108,6 @@ parts_again a b c slots e =
 slots_of_all : (kind : ℕ) (slots : List Slot) → length slots ≡ all_count → all_slots (site_of_all kind slots) ≡ slots
 unfolding firsts
 slots_of_all kind slots e = parts_again slot_count later_years later_years slots e
-
--- THE SITE THAT A RUN STARTS WITH: kind and codes of a valid site, whatever follows them, are read as that site
-pub site_read : (edition years : ℕ) (site : Site) (rest : List ℕ) → Valid edition years site
-    → site_from (site.kind ∷ (map code (all_slots site) ++ rest)) ≡ site
-unfolding site_from
-site_read edition years site rest valid =
-    let kind = valid_kind edition years site valid in
-    rw (le-leb site_numbers (length (site.kind ∷ (map code (all_slots site) ++ rest))) (omega arith), lt-ltb site.kind 256 (omega arith))
-    (ap (site_of_all site.kind) (slots_read (all_slots site) (valid_low edition years site valid)))
 
 -- the numbers of a site that is outside no range are those that it was read from
 module _ (edition years : ℕ) (numbers : List ℕ) (within : sound edition years (site_from numbers) ≡ true) where

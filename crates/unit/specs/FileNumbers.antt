@@ -8,7 +8,8 @@ use Rattle.project_writer.specs.declared.course.FileAnswer.{FileAnswer}
 use Rattle.project_writer.specs.declared.course.FileAnswer.TheVariants.{Written, EditionUnknown, OutsideLimits, OutsideRange, TooShort}
 use Rattle.project_writer.specs.ProjectFile.{file_answer, file_number, file_value, buffer_after}
 use Rattle.project_writer.specs.Causes.{FileCause}
-use Rattle.project_writer.specs.Promise.{WritesProject, writes_project}
+use Rattle.project_writer.specs.Promise.{WritesProject}
+use Rattle.project_writer.proofs.Promise.{writes_project}
 use Rattle.unit.specs.SiteNumbers.{site_from, site_numbers}
 
 -- how many sites so many numbers are: 39 each, and a rest of fewer is a site too, of the kind 255 (`site_from`)

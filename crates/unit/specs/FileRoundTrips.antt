@@ -16,17 +16,17 @@ use Rattle.line.specs.Line.{site_line}
 use Rattle.project.specs.declared.ScanAnswer.TheVariants.{Accepted}
 use Rattle.project.specs.File.{scan_file, sites_in}
 use Rattle.project.specs.Causes.{report_length}
-use Rattle.project.specs.Acceptance.{no_cause_exactly}
+use Rattle.project.proofs.Acceptance.{no_cause_exactly}
 use Rattle.report.specs.declared.ProjectAnswer.TheVariants.{Reported}
 use Rattle.report.specs.Report.{project_answer, answer_number, answer_value, report_numbers, lines_in, report_after}
 use Rattle.project_writer.specs.declared.course.FileAnswer.TheVariants.{Written}
 use Rattle.project_writer.specs.ProjectFile.{file_answer, file_number, file_value, buffer_after}
 use Rattle.project_writer.specs.Promise.{WritesProject}
-use Rattle.project_writer.specs.Exactly.{writable_sound}
-use Rattle.project_writer.specs.Theorems.{buffer_accepted, accepted_writable, accepted_written}
+use Rattle.project_writer.proofs.Exactly.{writable_sound}
+use Rattle.project_writer.proofs.Theorems.{buffer_accepted, accepted_writable, accepted_written}
 use Rattle.unit.specs.ProjectNumbers.{ReadsProject}
 use Rattle.unit.specs.FileNumbers.{sites_given, WritesFile, zero_filed}
-use Rattle.unit.specs.Given.{sites_run, given_again}
+use Rattle.unit.specs.Given.{sites_run}
 
 -- the lines of a header's values and a list of sites
 abbrev pub lines_of : Header → List Site → List Line
@@ -79,24 +79,3 @@ pub record FileWrittenBack (file before afterwards : List ℕ) (value number : �
   pub number_is : number ≡ 0
   pub value_is : value ≡ length file
   pub buffer_is : afterwards ≡ file ++ drop (length file) before
-
-module _ {file run report : List ℕ} {count : ℕ} (r : ReadsProject file run report count 0) where
-  accepted : scan_file file ≡ Accepted (count_in file)
-  accepted = ((no_cause_exactly file (length run) (count_in file)).1 ((r.reported refl).no_cause, refl)).0
-
-  pub read_file_written : Bytes file → {numbers before afterwards : List ℕ} {value number : ℕ} → sites_given numbers ≡ sites_in file
-      → length file ≤ length before → WritesFile (header_in file) numbers before afterwards value number
-      → FileWrittenBack file before afterwards value number
-  read_file_written bytes {numbers} {before} given space w =
-      let back = accepted_written file bytes (count_in file) before accepted space in
-      let answer : file_answer (header_in file) (sites_given numbers) (length before) ≡ Written (length file) = rw given back.0 in
-      let left : buffer_after (header_in file) (sites_given numbers) before ≡ file ++ drop (length file) before = rw given back.1 in
-      record {
-        number_is = w.number_is ∙ ap file_number answer;
-        value_is = w.value_is ∙ ap file_value answer;
-        buffer_is = w.buffer_is ∙ left;
-      }
-
-  -- and there are numbers that give its sites
-  pub file_given : sites_given (sites_run (sites_in file)) ≡ sites_in file
-  file_given = given_again _ _ (sites_in file) (writable_sound (header_in file) (sites_in file) (accepted_writable file (count_in file) accepted))

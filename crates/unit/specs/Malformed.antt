@@ -8,7 +8,7 @@ use native.Mathlib.Omega.{arith, by_contra}
 use borrow.Author.Tests.{le-leb}
 use Rattle.site.specs.declared.values.Site.{Site}
 use Rattle.site.specs.Rules.{edition_known, years_known}
-use Rattle.site.specs.Tested.{neither_unknown}
+use Rattle.site.proofs.Tested.{neither_unknown}
 use Rattle.site.specs.Record.{refusal_of, read_site}
 use Rattle.site.specs.Writing.{sound_site, sound, write_refusal, Valid}
 use Rattle.laws.specs.Quotient.{quotient_up_lem}

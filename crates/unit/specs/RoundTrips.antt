@@ -12,12 +12,12 @@ use Rattle.site.specs.Answers.{write_number, write_length}
 use Rattle.site.specs.Record.{read_site}
 use Rattle.site.specs.Writing.{record_of, write_refusal, write_answer}
 use Rattle.site.specs.Accepted.{accept, accepted, number_read}
-use Rattle.site.specs.ReadWrite.{read_valid}
+use Rattle.site.proofs.ReadWrite.{read_valid}
 use Rattle.site.specs.Promises.{number_written}
-use Rattle.site.specs.Theorems.{zero_exactly, written_reads_back, read_writes_back}
+use Rattle.site.proofs.Theorems.{zero_exactly, written_reads_back, read_writes_back}
 use Rattle.unit.specs.Lent.{zero_lent}
 use Rattle.unit.specs.SiteNumbers.{read_values, site_from, site_numbers, answer_numbers, ReadsNumbers, WritesNumbers}
-use Rattle.unit.specs.Coding.{site_read, values_again}
+use Rattle.unit.specs.Coding.{values_again}
 
 -- a writer that does not refuse answers the record's length
 wrote : (edition years : ℕ) (site : Site) (room : ℕ) → write_refusal edition years site room ≡ 0
@@ -50,34 +50,8 @@ written_read edition years numbers buffer bytes length_before n w before afterwa
           ∙ append_snoc (take site_numbers numbers) n (drop answer_numbers before);
     }
 
--- the site of the numbers that a read leaves is the site that was read, and the number after them is its record's length
-pub handed_on : (edition years : ℕ) (part before values : List ℕ) → ReadsNumbers edition years part before values 0
-    → read_site edition years part ≡ Read (site_from values) (get_or values site_numbers 0)
-handed_on edition years part before values r =
-    by (accept edition years part (accepted edition years part (sym (number_read edition years part) ∙ (zero_lent r).0)))
-  where
-    by : {site : Site} {n : ℕ} → read_site edition years part ≡ Read site n
-        → read_site edition years part ≡ Read (site_from values) (get_or values site_numbers 0)
-    by {site} {n} read =
-        let left : values ≡ read_values (Read site n) ++ drop answer_numbers before = rw read at (zero_lent r).2 in
-        let again = site_read edition years site (n ∷ drop answer_numbers before) (read_valid edition years part site n read) in
-        read ∙ rw left (ap (λ (same : Site). Read same n) (sym again))
-
 -- WHAT IS READ IS WRITTEN BACK: with 0, as the bytes of the record that was read, the first n of the part
 pub record WrittenBack (part : List ℕ) (n : ℕ) (before afterwards : List ℕ) (written number : ℕ) : Type 0 where
   pub number_is : number ≡ 0
   pub buffer_is : afterwards ≡ take n part ++ drop n before
   pub length_is : written ≡ n
-
-pub read_written : (edition years : ℕ) (part run values : List ℕ) → Bytes part → ReadsNumbers edition years part run values 0
-    → (before afterwards : List ℕ) (length_before length_after number : ℕ) → get_or values site_numbers 0 ≤ length before
-    → WritesNumbers edition years values before afterwards length_before length_after number
-    → WrittenBack part (get_or values site_numbers 0) before afterwards length_after number
-read_written edition years part run values bytes r before afterwards length_before length_after number room w =
-    let back =
-    read_writes_back edition years part (site_from values) (get_or values site_numbers 0) before bytes (handed_on edition years part run values r) room in
-    record {
-      number_is = w.number_is ∙ ap write_number back.0;
-      buffer_is = w.buffer_is ∙ back.1;
-      length_is = w.length_is ∙ ap (λ (answer : WriteAnswer). write_length answer length_before) back.0;
-    }

@@ -3,7 +3,7 @@ use native.Mathlib.Omega.{arith}
 use borrow.Author.Rules.{rules}
 use Rattle.bracket.specs.Answer.{refused, given}
 use Rattle.exponential.specs.Exponential.{exponential_negative_answer}
-use Rattle.exponential.specs.ExponentialLaws.{exponential_negative_answers}
+use Rattle.exponential.proofs.ExponentialLaws.{exponential_negative_answers}
 use Rattle.exponential.proofs.exponential_negative.Statement.{statement}
 use Rattle.exponential.proofs.exponential_negative.Tie as tie
 

@@ -3,7 +3,8 @@ use borrow.Author.Rules.{rules}
 use native.Mathlib.Omega.{arith}
 use mathlib.Core.Path.{◌∙◌}
 use lib.ListN.{length-set}
-use Rattle.header.specs.HeaderLaws.{Admitted, admitted, edition_few}
+use Rattle.header.proofs.HeaderLaws.{Admitted, admitted}
+use Rattle.header.specs.HeaderLaws.{edition_few}
 use Rattle.header.proofs.put_header.Statement.{statement}
 use Rattle.header.proofs.put_header.Tie as tie
 

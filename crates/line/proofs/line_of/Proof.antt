@@ -3,8 +3,8 @@ use mathlib.Core.Path.{◌≡◌, sym, ◌∙◌}
 use Rattle.site.specs.Rules.{edition_known}
 use Rattle.site.specs.Writing.{sound}
 use Rattle.header.specs.Header.{in_limits}
-use Rattle.header.specs.HeaderLaws.{limits_of}
-use Rattle.line.specs.LineLaws.{edition_line}
+use Rattle.header.proofs.HeaderLaws.{limits_of}
+use Rattle.line.proofs.LineLaws.{edition_line}
 use Rattle.line.specs.AnswerLaws.{edition_unknown, header_outside, site_outside, all_inside}
 use borrow.Author.Rules.{rules}
 use Rattle.line.proofs.line_of.Statement.{statement}

@@ -2,7 +2,7 @@ use native.Mathlib.Omega.{arith}
 use borrow.Author.Rules.{rules}
 use Rattle.bracket.specs.Answer.{refused, given}
 use Rattle.logarithm.specs.Logarithm.{logarithm_answer}
-use Rattle.logarithm.specs.AnswerLaws.{logarithm_answers}
+use Rattle.logarithm.proofs.AnswerLaws.{logarithm_answers}
 use Rattle.logarithm.proofs.logarithm.Statement.{statement}
 use Rattle.logarithm.proofs.logarithm.Tie as tie
 

@@ -1,6 +1,6 @@
 use native.Mathlib.Omega.{arith}
 use borrow.Author.Rules.{rules}
-use Rattle.power.specs.AnswerLaws.{power_refused, power_given}
+use Rattle.power.proofs.AnswerLaws.{power_refused, power_given}
 use Rattle.power.proofs.power.Statement.{statement}
 use Rattle.power.proofs.power.Tie as tie
 

@@ -1,6 +1,6 @@
 use native.Mathlib.Omega.{arith}
 use borrow.Author.Rules.{rules}
-use Rattle.power.specs.AnswerLaws.{power_refused, power_given}
+use Rattle.power.proofs.AnswerLaws.{power_refused, power_given}
 use Rattle.power_by_ends.proofs.power_by_ends.Statement.{statement}
 use Rattle.power_by_ends.proofs.power_by_ends.Tie as tie
 

@@ -10,11 +10,11 @@ use Rattle.model.specs.Coefficients.{coefficients_of}
 use Rattle.model.specs.Predicted.{terms_of}
 use Rattle.model.specs.Parts.{term_at}
 use Rattle.model.specs.StatedWidths.{sites_counted}
-use Rattle.model.specs.TermLaws.{sites_counted_lem}
+use Rattle.model.proofs.TermLaws.{sites_counted_lem}
 use Rattle.prediction.specs.Pair.{plus}
 use Rattle.prediction.specs.Editions.{edition_rated}
 use Rattle.prediction.specs.Terms.{no_term, terms_sized, term_at_lem, sized_at}
-use Rattle.prediction.specs.Carrying.{Summed, none_summed, next_summed, all_summed, summed_small}
+use Rattle.prediction.proofs.Carrying.{Summed, none_summed, next_summed, all_summed, summed_small}
 use Rattle.prediction.proofs.predicted_with.Statement.{statement}
 use Rattle.prediction.proofs.predicted_with.Tie as tie
 

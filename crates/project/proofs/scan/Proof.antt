@@ -7,9 +7,9 @@ use Prim.Native.Nat.{ℕ, ◌≤◌}
 use lib.ListN.{length}
 use Rattle.header.specs.declared.Header.{Header}
 use Rattle.header.specs.Header.{header_length, header_number}
-use Rattle.header.specs.HeaderLaws.{header_accepted}
+use Rattle.header.proofs.HeaderLaws.{header_accepted}
 use Rattle.project.specs.File.{scan_file}
-use Rattle.project.specs.Promise.{scans_file}
+use Rattle.project.proofs.Promise.{scans_file}
 use Rattle.project.proofs.scan.Statement.{statement}
 use Rattle.project.proofs.scan.Tie as tie
 

@@ -16,7 +16,8 @@ use Rattle.site.specs.Promises.{ReadsSite}
 use Rattle.header.specs.Header.{header_length}
 use Rattle.project.specs.declared.ScanAnswer.{ScanAnswer}
 use Rattle.project.specs.declared.ScanAnswer.TheVariants.{Accepted, Refused}
-use Rattle.project.specs.File.{after_record, place_of_record, scan_records}
+use Rattle.project.specs.File.{after_record, scan_records}
+use Rattle.project.proofs.File.{place_of_record}
 use Rattle.project.proofs.scan_records.Statement.{statement}
 use Rattle.project.proofs.scan_records.Tie as tie
 

@@ -4,7 +4,8 @@ use Prim.Native.Nat.{◌≤◌, ◌-◌}
 use native.Mathlib.Omega.{arith}
 use lib.ListN.{length}
 use borrow.Author.Rules.{rules}
-use Rattle.project_writer.specs.Walks.{Walked, walked_none, walked_needs, walked_more, walked_all}
+use Rattle.project_writer.specs.Walks.{Walked, walked_none}
+use Rattle.project_writer.proofs.Walks.{walked_needs, walked_more, walked_all}
 use Rattle.project_writer.proofs.NoSite.{no_site}
 use Rattle.project_writer.proofs.walk.Statement.{statement}
 use Rattle.project_writer.proofs.walk.Tie as tie

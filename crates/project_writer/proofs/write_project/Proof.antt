@@ -5,7 +5,7 @@ use mathlib.Core.Bool.{true}
 use lib.ListN.{length}
 use Rattle.site.specs.Rules.{edition_known}
 use Rattle.header.specs.Header.{header_of, admits}
-use Rattle.project_writer.specs.WholeCourse.{edition_refused, limits_refused, measuring, beginning, writing, whole_course}
+use Rattle.project_writer.proofs.WholeCourse.{edition_refused, limits_refused, measuring, beginning, writing, whole_course}
 use Rattle.project_writer.proofs.write_project.Statement.{statement}
 use Rattle.project_writer.proofs.write_project.Tie as tie
 

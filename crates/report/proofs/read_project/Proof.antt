@@ -1,6 +1,6 @@
 -- Scan, space, then the fill.
 use mathlib.Core.Path.{sym, ◌∙◌}
-use Rattle.project.specs.SitesRead.{accepted_sites}
+use Rattle.project.proofs.SitesRead.{accepted_sites}
 use Rattle.report.specs.ReaderCauses.{space_suffices, refused_by_bytes, refused_by_room, reported}
 use borrow.Author.Rules.{rules}
 use Rattle.report.proofs.read_project.Statement.{statement}

@@ -4,7 +4,7 @@ use mathlib.Core.Path.{◌≡◌, refl, ap, sym, ◌∙◌}
 use mathlib.Core.Bool.{true}
 use Rattle.site.specs.Rules.{edition_known}
 use Rattle.site.specs.Record.{yearly_bit, field_map, refusal_of, read_site}
-use Rattle.site.specs.Promises.{reads_site}
+use Rattle.site.proofs.Promises.{reads_site}
 use borrow.Author.Rules.{rules}
 use Rattle.site_reader.proofs.read_site.Statement.{statement}
 use Rattle.site_reader.proofs.read_site.Tie as tie

@@ -1,6 +1,7 @@
 use mathlib.Core.Path.{sym, ◌∙◌}
 use borrow.Author.Rules.{rules}
-use Rattle.site.specs.Theorems.{measured_length, measured_outside}
+use Rattle.site.proofs.Theorems.{measured_length}
+use Rattle.site.specs.Theorems.{measured_outside}
 use Rattle.site_writer.proofs.is_sound.Statement.{statement}
 use Rattle.site_writer.proofs.is_sound.Tie as tie
 

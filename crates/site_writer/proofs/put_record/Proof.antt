@@ -7,7 +7,7 @@ use Prim.Native.Nat.{◌+◌, ◌≤◌}
 use lib.ListN.{length}
 use Rattle.site.specs.Ranges.{tests, valid_kind}
 use Rattle.site.specs.WriteRead.{map_small}
-use Rattle.site.specs.Theorems.{record_length}
+use Rattle.site.proofs.Theorems.{record_length}
 use Rattle.site_writer.proofs.WriteWhole.{Found, found, bits_few, spread_long, all_put}
 use Rattle.site_writer.proofs.put_record.Statement.{statement}
 use Rattle.site_writer.proofs.put_record.Tie as tie

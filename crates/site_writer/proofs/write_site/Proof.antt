@@ -6,7 +6,8 @@ use mathlib.Core.Bool.{true}
 use lib.ListN.{length}
 use Rattle.site.specs.Rules.{edition_known}
 use Rattle.site.specs.Writing.{record_of, Valid}
-use Rattle.site.specs.Theorems.{measured_length, measured_outside}
+use Rattle.site.proofs.Theorems.{measured_length}
+use Rattle.site.specs.Theorems.{measured_outside}
 use Rattle.site_writer.proofs.WriteWhole.{edition_refused, years_refused, outside, room_refused, all_written}
 use Rattle.site_writer.proofs.write_site.Statement.{statement}
 use Rattle.site_writer.proofs.write_site.Tie as tie

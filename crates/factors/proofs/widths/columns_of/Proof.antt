@@ -1,7 +1,7 @@
 use borrow.Author.Rules.{rules}
 use native.Mathlib.Omega.{arith}
 use mathlib.Core.Path.{sym}
-use Rattle.model.specs.Neighbours.{narrow, wide}
+use Rattle.model.proofs.Neighbours.{narrow, wide}
 use Rattle.factors.proofs.widths.columns_of.Statement.{statement}
 use Rattle.factors.proofs.widths.columns_of.Tie as tie
 

@@ -3,8 +3,9 @@ use mathlib.Core.Path.{◌≡◌, ap, ◌∙◌}
 use lib.Dec.{lit<, lit≤}
 use Prim.Native.Nat.{◌+◌, ◌*◌, ◌<◌}
 use Rattle.model.specs.Widths.{width_at, type_at, shoulder_value, type_value, shoulder_unit, of_related}
-use Rattle.model.specs.Neighbours.{columns_few}
-use Rattle.model.specs.FactorBounds.{MeansWithin, shoulder_value_within}
+use Rattle.model.proofs.Neighbours.{columns_few}
+use Rattle.model.specs.FactorBounds.{MeansWithin}
+use Rattle.model.proofs.FactorBounds.{shoulder_value_within}
 use Rattle.bracket.specs.Ratio.{coded}
 use Rattle.factors.specs.Neighbours.{twice_mean_lem}
 use Rattle.factors.proofs.widths.shoulder.Statement.{statement}

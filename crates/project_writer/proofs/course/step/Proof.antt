@@ -8,9 +8,10 @@ use lib.ListN.{length, length-drop}
 use Rattle.laws.specs.Walk.{part_from}
 use Rattle.laws.specs.Stores.{part_stored}
 use Rattle.site.specs.Writing.{record_of, Valid}
-use Rattle.site.specs.Theorems.{longest, record_length, measured_length, measured_outside}
+use Rattle.site.specs.Theorems.{longest, measured_outside}
+use Rattle.site.proofs.Theorems.{record_length, measured_length}
 use Rattle.header.specs.Header.{header_length, most_sites}
-use Rattle.project_writer.specs.Walks.{walks_valid}
+use Rattle.project_writer.proofs.Walks.{walks_valid}
 use Rattle.project_writer.proofs.course.step.Statement.{statement}
 use Rattle.project_writer.proofs.course.step.Tie as tie
 

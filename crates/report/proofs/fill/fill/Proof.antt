@@ -1,6 +1,6 @@
 -- What the header's reads answer is what the file's bytes say.
-use Rattle.project.specs.SitesRead.{accepted_sites}
-use Rattle.report.specs.Accepted.{fillable, filled_meets}
+use Rattle.project.proofs.SitesRead.{accepted_sites}
+use Rattle.report.proofs.Accepted.{fillable, filled_meets}
 use borrow.Author.Rules.{rules}
 use Rattle.report.proofs.fill.fill.Statement.{statement}
 use Rattle.report.proofs.fill.fill.Tie as tie

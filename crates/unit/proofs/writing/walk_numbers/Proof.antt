@@ -5,7 +5,8 @@ use mathlib.Core.Path.{◌≡◌, refl, sym, ◌∙◌}
 use Prim.Native.Nat.{◌*◌, ◌<◌, ◌≤◌, ◌-◌}
 use lib.ListN.{length, get_or}
 use Rattle.laws.specs.Walk.{part_from}
-use Rattle.project_writer.specs.Walks.{Walked, walked_none, walked_needs, walked_more, walked_all}
+use Rattle.project_writer.specs.Walks.{Walked, walked_none}
+use Rattle.project_writer.proofs.Walks.{walked_needs, walked_more, walked_all}
 use Rattle.unit.specs.SiteNumbers.{site_numbers}
 use Rattle.unit.specs.FileNumbers.{site_count, sites_given}
 use Rattle.unit.specs.Given.{given_count, given_at, given_within}

@@ -2,18 +2,20 @@
 use Rattle.std.specs.Prelude.{◌≡◌, refl, Bool, true, false, List, ◌↔◌, ◌⊎◌, ℕ, ◌≤◌, length, drop, ltb}
 use Rattle.std.proofs.Common.{ap, sym, subst, ◌∙◌, inl, inr, arith, ltb-true, ltb-false}
 use Rattle.laws.specs.Truth.{not_both}
-use Rattle.site.specs.Tested.{neither_unknown}
+use Rattle.site.proofs.Tested.{neither_unknown}
 use Rattle.site.specs.RecordCauses.{RecordCause, edition_neither, years_outside, map_past, kind_above, bit_lacked, bit_missing, field_past, field_outside}
-use Rattle.site.specs.RecordCauses.{field_spelled, cause_number, cause_not_zero}
+use Rattle.site.specs.RecordCauses.{field_spelled}
+use Rattle.site.proofs.RecordCauses.{cause_number, cause_not_zero}
 use Rattle.header.specs.Header.{edition_in, count_in}
 use Rattle.header.specs.Causes.{HeaderCause, header_cut, header_edition, header_limits, HeaderAccepted}
-use Rattle.header.specs.HeaderLaws.{accepted_edition}
+use Rattle.header.proofs.HeaderLaws.{accepted_edition}
 use Rattle.project.specs.declared.ScanAnswer.{ScanAnswer}
 use Rattle.project.specs.declared.ScanAnswer.TheVariants.{Accepted, Refused}
 use Rattle.project.specs.File.{years_in, scan_file}
 use Rattle.project.specs.Causes.{Starts, RecordNumber, RunsPast, header_past, record_past, report_length, NoCause}
 use Rattle.project.specs.Causes.{FirstInBytes, in_header, in_record, in_rest, Whole, FirstCause, in_bytes, in_report}
-use Rattle.project.specs.Scan.{years_known_lem, same_place, earlier, refused_exactly, accepted_exactly}
+use Rattle.project.specs.Scan.{years_known_lem}
+use Rattle.project.proofs.Scan.{same_place, earlier, refused_exactly, accepted_exactly}
 
 counted : (s : List ℕ) (n : ℕ) → Whole s n → Whole s (count_in s)
 counted s n w =

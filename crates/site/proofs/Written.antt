@@ -7,7 +7,7 @@ use Rattle.laws.specs.Stores.{sets_laid}
 use Rattle.site.specs.declared.values.Site.{Site}
 use Rattle.site.specs.declared.values.WriteAnswer.TheVariants.{Written}
 use Rattle.site.specs.Writing.{record_of, Valid, write_answer, write_into}
-use Rattle.site.specs.Theorems.{zero_exactly}
+use Rattle.site.proofs.Theorems.{zero_exactly}
 
 module _ {edition years : ℕ} {site : Site} (before : List ℕ) (v : Valid edition years site) (fits : length (record_of edition site) ≤ length before) where
   pub length_answered : write_answer edition years site (length before) ≡ Written (length (record_of edition site))

@@ -6,17 +6,17 @@ use Rattle.estimate.specs.Fraction.{Fraction, fraction, ◌÷◌, millionths, �
 use Rattle.site.specs.declared.values.Site.{Site}
 use Rattle.site.specs.Writing.{Valid}
 use Rattle.header.specs.Header.{edition_in, header_in}
-use Rattle.header.specs.HeaderLaws.{limits_of}
+use Rattle.header.proofs.HeaderLaws.{limits_of}
 use Rattle.prediction.specs.Editions.{edition_rated}
 use Rattle.prediction.specs.Positive.{predicted_positive}
 use Rattle.project.specs.declared.ScanAnswer.TheVariants.{Accepted}
 use Rattle.project.specs.File.{years_in, scan_file, sites_in}
-use Rattle.project.specs.SitesRead.{accepted_sites}
+use Rattle.project.proofs.SitesRead.{accepted_sites}
 use Rattle.report.specs.Report.{coefficients_in}
 use Rattle.report.specs.Demand.{Demand, site_at}
 use Rattle.report.specs.DemandLaws.{AllValid}
 use Rattle.report.specs.Accepted.{all_valid}
-use Rattle.report.specs.NeededParts.{site_predicted_high_too_low}
+use Rattle.report.proofs.NeededParts.{site_predicted_high_too_low}
 
 valid_at : (edition years : ℕ) (sites : List Site) → AllValid edition years sites → (i : ℕ) → i < length sites → Valid edition years (site_at sites i)
 valid_at edition years [] v i h = absurd (omega arith)

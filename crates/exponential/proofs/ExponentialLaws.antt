@@ -3,7 +3,8 @@ use Rattle.std.specs.Prelude.{ℕ, ◌≤◌, ◌<◌, leb}
 use Rattle.std.proofs.Common.{lt_of_not-le, arith, leb→le, le-leb}
 use Rattle.estimate.specs.Fraction.{fraction, ten_thousandths}
 use Rattle.estimate.specs.Exponential.{exp_under, exp_over, exp_neg_under, exp_neg_over, exp_under_positive, exp_over_positive}
-use Rattle.estimate.specs.ExponentialBounds.{within_tail_law, exp_low_stands, exp_high_stands}
+use Rattle.estimate.proofs.ExponentialBounds.{within_tail_law, exp_low_stands}
+use Rattle.estimate.specs.ExponentialBounds.{exp_high_stands}
 use Rattle.bracket.specs.Bracket.{Stands, RelativeWidth, exponential_width}
 use Rattle.bracket.specs.declared.Bracket.{Bracket}
 use Rattle.bracket.specs.Answer.{Answers, answer_stands}
@@ -11,7 +12,8 @@ use Rattle.bracket.specs.Reciprocal.{reciprocal_stands, reciprocal_width}
 use Rattle.exponential.specs.Scale.{scale_positive, scaled}
 use Rattle.exponential.specs.Exponential.{exp_bracket, exp_neg_bracket, exponential_limit, exponential_answer, exponential_negative_answer}
 use Rattle.exponential.specs.Exponential.{OfExponential, OfExponentialNegative, ExponentialStands, ExponentialNegativeStands}
-use Rattle.exponential.specs.ExponentialEnds.{exp_low_at_most, exp_high_at_least, exp_ends_in_order, exp_ends_close, exp_low_least}
+use Rattle.exponential.specs.ExponentialEnds.{exp_low_at_most}
+use Rattle.exponential.proofs.ExponentialEnds.{exp_high_at_least, exp_ends_in_order, exp_ends_close, exp_low_least}
 
 module _ (x : ℕ) (within : x ≤ exponential_limit) where
   exp_stands : Stands (exp_bracket x) (λ d. exp_under d (ten_thousandths x)) (λ d. exp_over d (ten_thousandths x))

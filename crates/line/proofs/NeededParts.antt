@@ -12,7 +12,7 @@ use Rattle.model.specs.Coefficients.{Coefficients, coefficients_of}
 use Rattle.site.specs.Numbers.{number}
 use Rattle.site.specs.Yearly.{yearly}
 use Rattle.model.specs.StatedWidths.{sites_counted, observed_weight}
-use Rattle.model.specs.CrashCounts.{weight_in_edition_one, weight_at_crossing, weight_on_segment}
+use Rattle.model.proofs.CrashCounts.{weight_in_edition_one, weight_at_crossing, weight_on_segment}
 use Rattle.model.specs.Predicted.{predicted_under, predicted_over}
 use Rattle.model.specs.Expected.{expected_under, expected_over}
 use Rattle.line.specs.declared.Line.{Line}

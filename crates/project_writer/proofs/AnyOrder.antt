@@ -2,7 +2,7 @@
 use Rattle.std.specs.Prelude.{ℕ, ◌≤◌, ◌≡◌, refl, List, length, get_or}
 use Rattle.std.proofs.Common.{sym, ap, ◌∙◌, arith}
 use Rattle.laws.specs.Reordering.{Reordering}
-use Rattle.laws.specs.ReorderingLaws.{each_is_image}
+use Rattle.laws.proofs.ReorderingLaws.{each_is_image}
 use Rattle.site.specs.declared.values.Site.{Site}
 use Rattle.header.specs.declared.Header.{Header}
 use Rattle.header.specs.Header.{header_in}
@@ -11,8 +11,9 @@ use Rattle.project.specs.File.{scan_file, sites_in}
 use Rattle.project_writer.specs.declared.course.FileAnswer.TheVariants.{Written}
 use Rattle.project_writer.specs.ProjectFile.{file_of, file_answer}
 use Rattle.project_writer.specs.Causes.{ValidBelow, Writable}
-use Rattle.project_writer.specs.Exactly.{answer_exactly}
-use Rattle.project_writer.specs.Theorems.{ReadsBack, written_accepted, accepted_writable}
+use Rattle.project_writer.proofs.Exactly.{answer_exactly}
+use Rattle.project_writer.specs.Theorems.{ReadsBack}
+use Rattle.project_writer.proofs.Theorems.{written_accepted, accepted_writable}
 
 module _ {sites others : List Site} {image : ℕ → ℕ} (r : Reordering sites others image) where
   valid_in_any_order : (edition years : ℕ) → ValidBelow edition years sites (length sites) → ValidBelow edition years others (length others)

@@ -8,7 +8,7 @@ use Rattle.std.proofs.Math.Dec.{lit<}
 use Rattle.estimate.specs.Fraction.{fraction}
 use Rattle.estimate.specs.WholePower.{pow_le_cancel}
 use Rattle.estimate.specs.Power.{power_under, power_over}
-use Rattle.estimate.specs.PowerLaws.{power_low_stands, power_high_stands, power_low_remainder, power_high_remainder, power_low_product, power_high_product}
+use Rattle.estimate.proofs.PowerLaws.{power_low_stands, power_high_stands, power_low_remainder, power_high_remainder, power_low_product, power_high_product}
 use Rattle.wide.specs.Scaling.{floor, ceiling}
 use Rattle.wide.specs.Rounding.{floor_le, ceiling_ge}
 use Rattle.bracket.specs.Bracket.{Stands, RelativeWidth, power_width}

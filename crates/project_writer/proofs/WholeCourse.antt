@@ -10,18 +10,21 @@ use Rattle.site.specs.declared.values.Site.{Site}
 use Rattle.site.specs.Rules.{edition_known}
 use Rattle.header.specs.declared.Header.{Header}
 use Rattle.header.specs.Header.{header_length, header_bytes, admits}
-use Rattle.header.specs.HeaderLaws.{admits_both}
+use Rattle.header.proofs.HeaderLaws.{admits_both}
 use Rattle.project_writer.specs.declared.course.FileAnswer.{FileAnswer}
 use Rattle.project_writer.specs.declared.course.FileAnswer.TheVariants.{Written, EditionUnknown, OutsideLimits, OutsideRange, TooShort}
 use Rattle.project_writer.specs.declared.course.Course.{Course}
 use Rattle.project_writer.specs.declared.course.Course.TheVariants.{Measured, Placed, Stopped}
 use Rattle.project_writer.specs.ProjectFile.{records_of, file_of, sound_sites, leaves, buffer_after}
 use Rattle.project_writer.specs.Course.{walk_course, walk_buffer, begun_course, begun_buffer, course_answer, Walks, Begins}
-use Rattle.project_writer.specs.Sound.{none_outside, first_outside}
+use Rattle.project_writer.specs.Sound.{none_outside}
+use Rattle.project_writer.proofs.Sound.{first_outside}
 use Rattle.project_writer.specs.Walks.{walk_stopped, walk_stopped_buffer, walk_sound, walk_outside, walk_measured_buffer}
 use Rattle.project_writer.specs.Walks.{walk_placed, walk_placed_buffer}
-use Rattle.project_writer.specs.Exactly.{FileTells, file_length, limits_kept, writable, writable_sound, answer_exactly}
-use Rattle.project_writer.specs.Promise.{WritesProject, writes_project}
+use Rattle.project_writer.specs.Exactly.{FileTells}
+use Rattle.project_writer.proofs.Exactly.{file_length, limits_kept, writable, writable_sound, answer_exactly}
+use Rattle.project_writer.specs.Promise.{WritesProject}
+use Rattle.project_writer.proofs.Promise.{writes_project}
 
 -- where the sites are measured: at the first outside its range, or after them all with the length of the file
 data MeasuredTo (edition years : ℕ) (sites : List Site) : Course → Type 0 where

@@ -1,0 +1,3 @@
+-- The laws of specs/ that nothing there cites.
+pub mod CarryLaws
+pub mod Pieces

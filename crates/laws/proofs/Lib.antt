@@ -1,0 +1,2 @@
+-- The laws of specs/ that nothing there cites.
+pub mod ReorderingLaws

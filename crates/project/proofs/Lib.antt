@@ -1,0 +1,7 @@
+-- The laws of specs/ that nothing there cites.
+pub mod Acceptance
+pub mod File
+pub mod Prefix
+pub mod Promise
+pub mod Scan
+pub mod SitesRead

@@ -1,0 +1,47 @@
+-- Laws of RoundTrips in specs/.
+use Rattle.std.specs.Prelude.{◌≡◌, refl, List, ◌∷◌, ◌++◌, ℕ, ◌≤◌, length, get_or, take, drop}
+use Rattle.std.proofs.Common.{ap, sym, ◌∙◌, le-leb}
+use Rattle.std.proofs.Math.Seq.{append_snoc}
+use Rattle.site.specs.declared.values.Site.{Site}
+use Rattle.site.specs.declared.values.SiteAnswer.TheVariants.{Read}
+use Rattle.site.specs.declared.values.WriteAnswer.{WriteAnswer}
+use Rattle.site.specs.declared.values.WriteAnswer.TheVariants.{Written}
+use Rattle.site.specs.Digits.{Bytes}
+use Rattle.site.specs.Answers.{write_number, write_length}
+use Rattle.site.specs.Record.{read_site}
+use Rattle.site.specs.Writing.{record_of, write_refusal, write_answer}
+use Rattle.site.specs.Accepted.{accept, accepted, number_read}
+use Rattle.site.proofs.ReadWrite.{read_valid}
+use Rattle.site.specs.Promises.{number_written}
+use Rattle.site.proofs.Theorems.{zero_exactly, written_reads_back, read_writes_back}
+use Rattle.unit.specs.Lent.{zero_lent}
+use Rattle.unit.specs.SiteNumbers.{read_values, site_from, site_numbers, answer_numbers, ReadsNumbers, WritesNumbers}
+use Rattle.unit.proofs.Coding.{site_read}
+use Rattle.unit.specs.Coding.{values_again}
+use Rattle.unit.specs.RoundTrips.{WrittenBack}
+
+-- the site of the numbers that a read leaves is the site that was read, and the number after them is its record's length
+pub handed_on : (edition years : ℕ) (part before values : List ℕ) → ReadsNumbers edition years part before values 0
+    → read_site edition years part ≡ Read (site_from values) (get_or values site_numbers 0)
+handed_on edition years part before values r =
+    by (accept edition years part (accepted edition years part (sym (number_read edition years part) ∙ (zero_lent r).0)))
+  where
+    by : {site : Site} {n : ℕ} → read_site edition years part ≡ Read site n
+        → read_site edition years part ≡ Read (site_from values) (get_or values site_numbers 0)
+    by {site} {n} read =
+        let left : values ≡ read_values (Read site n) ++ drop answer_numbers before = rw read at (zero_lent r).2 in
+        let again = site_read edition years site (n ∷ drop answer_numbers before) (read_valid edition years part site n read) in
+        read ∙ rw left (ap (λ (same : Site). Read same n) (sym again))
+
+pub read_written : (edition years : ℕ) (part run values : List ℕ) → Bytes part → ReadsNumbers edition years part run values 0
+    → (before afterwards : List ℕ) (length_before length_after number : ℕ) → get_or values site_numbers 0 ≤ length before
+    → WritesNumbers edition years values before afterwards length_before length_after number
+    → WrittenBack part (get_or values site_numbers 0) before afterwards length_after number
+read_written edition years part run values bytes r before afterwards length_before length_after number room w =
+    let back =
+    read_writes_back edition years part (site_from values) (get_or values site_numbers 0) before bytes (handed_on edition years part run values r) room in
+    record {
+      number_is = w.number_is ∙ ap write_number back.0;
+      buffer_is = w.buffer_is ∙ back.1;
+      length_is = w.length_is ∙ ap (λ (answer : WriteAnswer). write_length answer length_before) back.0;
+    }
