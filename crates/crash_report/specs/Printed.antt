@@ -9,7 +9,7 @@ use Rattle.site.specs.Theorems.{longest}
 use Rattle.site.proofs.Theorems.{read_length}
 use Rattle.project.specs.File.{years_in, scan_file}
 use Rattle.project.specs.Causes.{Starts, first, next, report_length}
-use Rattle.project.proofs.Scan.{accepted_exactly}
+use Rattle.project.proofs.ScanLaws.{accepted_exactly}
 use Rattle.project.proofs.SitesRead.{accepted_sites}
 use Rattle.project.specs.Prefix.{longest_file}
 use Rattle.project.proofs.Prefix.{scan_prefix}

@@ -14,7 +14,7 @@ use Rattle.model.specs.Access.{access_density, two_way_lane, passing}
 use Rattle.model.specs.Crossings.{left_turn, right_turn, sight}
 use Rattle.model.specs.Parts.{ExactFactor, Lane, Shoulder, Grade, SteepGrade, TwoWayLane, Passing, Curve, Superelevation}
 use Rattle.model.specs.Parts.{LeftTurn, RightTurn, Sight, exact_value}
-use Rattle.model.specs.FactorBounds.{Bounded, Capped, ExactSized, MeansWithin, by_test, cap_of, is_part, lane_value_within, means_within_lem, most, one_within, part_within, positive, related_most}
+use Rattle.model.specs.FactorBounds.{Bounded, Capped, ExactSized, MeansWithin, by_test, cap_of, is_part, lane_value_within, means_within_lem, one_within, part_within, related_most}
 
 -- by the cross product of two quotients
 quotient_within : (n d m e : ℕ) → 0 < d → 0 < e → 0 < n → n * e ≤ m * d → Capped (m ÷ e) (n ÷ d)

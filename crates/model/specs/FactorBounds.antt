@@ -1,5 +1,5 @@
 -- Each exact factor, over its valid range, is positive and at most a cap. A table's bounds are one computed test, and one law
-pub -- carries it to the entries.
+-- carries it to the entries.
 use Rattle.std.specs.Prelude.{ℕ, ◌+◌, ◌-◌, ◌*◌, ◌≤◌, ◌<◌, Bool, true, false, cond, ◌&&◌, List, [], ◌∷◌, ◌≡◌, refl, T, leb, ltb, eqb, get_or}
 use Rattle.std.proofs.Common.{ap, mul-pos, mul-le-mul, mul-le-mul_right, mul-le-mul_left, arith, ltb→lt, lit<, lit≤, leb-true}
 use Rattle.std.proofs.Math.Dec.{leb→le}
@@ -164,7 +164,7 @@ grade_by_test grade tested percent h =
     }
 
 -- a part of a whole: from 1 to `unit` of its units
-pub is_part : (unit part : ℕ) → Bool
+unfoldable pub is_part : (unit part : ℕ) → Bool
 is_part unit part = both (ltb 0 part) (leb part unit)
 
 pub part_within : (unit part : ℕ) → T (is_part unit part) → Capped (whole 1) (part ÷ unit)

@@ -15,7 +15,7 @@ use Rattle.project.specs.File.{years_in, scan_file}
 use Rattle.project.specs.Causes.{Starts, RecordNumber, RunsPast, header_past, record_past, report_length, NoCause}
 use Rattle.project.specs.Causes.{FirstInBytes, in_header, in_record, in_rest, Whole, FirstCause, in_bytes, in_report}
 use Rattle.project.specs.Scan.{years_known_lem}
-use Rattle.project.proofs.Scan.{same_place, earlier, refused_exactly, accepted_exactly}
+use Rattle.project.proofs.ScanLaws.{same_place, earlier, refused_exactly, accepted_exactly}
 
 counted : (s : List ℕ) (n : ℕ) → Whole s n → Whole s (count_in s)
 counted s n w =

@@ -3,5 +3,5 @@ pub mod Acceptance
 pub mod File
 pub mod Prefix
 pub mod Promise
-pub mod Scan
+pub mod ScanLaws
 pub mod SitesRead

@@ -5,7 +5,7 @@ use Rattle.project.specs.declared.ScanAnswer.{ScanAnswer}
 use Rattle.project.specs.declared.ScanAnswer.TheVariants.{Accepted, Refused}
 use Rattle.project.specs.File.{scan_file}
 use Rattle.project.specs.Causes.{FirstInBytes, Whole}
-use Rattle.project.proofs.Scan.{accepted_exactly, refused_exactly}
+use Rattle.project.proofs.ScanLaws.{accepted_exactly, refused_exactly}
 use Rattle.project.specs.Promise.{ScanTells, ScansFile}
 
 pub scans_file : (s : List ℕ) (answer : ScanAnswer) → answer ≡ scan_file s → ScansFile s answer

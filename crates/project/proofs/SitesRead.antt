@@ -18,7 +18,7 @@ use Rattle.header.proofs.HeaderLaws.{accepted_header, accepted_edition, accepted
 use Rattle.project.specs.declared.ScanAnswer.TheVariants.{Accepted}
 use Rattle.project.specs.File.{years_in, after_record, scan_records, scan_file, taken, sites_from, sites_in}
 use Rattle.project.specs.Scan.{scan_past_header}
-use Rattle.project.proofs.Scan.{accepted_exactly}
+use Rattle.project.proofs.ScanLaws.{accepted_exactly}
 use Rattle.project.specs.SitesRead.{AcceptedFile, ValidSites}
 
 valid_more : (edition years n : ℕ) (value : Site) (sites : List Site) → Valid edition years value → ValidSites edition years n sites

@@ -26,7 +26,7 @@ use Rattle.header.specs.HeaderBytes.{header_again}
 use Rattle.project.specs.declared.ScanAnswer.TheVariants.{Accepted, Refused}
 use Rattle.project.specs.File.{years_in, after_record, taken, scan_records, scan_file, sites_from, sites_in}
 use Rattle.project.specs.Scan.{scan_past_header}
-use Rattle.project.proofs.Scan.{accepted_exactly}
+use Rattle.project.proofs.ScanLaws.{accepted_exactly}
 use Rattle.project.proofs.SitesRead.{accepted_sites}
 use Rattle.project_writer.specs.declared.course.FileAnswer.{FileAnswer}
 use Rattle.project_writer.specs.declared.course.FileAnswer.TheVariants.{Written, EditionUnknown, OutsideLimits, OutsideRange, TooShort}

@@ -17,7 +17,7 @@ use Rattle.line.specs.Weighing.{line_small}
 use Rattle.project.specs.declared.ScanAnswer.TheVariants.{Accepted}
 use Rattle.project.specs.File.{years_in, scan_records, scan_file, sites_in}
 use Rattle.project.specs.Scan.{scan_past_header}
-use Rattle.project.proofs.Scan.{accepted_exactly}
+use Rattle.project.proofs.ScanLaws.{accepted_exactly}
 use Rattle.project.specs.SitesRead.{AcceptedFile}
 use Rattle.project.proofs.SitesRead.{accepted_sites}
 use Rattle.project.specs.Causes.{report_length}

@@ -18,7 +18,7 @@ use Rattle.model.specs.StatedWidths.{sites_counted}
 use Rattle.model.specs.CrashCounts.{sites_over, crashes_over}
 use Rattle.model.proofs.CrashCounts.{sites_over_lem, counted_at_most}
 use Rattle.model.proofs.TermLaws.{by_count}
-use Rattle.line.specs.NeededParts as line
+use Rattle.line.proofs.NeededParts as line
 use Rattle.project.specs.File.{years_in, sites_in}
 use Rattle.project.specs.SitesRead.{sites_years}
 use Rattle.report.specs.Report.{coefficients_in}

@@ -9,7 +9,7 @@ use Rattle.site.proofs.RecordCauses.{cause_not_zero}
 use Rattle.header.specs.Header.{count_in}
 use Rattle.header.proofs.HeaderLaws.{header_not_zero}
 use Rattle.project.specs.Causes.{report_length, NoCause, FirstCause, in_bytes, in_report, in_header, in_record, in_rest}
-use Rattle.project.proofs.Scan.{refused_exactly, accepted_exactly}
+use Rattle.project.proofs.ScanLaws.{refused_exactly, accepted_exactly}
 use Rattle.project.proofs.Acceptance.{no_cause_exactly, FirstFound, first_or_none}
 use Rattle.project.specs.declared.ScanAnswer.TheVariants as scan
 use Rattle.project.specs.File.{scan_file}
