@@ -19,7 +19,7 @@ use Rattle.site.specs.Tested.{top, top_low, every, allows_top, tested_rules}
 use Rattle.site.specs.Ranges.{tests, valid_kind}
 use Rattle.site.specs.LaterLaws.{firsts}
 use Rattle.unit.specs.SiteNumbers.{all_slots, site_of_all, all_count, code, read_values, slot_from, kind_from, slot_numbers, site_from, site_numbers}
-use Rattle.unit.specs.Coding.{low, valid, valid_low}
+use Rattle.unit.specs.Coding.{low, valid_low}
 
 -- THE LAW: the code of a slot that two bytes can hold is read as that slot
 pub code_read : (slot : Slot) → ((value : ℕ) → slot ≡ Number value → value < 65536) → slot_from (code slot) ≡ slot
