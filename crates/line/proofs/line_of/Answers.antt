@@ -15,16 +15,16 @@ returns-then-not-is_edition_known c =
 pub returns-then-not-is_in_limits : goal.returns-then-not-is_in_limits
 returns-then-not-is_in_limits c =
     let header = c.args.header in
-    let known = sym c.is_edition_known.ensures ∙ c.if-not-is_edition_known.false in
-    let told = header_outside (coefficients_of header.edition) header c.args.site known (sym c.is_in_limits.ensures ∙ c.if-not-is_in_limits.true) in
+    let edition = sym c.is_edition_known.ensures ∙ c.if-not-is_edition_known.false in
+    let told = header_outside (coefficients_of header.edition) header c.args.site edition (sym c.is_in_limits.ensures ∙ c.if-not-is_in_limits.true) in
     record { value = told.0; number = told.1.0; stands = told.1.1 }
 
 pub returns-then-not-is_sound : goal.returns-then-not-is_sound
 returns-then-not-is_sound c =
     let header = c.args.header in
     let known = sym c.is_edition_known.ensures ∙ c.if-not-is_edition_known.false in
-    let within = sym c.is_in_limits.ensures ∙ c.if-not-is_in_limits.false in
-    let told = site_outside (coefficients_of header.edition) header c.args.site known within (sym c.is_sound.ensures ∙ c.if-not-is_sound.true) in
+    let limits = sym c.is_in_limits.ensures ∙ c.if-not-is_in_limits.false in
+    let told = site_outside (coefficients_of header.edition) header c.args.site known limits (sym c.is_sound.ensures ∙ c.if-not-is_sound.true) in
     record { value = told.0; number = told.1.0; stands = told.1.1 }
 
 pub line_with-requires : goal.line_with-requires
