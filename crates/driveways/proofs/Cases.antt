@@ -3,7 +3,8 @@ use Prim.Native.Nat.{ℕ, ◌*◌, ◌≤◌, ◌<◌}
 use mathlib.Core.Path.{◌≡◌, sym}
 use Rattle.bracket.specs.declared.Bracket.{Bracket}
 use Rattle.logarithm.specs.Logarithm.{logarithm_bracket}
-use Rattle.logarithm.proofs.LogarithmLaws.{logarithm_standing, logarithm_sizes}
+use Rattle.logarithm.proofs.LogarithmLaws.{logarithm_sizes}
+use Rattle.logarithm.proofs.LogarithmStanding.{logarithm_standing}
 use Rattle.model.specs.Access.{driveway_at}
 use Rattle.bracket.specs.Ratio.{coded, spanned}
 use Rattle.bracket.specs.declared.Ratio.{Ratio}

@@ -9,7 +9,7 @@ use Rattle.estimate.specs.FractionLaws.{≤ᶠ-refl, ≤ᶠ-trans, =ᶠ-≤ᶠ, 
 use Rattle.bracket.specs.Bracket.{Stands, RelativeWidth, AbsoluteWidth, logarithm_width}
 use Rattle.bracket.specs.declared.Bracket.{Bracket}
 use Rattle.logarithm.specs.Logarithm.{logarithm_bracket, StandingLogarithm}
-use Rattle.logarithm.proofs.LogarithmLaws.{logarithm_standing}
+use Rattle.logarithm.proofs.LogarithmStanding.{logarithm_standing}
 use Rattle.model.specs.Coefficients.{Coefficients}
 use Rattle.model.specs.Access.{driveway_slope, driveway_at, driveway_part}
 use Rattle.model.specs.Parts.{driveways}

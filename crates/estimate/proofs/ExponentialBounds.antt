@@ -11,14 +11,7 @@ use Rattle.estimate.specs.ExponentialLaws.{sum-≤-with_tail, one-≤-partial_su
 use Rattle.estimate.specs.ExponentialProducts.{partial_sum_submultiplicative, partial_sum_supermultiplicative}
 use Rattle.estimate.specs.ExponentialProducts.{partial_sum_of_multiple, power_of_partial_sum}
 use Rattle.estimate.specs.ExponentialBounds.{AtLeastExp, AtMostExp, exp_bounds_in_order, exp_under_at_most}
-
-pub at_least_by_tail : {w x : Fraction} (m : ℕ) → whole 2 *ᶠ x ≤ᶠ whole (m + 2) → sum_with_tail m x ≤ᶠ w → AtLeastExp w x
-at_least_by_tail {w} {x} m b h = record { bounds = λ n. ≤ᶠ-trans (tail_bounds_every_sum x m b n) h }
-
--- up to 21 the tail law holds at depth 0 already
-pub exp_over_at_least : (d : ℕ) (x : Fraction) → x ≤ᶠ whole 21 → AtLeastExp (exp_over d x) x
-unfolding exp_over whole ◌*ᶠ◌
-exp_over_at_least d x h = at_least_by_tail (last_term d) (omega (arith, h.cross)) (≤ᶠ-refl (sum_with_tail (last_term d) x))
+use Rattle.estimate.proofs.ExponentialOver.{exp_over_at_least}
 
 pub exp_under-≤-over : (x : Fraction) → x ≤ᶠ whole 21 → (d e : ℕ) → exp_under d x ≤ᶠ exp_over e x
 exp_under-≤-over x h d e = exp_bounds_in_order (exp_under_at_most d x) (exp_over_at_least e x h) (≤ᶠ-refl x)

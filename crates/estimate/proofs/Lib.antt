@@ -8,3 +8,4 @@ pub mod Power
 pub mod PowerLaws
 pub mod Remainder
 pub mod SignedExponent
+pub mod ExponentialOver

@@ -9,7 +9,7 @@ use Rattle.estimate.specs.Exponential.{partial_sum, last_term, exp_under, exp_ov
 use Rattle.estimate.specs.ExponentialLaws.{partial_sums_grow, partial_sum_mono}
 use Rattle.estimate.specs.ExponentialBounds.{AtMostExp, AtLeastExp, at_most_weaker, at_least_weaker, exp_bounds_in_order}
 use Rattle.estimate.specs.ExponentialBounds.{exp_under_at_most, exp_under_strict, exp_over_strict, exp_under-≤-own_over}
-use Rattle.estimate.proofs.ExponentialBounds.{exp_over_at_least}
+use Rattle.estimate.proofs.ExponentialOver.{exp_over_at_least}
 use Rattle.estimate.specs.Logarithm.{ln_smallest, ln_under, ln_over, ln_smallest_is}
 use Rattle.estimate.proofs.Logarithm.{ln_largest_is}
 use Rattle.estimate.specs.LogarithmLaws.{below_ln_over}

@@ -4,7 +4,7 @@ use Rattle.std.proofs.Common.{ap, mul-le-mul_left, mul-le-mul_right, mul-pos, ar
 use Rattle.estimate.specs.Fraction.{Fraction, fraction, whole, ◌*ᶠ◌, ◌^ᶠ◌}
 use Rattle.estimate.specs.Exponential.{term_num, term_den, sum_num, factorial, partial_sum, sum_with_tail}
 use Rattle.estimate.specs.ExponentialBounds.{AtMostExp, AtLeastExp, at_most_by_sum, exp_powers_in_order}
-use Rattle.estimate.proofs.ExponentialBounds.{at_least_by_tail}
+use Rattle.estimate.proofs.ExponentialOver.{at_least_by_tail}
 use Rattle.estimate.specs.Remainder.{ratio, ratio_at_least, twice_z, twice_zAnd_cube}
 
 -- THE RATIO IS AT MOST S_3 AT 2z + z^3

@@ -14,6 +14,7 @@ use Rattle.exponential.specs.Taylor.{taylor_low, taylor_high}
 use Rattle.exponential.specs.TaylorLaws.{taylor_at_most, taylor_at_least, taylor_near, taylor_least, taylor_most}
 use Rattle.exponential.specs.Exponential.{exp_low, exp_high, exp_most, exponential_limit}
 use Rattle.exponential.specs.ExponentialEnds.{exp_low_at_most}
+use Rattle.exponential.proofs.EndsClose.{close}
 
 parts-≥ : (x : ℕ) → ten_thousandths x ≤ᶠ whole (x / 10000) +ᶠ ten_thousandths (x % 10000)
 unfolding whole ten_thousandths fraction ◌+ᶠ◌
@@ -42,11 +43,6 @@ apart e l h a b R near r le ll fl cl = omega (arith, mul-le-mul_left (e + 1) nea
 
 at_least_stored : (e l a R : ℕ) → R ≤ l → e * l < a * R + R → e ≤ a
 at_least_stored e l a R ll fl = le_of_suc-le-suc (lt_of_mul-lt-mul_right R {m = e} {n = suc a} (omega (arith, mul-le-mul_left e ll)))
-
--- apart by at most 5.6 * 10^-11 of the stored number
-close : (e a b : ℕ) → b * scale ≤ a * scale + 56 * e → e ≤ a → exponential_width * b ≤ exponential_width * a + b
-unfolding exponential_width
-close e a b h k = omega arith
 
 module _ (x : ℕ) (within : x ≤ exponential_limit) where
   exp_low_near : stored_exp (x / 10000) * taylor_low (x % 10000) < exp_low x * scale + scale

@@ -4,3 +4,4 @@ pub mod ExponentialEnds
 pub mod ExponentialLaws
 pub mod ExponentialMost
 pub mod StoredBracketLaws
+pub mod EndsClose

@@ -6,7 +6,7 @@ use Rattle.estimate.specs.FractionLaws.{≤ᶠ-refl, leᶠ-sound, whole_mono}
 use Rattle.laws.specs.Table.{both, both_left, both_right, passes_all, entry_passes, all_below, all_below_lem}
 use Rattle.estimate.specs.Exponential.{term_num, term_den, sum_num, partial_sum, sum_with_tail, exp_under, exp_over}
 use Rattle.estimate.specs.ExponentialBounds.{AtMostExp, AtLeastExp, at_most_weaker, at_least_weaker, exp_under_at_most}
-use Rattle.estimate.proofs.ExponentialBounds.{exp_over_at_least}
+use Rattle.estimate.proofs.ExponentialOver.{exp_over_at_least}
 use Rattle.bracket.specs.Rounded.{rounded_down-≤}
 use Rattle.exponential.specs.Scale.{scale, scale_positive, scaled}
 use Rattle.exponential.specs.Stored.{stored_exp, StoredExponentials}

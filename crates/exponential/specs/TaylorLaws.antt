@@ -5,7 +5,7 @@ use native.Mathlib.Omega.{arith}
 use Rattle.estimate.specs.Fraction.{fraction, ◌≤ᶠ◌, whole, ◌*ᶠ◌, ten_thousandths}
 use Rattle.estimate.specs.Exponential.{term_num, term_den, sum_num, partial_sum, sum_with_tail, term_den_positive, factorial}
 use Rattle.estimate.specs.ExponentialBounds.{AtMostExp, AtLeastExp, at_most_by_sum}
-use Rattle.estimate.proofs.ExponentialBounds.{at_least_by_tail}
+use Rattle.estimate.proofs.ExponentialOver.{at_least_by_tail}
 use Rattle.wide.specs.Rounding.{floor_le, floor_lt, ceiling_ge, ceiling_lt}
 use Rattle.exponential.specs.Scale.{scale, scaled}
 use Rattle.exponential.specs.Taylor.{term_low, term_high, sum_low, sum_high, taylor_low, taylor_high}

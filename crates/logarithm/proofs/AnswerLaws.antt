@@ -5,7 +5,7 @@ use Rattle.std.proofs.Math.Dec.{leb→le}
 use Rattle.laws.specs.Table.{both_left, both_right}
 use Rattle.bracket.specs.Answer.{Answers, answer_stands}
 use Rattle.logarithm.specs.Logarithm.{logarithm_bracket, LogarithmRange, in_range, StandingLogarithm, logarithm_answer, LogarithmStands}
-use Rattle.logarithm.proofs.LogarithmLaws.{logarithm_standing}
+use Rattle.logarithm.proofs.LogarithmStanding.{logarithm_standing}
 
 module _ (a : ℕ) where
   pub logarithm_answers : Answers (LogarithmRange a) (StandingLogarithm a) (LogarithmRange a → ⊥) (in_range a) (logarithm_bracket a)

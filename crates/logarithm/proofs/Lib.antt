@@ -2,3 +2,4 @@
 pub mod Entries
 pub mod AnswerLaws
 pub mod LogarithmLaws
+pub mod LogarithmStanding

@@ -135,6 +135,3 @@ module _ (a : ℕ) (from : 1 ≤ a) (to : a ≤ 20000) where
     low_most = omega (arith, logarithm_in_order, logarithm_high_small);
     high_most = omega (arith, logarithm_high_small);
   }
-
-  pub logarithm_standing : StandingLogarithm a (logarithm_bracket a)
-  logarithm_standing = record { stands = logarithm_stands; narrow = logarithm_width_lem }

@@ -10,7 +10,7 @@ use Rattle.bracket.specs.declared.BracketAnswer.TheVariants.{Between, OutOfRange
 use Rattle.remainder.specs.Remainder.{Exponent}
 use Rattle.power.specs.Exponents.{exponent_at, place_of, place_of_holds, exponent_small}
 use Rattle.power.specs.Power.{power_bracket, PowerRange, in_range, StandingPower, power_answer, PowerStands}
-use Rattle.power.proofs.PowerLaws.{power_standing}
+use Rattle.power.proofs.PowerStanding.{power_standing}
 
 module _ (base num den : ℕ) where
   -- a stored exponent is at most 0.79

@@ -4,3 +4,4 @@ pub mod Fitting
 pub mod AnswerLaws
 pub mod PowerLaws
 pub mod PowerMost
+pub mod PowerStanding

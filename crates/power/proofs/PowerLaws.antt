@@ -124,9 +124,6 @@ module _ (A p q : ℕ) (from : 1 ≤ A) (to : A ≤ 65536) (e : Exponent p q) wh
   unfolding power_width power_bracket
   power_width_lem = let w = ends_near in record { width = omega (arith, w.near, w.first-≤, power_in_order) }
 
-  pub power_standing : StandingPower A p q (power_bracket A p q)
-  power_standing = record { stands = power_stands; narrow = power_width_lem }
-
   -- HOW LARGE THE LOW END IS
 
   -- c billionths bound B^(p/q), for a B from A on: they bound the low end

@@ -8,7 +8,8 @@ use Rattle.bracket.specs.WidthLaws.{high_below, power_width_large}
 use Rattle.remainder.specs.Remainder.{Exponent}
 use Rattle.power.specs.Stored.{billion}
 use Rattle.power.specs.Power.{power_bracket, StandingPower}
-use Rattle.power.proofs.PowerLaws.{power_low_below, power_standing}
+use Rattle.power.proofs.PowerLaws.{power_low_below}
+use Rattle.power.proofs.PowerStanding.{power_standing}
 
 module _ (A p : ℕ) (from : 1 ≤ A) (to : A ≤ 20000) (part : p ≤ 100) where
   exponent : Exponent p 100
