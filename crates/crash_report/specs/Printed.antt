@@ -12,7 +12,7 @@ use Rattle.project.specs.Causes.{Starts, first, next, report_length}
 use Rattle.project.proofs.ScanLaws.{accepted_exactly}
 use Rattle.project.proofs.SitesRead.{accepted_sites}
 use Rattle.project.specs.Prefix.{longest_file}
-use Rattle.project.proofs.Prefix.{scan_prefix}
+use Rattle.project.proofs.ScanPrefix.{scan_prefix}
 use Rattle.report.specs.declared.ProjectAnswer.{ProjectAnswer}
 use Rattle.report.specs.declared.ProjectAnswer.TheVariants.{Reported, Refused}
 use Rattle.report.specs.Report.{report_numbers, lines_in, project_answer, report_after}

@@ -5,3 +5,4 @@ pub mod Prefix
 pub mod Promise
 pub mod ScanLaws
 pub mod SitesRead
+pub mod ScanPrefix

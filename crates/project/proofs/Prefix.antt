@@ -110,6 +110,3 @@ prefix_tells m s h = by (leb (length s) m) refl
         let l : length (take m s) ≡ m = length-take-le m s (omega arith) in
         let full : longest_file < length (take m s) = omega arith in
         sym (scan_past_nothing (take m s) (drop m s) full) ∙ ap scan_file (take-append-drop m s)
-
-pub scan_prefix : (s : List ℕ) → scan_file (take (longest_file + 1) s) ≡ scan_file s
-scan_prefix s = prefix_tells (longest_file + 1) s (omega arith)
