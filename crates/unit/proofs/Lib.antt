@@ -6,3 +6,4 @@ pub mod Coding
 pub mod FileRoundTrips
 pub mod Given
 pub mod RoundTrips
+pub mod Malformed

@@ -17,8 +17,35 @@ use Rattle.site.proofs.Theorems.{zero_exactly, written_reads_back, read_writes_b
 use Rattle.unit.specs.Lent.{zero_lent}
 use Rattle.unit.specs.SiteNumbers.{read_values, site_from, site_numbers, answer_numbers, ReadsNumbers, WritesNumbers}
 use Rattle.unit.proofs.Coding.{site_read}
-use Rattle.unit.specs.Coding.{values_again}
+use Rattle.unit.proofs.Coding.{values_again}
 use Rattle.unit.specs.RoundTrips.{WrittenBack}
+use Rattle.unit.specs.RoundTrips.{ReadBack}
+
+-- a writer that does not refuse answers the record's length
+wrote : (edition years : ℕ) (site : Site) (room : ℕ) → write_refusal edition years site room ≡ 0
+    → write_answer edition years site room ≡ Written (length (record_of edition site))
+unfolding write_answer
+wrote edition years site room e = rw e refl
+
+pub written_read : (edition years : ℕ) (numbers buffer bytes : List ℕ) (length_before n : ℕ)
+    → WritesNumbers edition years numbers buffer bytes length_before n 0
+    → (before afterwards : List ℕ) (number : ℕ) → answer_numbers ≤ length before → ReadsNumbers edition years bytes before afterwards number
+    → ReadBack numbers n before afterwards number
+written_read edition years numbers buffer bytes length_before n w before afterwards number room r =
+    let site = site_from numbers in
+    let zero : write_refusal edition years site (length buffer) ≡ 0 = sym (number_written edition years site (length buffer)) ∙ sym w.number_is in
+    let valid = (zero_exactly edition years site (length buffer)).0 zero in
+    let n_is : n ≡ length (record_of edition site) = w.length_is ∙ rw (wrote edition years site (length buffer) zero) refl in
+    let answer : write_answer edition years site (length buffer) ≡ Written n = wrote edition years site (length buffer) zero ∙ ap Written (sym n_is) in
+    let read : read_site edition years bytes ≡ Read site n = rw w.buffer_is (written_reads_back edition years site buffer n answer) in
+    let fits = le-leb answer_numbers (length before) room in
+    record {
+      number_is = r.number_is ∙ rw (read, fits) refl;
+      values_are =
+          r.run_is
+          ∙ rw (read, fits) (ap (λ (values : List ℕ). values ++ drop answer_numbers before) (values_again edition years numbers valid.0.is_sound n))
+          ∙ append_snoc (take site_numbers numbers) n (drop answer_numbers before);
+    }
 
 -- the site of the numbers that a read leaves is the site that was read, and the number after them is its record's length
 pub handed_on : (edition years : ℕ) (part before values : List ℕ) → ReadsNumbers edition years part before values 0
