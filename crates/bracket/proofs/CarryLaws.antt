@@ -1,17 +1,10 @@
 -- Laws of CarryLaws in specs/.
-use Rattle.std.specs.Prelude.{◌≡◌, refl, List, [], ◌∷◌, ◌++◌, ℕ, ◌+◌, ◌*◌, ◌≤◌, ◌<◌}
-use Rattle.std.proofs.Common.{sym, ap, ◌∙◌, arith}
-use Rattle.estimate.specs.Fraction.{Fraction}
-use Rattle.wide.specs.Scaling.{floor, ceiling, scaled_down, scaled_up, value_is}
-use Rattle.wide.specs.Rounding.{Narrow, scaled_lower, scaled_upper, scaled_order, scaled_width, ceiling_ge}
-use Rattle.wide.specs.declared.scale.Scaled.{Scaled}
-use Rattle.wide.specs.declared.scale.Scaled.TheVariants as scaled
-use Rattle.bracket.specs.Carry.{onward, carried, carried_on, one_by_one, LowsBelow, HighsAbove, product_num, product_den, Widths, absolute_part, relative_part}
-use Rattle.bracket.specs.Ratio.{coded, spanned, exactly, exact_is}
+use Rattle.std.specs.Prelude.{◌≡◌, List, [], ◌∷◌, ℕ, ◌+◌, ◌≤◌}
+use Rattle.wide.specs.Scaling.{ceiling}
+use Rattle.wide.specs.Rounding.{Narrow, scaled_order, scaled_width, ceiling_ge}
+use Rattle.bracket.specs.Carry.{carried, Widths, absolute_part, relative_part}
 use Rattle.bracket.specs.declared.Bracket.{Bracket}
-use Rattle.bracket.specs.declared.Ratio.{Ratio}
-use Rattle.bracket.specs.declared.carry.CarryAnswer.{CarryAnswer}
-use Rattle.bracket.specs.declared.carry.CarryAnswer.TheVariants.{Carried, TooLarge}
+use Rattle.bracket.specs.declared.carry.CarryAnswer.TheVariants.{Carried}
 use Rattle.bracket.specs.CarryLaws.{CarriedWidth, past}
 
 pub carried_width : (fs : List Bracket) (rs : List ℕ) (R a r low high l h : ℕ) → Widths R fs rs → low ≤ high → Narrow R a r low high

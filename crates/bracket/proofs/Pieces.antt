@@ -1,20 +1,13 @@
 -- Laws of Pieces in specs/.
-use Rattle.std.specs.Prelude.{◌≡◌, refl, Bool, true, List, [], ◌∷◌, map, ℕ, ◌+◌, ◌*◌, ◌^◌, ◌≤◌, ◌<◌, T, ltb}
-use Rattle.std.proofs.Common.{ap, ◌∙◌, le_refl, mul-le-mul, mul-le-mul_right, le_of_mul-le-mul_right, ltb→lt}
+use Rattle.std.specs.Prelude.{◌≡◌, List, [], ◌∷◌, ℕ, ◌*◌, ◌≤◌, ◌<◌, T}
+use Rattle.std.proofs.Common.{le_refl, mul-le-mul_right, le_of_mul-le-mul_right}
 use native.Mathlib.Omega.{arith}
 use Rattle.estimate.specs.Fraction.{Fraction, fraction, ◌*ᶠ◌, whole}
-use Rattle.laws.specs.Table.{both, both_left, both_right}
-use Rattle.wide.specs.Scaling.{floor, ceiling, scaled_up, answered_value}
-use Rattle.wide.specs.Rounding.{Narrow, floor_le, ceiling_ge, ceiling-≤, scaled_order, scaled_width}
-use Rattle.wide.specs.declared.scale.Scaled.{Scaled}
-use Rattle.wide.specs.declared.scale.Scaled.TheVariants as scaled
-use Rattle.bracket.specs.Bracket.{Stands, RelativeWidth}
-use Rattle.bracket.specs.Ratio.{exactly}
-use Rattle.bracket.specs.Carry.{onward, carried, LowsBelow, HighsAbove, product_num, product_den, Widths, absolute_part, relative_part}
+use Rattle.wide.specs.Scaling.{floor, ceiling}
+use Rattle.wide.specs.Rounding.{floor_le, ceiling_ge, scaled_order, scaled_width}
+use Rattle.bracket.specs.Carry.{LowsBelow, HighsAbove, product_num, product_den, Widths, absolute_part, relative_part}
 use Rattle.bracket.specs.CarryLaws.{carried_low, carried_high}
 use Rattle.bracket.proofs.CarryLaws.{carried_width}
-use Rattle.bracket.specs.declared.Bracket.{Bracket}
-use Rattle.bracket.specs.declared.carry.CarryAnswer.TheVariants.{Carried}
 use Rattle.bracket.specs.Pieces.{AllKept, Ends, Piece, absolute_most, bounds, brackets, carried_room, ceiling_mono, has_room, overs, product, shares, unders}
 
 -- THE PRODUCT of a list, by numerators and denominators

@@ -1,12 +1,12 @@
 -- What carrying gives, for any list of factors: the product is kept at each side, and so are the order and the width.
-use Rattle.std.specs.Prelude.{◌≡◌, refl, List, [], ◌∷◌, ◌++◌, ℕ, ◌+◌, ◌*◌, ◌≤◌, ◌<◌}
+use Rattle.std.specs.Prelude.{◌≡◌, refl, List, [], ◌∷◌, ◌++◌, ℕ, ◌*◌, ◌≤◌, ◌<◌}
 use Rattle.std.proofs.Common.{sym, ap, ◌∙◌, arith}
 use Rattle.estimate.specs.Fraction.{Fraction}
 use Rattle.wide.specs.Scaling.{floor, ceiling, scaled_down, scaled_up, value_is}
-use Rattle.wide.specs.Rounding.{Narrow, scaled_lower, scaled_upper, scaled_order, scaled_width, ceiling_ge}
+use Rattle.wide.specs.Rounding.{Narrow, scaled_lower, scaled_upper}
 use Rattle.wide.specs.declared.scale.Scaled.{Scaled}
 use Rattle.wide.specs.declared.scale.Scaled.TheVariants as scaled
-use Rattle.bracket.specs.Carry.{onward, carried, carried_on, one_by_one, LowsBelow, HighsAbove, product_num, product_den, Widths, absolute_part, relative_part}
+use Rattle.bracket.specs.Carry.{onward, carried, carried_on, one_by_one, LowsBelow, HighsAbove, product_num, product_den}
 use Rattle.bracket.specs.Ratio.{coded, spanned, exactly, exact_is}
 use Rattle.bracket.specs.declared.Bracket.{Bracket}
 use Rattle.bracket.specs.declared.Ratio.{Ratio}

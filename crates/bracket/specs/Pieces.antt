@@ -1,18 +1,17 @@
 -- A bracket carried through factors that are known by what they stand for: it fits 64 bits by a computed test of bounds, stands
 -- to the product of the estimates at every depth, and has a width.
 use Rattle.std.specs.Prelude.{◌≡◌, refl, Bool, true, List, [], ◌∷◌, map, ℕ, ◌+◌, ◌*◌, ◌^◌, ◌≤◌, ◌<◌, T, ltb}
-use Rattle.std.proofs.Common.{ap, ◌∙◌, le_refl, mul-le-mul, mul-le-mul_right, le_of_mul-le-mul_right, ltb→lt}
+use Rattle.std.proofs.Common.{ap, ◌∙◌, mul-le-mul, mul-le-mul_right, le_of_mul-le-mul_right, ltb→lt}
 use native.Mathlib.Omega.{arith}
 use Rattle.estimate.specs.Fraction.{Fraction, fraction, ◌*ᶠ◌, whole}
 use Rattle.laws.specs.Table.{both, both_left, both_right}
 use Rattle.wide.specs.Scaling.{floor, ceiling, scaled_up, answered_value}
-use Rattle.wide.specs.Rounding.{Narrow, floor_le, ceiling_ge, ceiling-≤, scaled_order, scaled_width}
+use Rattle.wide.specs.Rounding.{Narrow, ceiling_ge, ceiling-≤, scaled_order}
 use Rattle.wide.specs.declared.scale.Scaled.{Scaled}
 use Rattle.wide.specs.declared.scale.Scaled.TheVariants as scaled
 use Rattle.bracket.specs.Bracket.{Stands, RelativeWidth}
 use Rattle.bracket.specs.Ratio.{exactly}
-use Rattle.bracket.specs.Carry.{onward, carried, LowsBelow, HighsAbove, product_num, product_den, Widths, absolute_part, relative_part}
-use Rattle.bracket.specs.CarryLaws.{carried_low, carried_high}
+use Rattle.bracket.specs.Carry.{onward, carried, relative_part}
 use Rattle.bracket.specs.declared.Bracket.{Bracket}
 use Rattle.bracket.specs.declared.carry.CarryAnswer.TheVariants.{Carried}
 

@@ -1,8 +1,6 @@
 -- Laws of Exponential in specs/.
-use Rattle.std.specs.Prelude.{ℕ, zero, suc, ◌+◌, ◌*◌, ◌^◌, ◌<◌, ◌≡◌, refl}
-use Rattle.std.proofs.Common.{ap, mul-pos, pow-suc, arith, lit<}
-use Rattle.std.proofs.Math.Nat.{pow-zero, one-le-pow}
-use Rattle.estimate.specs.Fraction.{Fraction, ◌=ᶠ◌, whole, fraction, ◌÷◌, inverse, ◌+ᶠ◌, ◌*ᶠ◌}
+use Rattle.std.specs.Prelude.{ℕ, suc, ◌+◌, refl}
+use Rattle.estimate.specs.Fraction.{Fraction, ◌=ᶠ◌, whole, fraction, ◌÷◌, ◌+ᶠ◌, ◌*ᶠ◌}
 use Rattle.estimate.specs.Exponential.{added_terms, exp_over, exp_under, partial_sum, sum_num, sum_with_tail, term, term_den, term_num, with_tail_adds_terms}
 
 pub over_adds_terms : (d : ℕ) (x : Fraction) → exp_over d x =ᶠ added_terms (40 + d) x +ᶠ whole 2 *ᶠ term (suc (40 + d)) x

@@ -1,9 +1,9 @@
 -- Laws of ExponentialLaws in specs/.
-use Rattle.std.specs.Prelude.{ℕ, zero, suc, ◌+◌, ◌*◌, ◌≤◌, ◌<◌, ◌≡◌, refl}
-use Rattle.std.proofs.Common.{zero-le, mul-pos, mul-le-mul, mul-le-mul_left, mul-le-mul_right, mul-lt-mul_of_pos_right, not-suc-le-zero, arith}
+use Rattle.std.specs.Prelude.{ℕ, suc, ◌+◌, ◌*◌, ◌≤◌}
+use Rattle.std.proofs.Common.{mul-le-mul_left, mul-le-mul_right, arith}
 use Rattle.std.proofs.Math.Decide.{dec_le}
-use Rattle.estimate.specs.Fraction.{Fraction, ◌≤ᶠ◌, ◌<ᶠ◌, ◌=ᶠ◌, whole, ◌+ᶠ◌, ◌*ᶠ◌}
-use Rattle.estimate.specs.FractionLaws.{≤ᶠ-trans, <ᶠ-≤ᶠ, rises_by_steps, falls_by_steps}
+use Rattle.estimate.specs.Fraction.{Fraction, ◌≤ᶠ◌, whole, ◌*ᶠ◌}
+use Rattle.estimate.specs.FractionLaws.{≤ᶠ-trans, falls_by_steps}
 use Rattle.estimate.specs.Exponential.{term_num, term_den, sum_num, partial_sum, sum_with_tail}
 use Rattle.estimate.specs.ExponentialLaws.{partial_sums_grow, sum-≤-with_tail}
 

@@ -2,12 +2,12 @@
 use Rattle.std.specs.Prelude.{ℕ, suc, ◌*◌, ◌^◌, ◌≤◌, ◌≡◌, refl}
 use Rattle.std.proofs.Math.Nat.{le-mul_of_pos_right}
 use native.Mathlib.Omega.{arith}
-use Rattle.estimate.specs.Fraction.{Fraction, ◌≤ᶠ◌, ◌<ᶠ◌, ◌=ᶠ◌, leᶠ, whole, decimal, ◌+ᶠ◌}
+use Rattle.estimate.specs.Fraction.{Fraction, ◌≤ᶠ◌, ◌<ᶠ◌, ◌=ᶠ◌, whole, decimal, ◌+ᶠ◌}
 use Rattle.estimate.specs.FractionLaws.{≤ᶠ-trans, =ᶠ-≤ᶠ, ≤ᶠ-refl, not-≤ᶠ-and-<ᶠ, leᶠ-sound, leᶠ-complete, decimal_mono}
-use Rattle.estimate.specs.Search.{largest, smallest, Largest, Smallest, largest_of_all}
-use Rattle.estimate.specs.Search.{smallest_of_all, largest_unique, smallest_unique, largest_by_neighbour, smallest_by_neighbour}
-use Rattle.estimate.specs.Exponential.{exp_under, exp_over}
-use Rattle.estimate.specs.ExponentialBounds.{exp_under-≥-one, exp_under-≥-one_plus, exp_under-≤-own_over, exp_under_mono, exp_over_mono, exp_over_zero}
+use Rattle.estimate.specs.Search.{Largest, largest_of_all}
+use Rattle.estimate.specs.Search.{largest_unique, largest_by_neighbour}
+use Rattle.estimate.specs.Exponential.{exp_over}
+use Rattle.estimate.specs.ExponentialBounds.{exp_under-≥-one, exp_under-≥-one_plus, exp_under-≤-own_over, exp_over_mono, exp_over_zero}
 use Rattle.estimate.specs.Logarithm.{LnOne, OverAtMost, ln_largest, ln_over, ln_smallest_is, ln_under}
 
 -- THEY ARE THE LARGEST AND THE SMALLEST OF ALL WHOLE NUMBERS

@@ -4,13 +4,13 @@ use native.Mathlib.Omega.{arith}
 use Rattle.std.proofs.Common.{lit≤}
 use Rattle.estimate.specs.Fraction.{Fraction, ◌≤ᶠ◌, whole, decimal}
 use Rattle.estimate.specs.FractionLaws.{≤ᶠ-trans, ≤ᶠ-refl, <ᶠ-≤ᶠ-trans, ≤ᶠ-<ᶠ-trans, ≤ᶠ-of-not-<ᶠ, not-≤ᶠ-and-<ᶠ, decimal_mono}
-use Rattle.estimate.specs.Standing.{LowRight, HighRight}
+use Rattle.estimate.specs.Standing.{HighRight}
 use Rattle.estimate.specs.Exponential.{partial_sum, last_term, exp_under, exp_over, sum_num, term_num, term_den}
 use Rattle.estimate.specs.ExponentialLaws.{partial_sums_grow, partial_sum_mono}
-use Rattle.estimate.specs.ExponentialBounds.{AtMostExp, AtLeastExp, at_most_weaker, at_least_weaker, exp_bounds_in_order}
-use Rattle.estimate.specs.ExponentialBounds.{exp_under_at_most, exp_under_strict, exp_over_strict, exp_under-≤-own_over}
+use Rattle.estimate.specs.ExponentialBounds.{AtMostExp, AtLeastExp, at_least_weaker, exp_bounds_in_order}
+use Rattle.estimate.specs.ExponentialBounds.{exp_under_strict, exp_over_strict, exp_under-≤-own_over}
 use Rattle.estimate.proofs.ExponentialOver.{exp_over_at_least}
-use Rattle.estimate.specs.Logarithm.{ln_smallest, ln_under, ln_over, ln_smallest_is}
+use Rattle.estimate.specs.Logarithm.{ln_under, ln_over, ln_smallest_is}
 use Rattle.estimate.proofs.Logarithm.{ln_largest_is}
 use Rattle.estimate.specs.LogarithmLaws.{below_ln_over}
 

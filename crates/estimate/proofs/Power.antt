@@ -1,10 +1,7 @@
 -- Laws of Power in specs/.
-use Rattle.std.specs.Prelude.{ℕ, zero, suc, ◌+◌, ◌*◌, ◌^◌, ◌≤◌, ◌<◌, ◌≡◌, leb}
-use Rattle.std.proofs.Common.{zero-le, ap, le_trans, mul-zero, pow-suc, mul-le-mul_right, zero-lt-suc, not-suc-le-zero, not-le_of_lt, arith, add-one, leb→le, le→leb, lit<, lit≤}
-use Rattle.std.proofs.Math.Nat.{pow-le-pow_left, one-le-pow}
-use Rattle.estimate.specs.Fraction.{Fraction, ◌=ᶠ◌, decimal, ◌÷◌}
-use Rattle.estimate.specs.Search.{largest, Largest, largest_of_all, largest_unique, largest_by_neighbour}
-use Rattle.estimate.specs.WholePower.{mul_pow, pow_le_cancel}
+use Rattle.std.specs.Prelude.{ℕ, ◌+◌, ◌*◌, ◌^◌, ◌<◌}
+use Rattle.std.proofs.Common.{ap, arith, lit<, lit≤}
+use Rattle.estimate.specs.Fraction.{decimal, ◌÷◌}
 use Rattle.estimate.specs.Power.{AtMostPower, PowerValue, ThirtyTwoToSixTenths, power_largest_value, power_over, power_under}
 
 pub power_value : (d A p q t : ℕ) → 0 < q → AtMostPower t (10 ^ d) A p q → A ^ p * (10 ^ d) ^ q < (t + 1) ^ q → PowerValue d A p q t

@@ -1,9 +1,9 @@
 -- Laws of Remainder in specs/.
-use Rattle.std.specs.Prelude.{ℕ, zero, suc, ◌+◌, ◌*◌, ◌^◌, ◌≤◌, ◌<◌, ◌≡◌, refl}
-use Rattle.std.proofs.Common.{ap, mul-le-mul_left, mul-le-mul_right, mul-pos, arith}
-use Rattle.estimate.specs.Fraction.{Fraction, fraction, whole, ◌*ᶠ◌, ◌^ᶠ◌}
-use Rattle.estimate.specs.Exponential.{term_num, term_den, sum_num, factorial, partial_sum, sum_with_tail}
-use Rattle.estimate.specs.ExponentialBounds.{AtMostExp, AtLeastExp, at_most_by_sum, exp_powers_in_order}
+use Rattle.std.specs.Prelude.{ℕ, suc, ◌+◌, ◌*◌, ◌^◌, ◌≤◌, ◌<◌, ◌≡◌, refl}
+use Rattle.std.proofs.Common.{ap, mul-le-mul_left, mul-le-mul_right, arith}
+use Rattle.estimate.specs.Fraction.{fraction, whole, ◌*ᶠ◌, ◌^ᶠ◌}
+use Rattle.estimate.specs.Exponential.{term_num, term_den, sum_num, partial_sum, sum_with_tail}
+use Rattle.estimate.specs.ExponentialBounds.{AtMostExp, at_most_by_sum, exp_powers_in_order}
 use Rattle.estimate.proofs.ExponentialOver.{at_least_by_tail}
 use Rattle.estimate.specs.Remainder.{ratio, ratio_at_least, twice_z, twice_zAnd_cube}
 

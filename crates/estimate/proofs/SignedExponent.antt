@@ -1,7 +1,7 @@
 -- Laws of SignedExponent in specs/.
 use Rattle.std.specs.Prelude.{ℕ, ◌≤◌, ◌<◌}
-use Rattle.estimate.specs.Fraction.{Fraction, ◌≤ᶠ◌, ten_thousandths}
-use Rattle.estimate.specs.Exponential.{exp_under, exp_over, exp_neg_under, exp_neg_over, exp_under_positive}
+use Rattle.estimate.specs.Fraction.{◌≤ᶠ◌, ten_thousandths}
+use Rattle.estimate.specs.Exponential.{exp_under_positive}
 use Rattle.estimate.proofs.ExponentialBounds.{within_tail_law, exp_under-≤-over, exp_neg_under-≤-over, exp_neg_under_positive}
 use Rattle.estimate.specs.SignedExponent.{Minus, Plus, SignedExponent, signed_exp_over, signed_exp_under, size}
 

@@ -1,8 +1,8 @@
 -- e^x and e^(-x) at depth d, for a fraction x from 0.
-use Rattle.std.specs.Prelude.{ℕ, zero, suc, ◌+◌, ◌*◌, ◌^◌, ◌<◌, ◌≡◌, refl}
+use Rattle.std.specs.Prelude.{ℕ, zero, suc, ◌+◌, ◌*◌, ◌^◌, ◌<◌, ◌≡◌}
 use Rattle.std.proofs.Common.{ap, mul-pos, pow-suc, arith, lit<}
 use Rattle.std.proofs.Math.Nat.{pow-zero, one-le-pow}
-use Rattle.estimate.specs.Fraction.{Fraction, ◌=ᶠ◌, whole, fraction, ◌÷◌, inverse, ◌+ᶠ◌, ◌*ᶠ◌}
+use Rattle.estimate.specs.Fraction.{Fraction, ◌=ᶠ◌, whole, fraction, inverse, ◌+ᶠ◌, ◌*ᶠ◌}
 
 -- x^i/i! at x = n/D: its numerator n^i, one factor at a time,
 unfoldable pub term_num : (n i : ℕ) → ℕ

@@ -1,10 +1,10 @@
 -- Numbers at most and at least e^x, told by partial sums alone; what they make, and why they stand against the estimates of e^x at every depth.
-use Rattle.std.specs.Prelude.{ℕ, ◌+◌, ◌*◌, ◌≤◌, ◌<◌, ◌≡◌}
+use Rattle.std.specs.Prelude.{ℕ, ◌+◌, ◌*◌, ◌≡◌}
 use Rattle.std.proofs.Common.{arith}
-use Rattle.estimate.specs.Fraction.{Fraction, fraction, ◌≤ᶠ◌, ◌<ᶠ◌, ◌=ᶠ◌, whole, ten_thousandths, inverse, ◌+ᶠ◌, ◌*ᶠ◌, ◌^ᶠ◌}
-use Rattle.estimate.specs.FractionLaws.{≤ᶠ-trans, ≤ᶠ-refl, *ᶠ-mono, ^ᶠ-mono, inverse_antitone}
-use Rattle.estimate.specs.Standing.{LowRight, HighRight}
-use Rattle.estimate.specs.Exponential.{partial_sum, sum_with_tail, last_term, exp_under, exp_over, exp_neg_under, exp_neg_over, exp_under_positive, exp_over_positive}
+use Rattle.estimate.specs.Fraction.{Fraction, ◌≤ᶠ◌, ◌<ᶠ◌, ◌=ᶠ◌, whole, ◌+ᶠ◌, ◌*ᶠ◌, ◌^ᶠ◌}
+use Rattle.estimate.specs.FractionLaws.{≤ᶠ-trans, ≤ᶠ-refl, *ᶠ-mono, ^ᶠ-mono}
+use Rattle.estimate.specs.Standing.{HighRight}
+use Rattle.estimate.specs.Exponential.{partial_sum, last_term, exp_under, exp_over}
 use Rattle.estimate.specs.ExponentialLaws.{partial_sum_mono, sum_with_tail_mono, partial_sum_strict, sum_with_tail_strict}
 use Rattle.estimate.specs.ExponentialLaws.{sum-≤-with_tail, one-≤-partial_sum, one_plus-≤-partial_sum, sum_with_tail_zero}
 use Rattle.estimate.specs.ExponentialProducts.{partial_sum_submultiplicative, partial_sum_supermultiplicative}

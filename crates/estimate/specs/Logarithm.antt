@@ -1,13 +1,13 @@
 -- ln A at depth d, for a fraction A from 1 (document 01's A is `whole A`).
-use Rattle.std.specs.Prelude.{ℕ, suc, ◌*◌, ◌^◌, ◌≤◌, ◌≡◌, refl}
+use Rattle.std.specs.Prelude.{ℕ, suc, ◌*◌, ◌^◌, ◌≡◌}
 use Rattle.std.proofs.Math.Nat.{le-mul_of_pos_right}
 use native.Mathlib.Omega.{arith}
 use Rattle.estimate.specs.Fraction.{Fraction, ◌≤ᶠ◌, ◌<ᶠ◌, ◌=ᶠ◌, leᶠ, whole, decimal, ◌+ᶠ◌}
-use Rattle.estimate.specs.FractionLaws.{≤ᶠ-trans, =ᶠ-≤ᶠ, ≤ᶠ-refl, not-≤ᶠ-and-<ᶠ, leᶠ-sound, leᶠ-complete, decimal_mono}
-use Rattle.estimate.specs.Search.{largest, smallest, Largest, Smallest, largest_of_all}
-use Rattle.estimate.specs.Search.{smallest_of_all, largest_unique, smallest_unique, largest_by_neighbour, smallest_by_neighbour}
+use Rattle.estimate.specs.FractionLaws.{≤ᶠ-trans, not-≤ᶠ-and-<ᶠ, leᶠ-sound, leᶠ-complete, decimal_mono}
+use Rattle.estimate.specs.Search.{largest, smallest, Smallest}
+use Rattle.estimate.specs.Search.{smallest_of_all, smallest_unique, smallest_by_neighbour}
 use Rattle.estimate.specs.Exponential.{exp_under, exp_over}
-use Rattle.estimate.specs.ExponentialBounds.{exp_under-≥-one, exp_under-≥-one_plus, exp_under-≤-own_over, exp_under_mono, exp_over_mono, exp_over_zero}
+use Rattle.estimate.specs.ExponentialBounds.{exp_under-≥-one_plus, exp_under_mono}
 
 -- "whose e-power has its over at most A"
 abbrev pub OverAtMost : (d : ℕ) (A : Fraction) (t : ℕ) → Type 0

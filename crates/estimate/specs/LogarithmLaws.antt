@@ -1,15 +1,12 @@
 -- Laws of the estimates of ln: what bounds them at every depth, and their order.
-use Rattle.std.specs.Prelude.{ℕ, ◌*◌, ◌^◌}
-use native.Mathlib.Omega.{arith}
-use Rattle.std.proofs.Common.{lit≤}
-use Rattle.estimate.specs.Fraction.{Fraction, ◌≤ᶠ◌, whole, decimal}
-use Rattle.estimate.specs.FractionLaws.{≤ᶠ-trans, ≤ᶠ-refl, <ᶠ-≤ᶠ-trans, ≤ᶠ-<ᶠ-trans, ≤ᶠ-of-not-<ᶠ, not-≤ᶠ-and-<ᶠ, decimal_mono}
-use Rattle.estimate.specs.Standing.{LowRight, HighRight}
-use Rattle.estimate.specs.Exponential.{partial_sum, last_term, exp_under, exp_over, sum_num, term_num, term_den}
-use Rattle.estimate.specs.ExponentialLaws.{partial_sums_grow, partial_sum_mono}
-use Rattle.estimate.specs.ExponentialBounds.{AtMostExp, AtLeastExp, at_most_weaker, at_least_weaker, exp_bounds_in_order}
-use Rattle.estimate.specs.ExponentialBounds.{exp_under_at_most, exp_under_strict, exp_over_strict, exp_under-≤-own_over}
-use Rattle.estimate.specs.Logarithm.{ln_smallest, ln_under, ln_over, ln_smallest_is}
+use Rattle.std.specs.Prelude.{ℕ}
+use Rattle.estimate.specs.Fraction.{Fraction, ◌≤ᶠ◌}
+use Rattle.estimate.specs.FractionLaws.{≤ᶠ-trans, ≤ᶠ-refl, <ᶠ-≤ᶠ-trans, ≤ᶠ-of-not-<ᶠ, not-≤ᶠ-and-<ᶠ, decimal_mono}
+use Rattle.estimate.specs.Standing.{LowRight}
+use Rattle.estimate.specs.Exponential.{exp_under}
+use Rattle.estimate.specs.ExponentialBounds.{AtMostExp, AtLeastExp, at_most_weaker, exp_bounds_in_order}
+use Rattle.estimate.specs.ExponentialBounds.{exp_under_at_most, exp_under_strict}
+use Rattle.estimate.specs.Logarithm.{ln_smallest, ln_over, ln_smallest_is}
 
 ln_over_holds : (d : ℕ) (A : Fraction) → A ≤ᶠ exp_under d (ln_over d A)
 unfolding ln_over

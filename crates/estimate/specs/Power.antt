@@ -1,6 +1,6 @@
 -- A^(p/q) at depth d, for any p and any q from 1 (document 01 has q = 100).
 use Rattle.std.specs.Prelude.{ℕ, zero, suc, ◌+◌, ◌*◌, ◌^◌, ◌≤◌, ◌<◌, ◌≡◌, leb}
-use Rattle.std.proofs.Common.{zero-le, ap, le_trans, mul-zero, pow-suc, mul-le-mul_right, zero-lt-suc, not-suc-le-zero, not-le_of_lt, arith, add-one, leb→le, le→leb, lit<, lit≤}
+use Rattle.std.proofs.Common.{zero-le, le_trans, mul-zero, pow-suc, mul-le-mul_right, zero-lt-suc, not-suc-le-zero, not-le_of_lt, arith, add-one, leb→le, le→leb}
 use Rattle.std.proofs.Math.Nat.{pow-le-pow_left, one-le-pow}
 use Rattle.estimate.specs.Fraction.{Fraction, ◌=ᶠ◌, decimal, ◌÷◌}
 use Rattle.estimate.specs.Search.{largest, Largest, largest_of_all, largest_unique, largest_by_neighbour}

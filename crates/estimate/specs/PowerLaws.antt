@@ -1,11 +1,9 @@
 -- Laws of bounds t/S of powers A^(p/q), over every exponent p and denominator q: why they stand at every depth, and what they make.
-use Rattle.std.specs.Prelude.{ℕ, ◌+◌, ◌*◌, ◌^◌, ◌≤◌, ◌<◌, ◌≡◌}
-use Rattle.std.proofs.Common.{le_of_lt, mul-le-mul_left, le_of_mul-le-mul_right, lt_of_not-le, arith, add-one, pow-add}
-use Rattle.std.proofs.Math.Nat.{mul-le-mul_right, one-le-pow, pow-le-pow_left, not-suc-le_self}
-use Rattle.estimate.specs.Fraction.{◌≤ᶠ◌, fraction, decimal, whole}
-use Rattle.estimate.specs.Standing.{LowRight, HighRight}
+use Rattle.std.specs.Prelude.{ℕ, ◌+◌, ◌*◌, ◌^◌, ◌<◌, ◌≡◌}
+use Rattle.std.proofs.Common.{mul-le-mul_left, arith, pow-add}
+use Rattle.std.proofs.Math.Nat.{pow-le-pow_left}
 use Rattle.estimate.specs.WholePower.{mul_pow, pow_mul, pow_le_cancel}
-use Rattle.estimate.specs.Power.{AtMostPower, AtLeastPower, power_largest, power_under, power_over, power_largest_is}
+use Rattle.estimate.specs.Power.{AtMostPower, AtLeastPower}
 
 -- OTHER EXPONENTS
 

@@ -1,9 +1,9 @@
 -- The remainder factor (N+r)/N: with z = r/(2N+r) it is (1+z)/(1-z), and its logarithm is between 2z and 2z + z^3.
-use Rattle.std.specs.Prelude.{ℕ, zero, suc, ◌+◌, ◌*◌, ◌^◌, ◌≤◌, ◌<◌, ◌≡◌, refl}
-use Rattle.std.proofs.Common.{ap, mul-le-mul_left, mul-le-mul_right, mul-pos, arith}
-use Rattle.estimate.specs.Fraction.{Fraction, fraction, whole, ◌*ᶠ◌, ◌^ᶠ◌}
-use Rattle.estimate.specs.Exponential.{term_num, term_den, sum_num, factorial, partial_sum, sum_with_tail}
-use Rattle.estimate.specs.ExponentialBounds.{AtMostExp, AtLeastExp, at_most_by_sum, exp_powers_in_order}
+use Rattle.std.specs.Prelude.{ℕ, zero, suc, ◌+◌, ◌*◌, ◌≤◌, ◌<◌}
+use Rattle.std.proofs.Common.{mul-le-mul_left, mul-le-mul_right, mul-pos, arith}
+use Rattle.estimate.specs.Fraction.{Fraction, fraction}
+use Rattle.estimate.specs.Exponential.{term_num, term_den, sum_num, factorial, partial_sum}
+use Rattle.estimate.specs.ExponentialBounds.{AtLeastExp}
 
 -- (N+r)/N
 unfoldable pub ratio : (N r : ℕ) → 0 < N → Fraction

@@ -1,7 +1,7 @@
 -- An exponent of e with its sign, and the estimates of e to it at depth d.
-use Rattle.std.specs.Prelude.{ℕ, ◌≤◌, ◌<◌}
-use Rattle.estimate.specs.Fraction.{Fraction, ◌≤ᶠ◌, ten_thousandths}
-use Rattle.estimate.specs.Exponential.{exp_under, exp_over, exp_neg_under, exp_neg_over, exp_under_positive}
+use Rattle.std.specs.Prelude.{ℕ}
+use Rattle.estimate.specs.Fraction.{Fraction, ten_thousandths}
+use Rattle.estimate.specs.Exponential.{exp_under, exp_over, exp_neg_under, exp_neg_over}
 
 -- x and -x, x in ten-thousandths
 pub data SignedExponent : Type 0 where

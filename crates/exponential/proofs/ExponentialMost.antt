@@ -1,10 +1,9 @@
 -- Laws of ExponentialMost in specs/.
-use Rattle.std.specs.Prelude.{ℕ, ◌*◌, ◌≤◌, ◌<◌, Bool, T, leb}
+use Rattle.std.specs.Prelude.{ℕ, ◌*◌, ◌≤◌, ◌<◌, T}
 use Rattle.std.proofs.Math.Nat.{mul-le-mul_right}
 use native.Mathlib.Omega.{arith}
 use Rattle.std.proofs.Math.Dec.{leb→le}
 use Rattle.estimate.specs.Fraction.{fraction, whole, ◌*ᶠ◌, ten_thousandths}
-use Rattle.estimate.specs.Exponential.{sum_with_tail, sum_num, term_num, term_den}
 use Rattle.estimate.proofs.ExponentialOver.{at_least_by_tail}
 use Rattle.estimate.specs.ExponentialBounds.{exp_bounds_in_order}
 use Rattle.bracket.specs.Bracket.{exponential_width}

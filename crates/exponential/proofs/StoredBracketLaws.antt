@@ -1,8 +1,7 @@
 -- Laws of StoredBracketLaws in specs/.
-use Rattle.std.specs.Prelude.{ℕ, suc, ◌+◌, ◌*◌, ◌^◌, ◌≤◌, ◌<◌, ◌≡◌, List, T, get_or}
-use Rattle.std.proofs.Common.{le_refl, le_trans, mul-le-mul_left, mul-le-mul_right, arith, leb→le, eqb→eq, lit<}
+use Rattle.std.specs.Prelude.{ℕ, suc, ◌+◌, ◌*◌, ◌^◌, ◌≤◌, ◌<◌, T}
+use Rattle.std.proofs.Common.{le_trans, mul-le-mul_left, mul-le-mul_right, arith, lit<}
 use Rattle.std.proofs.Math.Dec.{lit≤}
-use Rattle.laws.specs.Table.{both, both_left, both_right, all_below_lem}
 use Rattle.estimate.specs.Fraction.{Fraction, fraction, ◌≤ᶠ◌, whole, inverse, ten_thousandths}
 use Rattle.estimate.specs.FractionLaws.{≤ᶠ-trans}
 use Rattle.estimate.specs.Exponential.{term_num, term_den, sum_num, partial_sum, sum_with_tail, exp_under, exp_over, exp_neg_under, exp_neg_over}
@@ -14,7 +13,6 @@ use Rattle.wide.specs.Rounding.{≤-ceiling}
 use Rattle.bracket.specs.Bracket.{Stands, RelativeWidth}
 use Rattle.bracket.specs.Rounded.{rounded_down-≤, rounded_up-≥, rounded_outward_stands, Near, rounded_outward_near}
 use Rattle.exponential.specs.StoredBrackets.{exp_rounded, stored_scale, stored_depth, stored_bracket, stored_limit, stored_width, StoredPromised}
-use Rattle.exponential.specs.StoredBrackets.{stored_high, stored_at_most, StoredBrackets, low_holds, high_holds, holds_stored, over_stored_scale}
 
 -- WHAT IS ROUNDED lies outside the estimates of its own depth
 module _ (scale : ℕ) (positive : 0 < scale) (d : ℕ) (x : SignedExponent) where

@@ -1,20 +1,11 @@
 -- A stored bracket keeps its promise for every exponent of the range, and a table that passes its test has the bracket of each of its
 -- exponents.
-use Rattle.std.specs.Prelude.{ℕ, suc, ◌+◌, ◌*◌, ◌^◌, ◌≤◌, ◌<◌, ◌≡◌, List, T, get_or}
-use Rattle.std.proofs.Common.{le_refl, le_trans, mul-le-mul_left, mul-le-mul_right, arith, leb→le, eqb→eq, lit<}
-use Rattle.std.proofs.Math.Dec.{lit≤}
+use Rattle.std.specs.Prelude.{ℕ, ◌+◌, ◌*◌, ◌≤◌, ◌<◌, ◌≡◌, List, T, get_or}
+use Rattle.std.proofs.Common.{le_refl, leb→le, eqb→eq}
 use Rattle.laws.specs.Table.{both, both_left, both_right, all_below_lem}
-use Rattle.estimate.specs.Fraction.{Fraction, fraction, ◌≤ᶠ◌, whole, inverse, ten_thousandths}
-use Rattle.estimate.specs.FractionLaws.{≤ᶠ-trans}
-use Rattle.estimate.specs.Exponential.{term_num, term_den, sum_num, partial_sum, sum_with_tail, exp_under, exp_over, exp_neg_under, exp_neg_over}
-use Rattle.estimate.specs.ExponentialLaws.{term_mono, one-≤-partial_sum}
-use Rattle.estimate.specs.ExponentialBounds.{exp_under-≥-one, exp_under-≤-own_over, exp_under_mono}
-use Rattle.estimate.specs.SignedExponent.{SignedExponent, Plus, Minus, size, signed_exp_under, signed_exp_over}
-use Rattle.estimate.proofs.SignedExponent.{signed_under-≤-over}
-use Rattle.wide.specs.Rounding.{≤-ceiling}
-use Rattle.bracket.specs.Bracket.{Stands, RelativeWidth}
-use Rattle.bracket.specs.Rounded.{rounded_down-≤, rounded_up-≥, rounded_outward_stands, Near, rounded_outward_near}
-use Rattle.exponential.specs.StoredBrackets.{exp_rounded, stored_scale, stored_depth, stored_bracket, stored_limit, stored_width, StoredPromised}
+use Rattle.estimate.specs.Fraction.{Fraction}
+use Rattle.estimate.specs.SignedExponent.{SignedExponent}
+use Rattle.exponential.specs.StoredBrackets.{stored_bracket}
 use Rattle.exponential.specs.StoredBrackets.{stored_high, stored_at_most, StoredBrackets, low_holds, high_holds, holds_stored, over_stored_scale}
 
 -- its high end bounds it

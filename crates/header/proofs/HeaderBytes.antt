@@ -1,15 +1,13 @@
 -- Laws of HeaderBytes in specs/.
-use Rattle.std.specs.Prelude.{◌≡◌, refl, true, List, [], ◌∷◌, ◌++◌, ℕ, suc, ◌+◌, ◌≤◌, length, take, drop}
-use Rattle.std.proofs.Common.{arith, length-drop, drop-drop, take-add, get_or-drop}
-use Rattle.site.specs.Record.{word}
+use Rattle.std.specs.Prelude.{◌≡◌, refl, true, List, ◌∷◌, ◌++◌, ℕ}
+use Rattle.std.proofs.Common.{arith}
 use Rattle.site.specs.Writing.{two_bytes}
-use Rattle.site.specs.Digits.{Bytes, two_bytes_lem, bytes_of_word}
+use Rattle.site.specs.Digits.{Bytes, two_bytes_lem}
 use Rattle.site.specs.Bytes.{bytes_cons, bytes_append, two_bytes_of}
 use Rattle.header.specs.declared.Header.{Header}
 use Rattle.site.specs.Rules.{edition_known}
 use Rattle.header.specs.Layout.{BytesByHeader}
-use Rattle.header.specs.Header.{header_length, header_in, count_in, admits, header_bytes}
-use Rattle.header.specs.Causes.{HeaderAccepted}
+use Rattle.header.specs.Header.{header_in, count_in, admits, header_bytes}
 use Rattle.header.proofs.HeaderLaws.{admitted, tests_accept}
 use Rattle.header.specs.HeaderLaws.{edition_few}
 use Rattle.header.specs.HeaderBytes.{HeaderRead}

@@ -6,13 +6,13 @@ use Rattle.std.proofs.Math.Bool.{true, false, true≢false}
 use native.Mathlib.Omega.{arith}
 use borrow.Author.Tests.{ltb-true, ltb-false, lt-ltb, le-ltb, leb-true, le-leb}
 use Rattle.laws.specs.Truth.{and_left, and_right, passed, never_so}
-use Rattle.site.specs.Rules.{inside, last_edition, edition_known, years_known}
+use Rattle.site.specs.Rules.{inside, edition_known, years_known}
 use Rattle.site.specs.Record.{word}
 use Rattle.site.proofs.Tested.{unknown_neither, neither_unknown, known_either}
 use Rattle.site.specs.Tested.{years_exactly}
 use Rattle.header.specs.declared.Header.{Header}
-use Rattle.header.specs.Layout.{byte, HeaderByBytes, HeaderOfValues}
-use Rattle.header.specs.Header.{header_length, edition_in, header_of, header_in, count_in, most_calibration, most_sites}
+use Rattle.header.specs.Layout.{byte, HeaderByBytes}
+use Rattle.header.specs.Header.{header_length, edition_in, header_in, count_in, most_calibration, most_sites}
 use Rattle.header.specs.Header.{in_limits, admits, header_number}
 use Rattle.header.specs.Causes.{HeaderWithin}
 use Rattle.header.specs.Causes.{WithinLimits, HeaderCause, header_cut, header_edition, header_limits, HeaderAccepted}

@@ -1,16 +1,12 @@
 -- A header that is written reads back, and one that is read is written again as the same bytes.
-use Rattle.std.specs.Prelude.{◌≡◌, refl, true, List, [], ◌∷◌, ◌++◌, ℕ, suc, ◌+◌, ◌≤◌, length, take, drop}
+use Rattle.std.specs.Prelude.{◌≡◌, List, [], ◌∷◌, ℕ, suc, ◌+◌, ◌≤◌, length, take, drop}
 use Rattle.std.proofs.Common.{arith, length-drop, drop-drop, take-add, get_or-drop}
 use Rattle.site.specs.Record.{word}
 use Rattle.site.specs.Writing.{two_bytes}
-use Rattle.site.specs.Digits.{Bytes, two_bytes_lem, bytes_of_word}
-use Rattle.site.specs.Bytes.{bytes_cons, bytes_append, two_bytes_of}
+use Rattle.site.specs.Digits.{Bytes, bytes_of_word}
 use Rattle.header.specs.declared.Header.{Header}
-use Rattle.site.specs.Rules.{edition_known}
-use Rattle.header.specs.Layout.{BytesByHeader}
-use Rattle.header.specs.Header.{header_length, header_in, count_in, admits, header_bytes}
+use Rattle.header.specs.Header.{header_length, header_in, count_in, header_bytes}
 use Rattle.header.specs.Causes.{HeaderAccepted}
-use Rattle.header.specs.HeaderLaws.{edition_few}
 
 -- what a list says of its header
 pub record HeaderRead (header : Header) (sites : ℕ) (s : List ℕ) : Type 0 where

@@ -1,7 +1,6 @@
 -- Laws of LineLaws in specs/.
 use Rattle.std.specs.Prelude.{ℕ, ◌+◌, ◌*◌, ◌≤◌, ◌<◌, ◌≡◌}
 use Rattle.std.proofs.Common.{ap, mul-le-mul_left, mul-le-mul_right, le_of_mul-le-mul_right, arith}
-use Rattle.std.proofs.Math.Decide.{dec_le}
 use Rattle.estimate.specs.Fraction.{Fraction, millionths}
 use Rattle.estimate.specs.Standing.{Between}
 use Rattle.site.specs.declared.values.Site.{Site}
@@ -14,8 +13,6 @@ use Rattle.model.specs.Coefficients.{Coefficients, coefficients_of}
 use Rattle.site.specs.Numbers.{number}
 use Rattle.model.specs.Expected.{with_history, expected_low, expected_high, overdispersion_of, expected_under, expected_over}
 use Rattle.model.proofs.ExpectedLaws.{expected_low_right, expected_high_right, expected_in_order, expected_width}
-use Rattle.model.proofs.ExpectedLaws.{history-≤-expected_low, expected_low-≤-prediction, history-≤-expected_high, expected_high-≤-prediction}
-use Rattle.model.proofs.ExpectedLaws.{prediction-≤-expected_low, expected_low-≤-history, prediction-≤-expected_high, expected_high-≤-history}
 use Rattle.model.specs.StatedWidths.{width_parts, predicted_each, expected_each, sites_counted, crashes_counted}
 use Rattle.model.specs.CountedWidth.{CountedWidth, counted_narrow}
 use Rattle.model.specs.Predicted.{predicted_under, predicted_over}

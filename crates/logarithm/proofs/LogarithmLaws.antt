@@ -13,12 +13,11 @@ use Rattle.estimate.specs.LogarithmLaws.{ln_low_stands, below_ln_over, ln_over_m
 use Rattle.estimate.proofs.LogarithmLaws.{ln_high_stands}
 use Rattle.estimate.specs.Remainder.{ratio}
 use Rattle.bracket.specs.Bracket.{Stands, AbsoluteWidth, logarithm_width}
-use Rattle.bracket.specs.declared.Bracket.{Bracket}
 use Rattle.remainder.specs.Split.{first_factor, second_factor, split_rest, Splits, split_is}
 use Rattle.remainder.specs.Remainder.{scale, log_low, log_high}
 use Rattle.remainder.specs.LogarithmBounds.{log_low_at_least, log_high_at_most, log_in_order, log_near}
 use Rattle.logarithm.specs.Stored.{stored_low, stored_high, stored_low_at_least, stored_high_at_most, stored_in_order, stored_near}
-use Rattle.logarithm.specs.Logarithm.{logarithm_low, logarithm_high, logarithm_bracket, StandingLogarithm}
+use Rattle.logarithm.specs.Logarithm.{logarithm_low, logarithm_high, logarithm_bracket}
 use Rattle.logarithm.specs.LogarithmLaws.{EndSizes}
 
 -- SUMS OF BOUNDS

@@ -1,5 +1,5 @@
 -- Laws of CrashCounts in specs/.
-use Rattle.std.specs.Prelude.{ℕ, zero, suc, ◌+◌, ◌*◌, ◌≤◌, ◌<◌, ◌≡◌, Bool, leb, eqb, replicate}
+use Rattle.std.specs.Prelude.{ℕ, ◌+◌, ◌*◌, ◌≤◌, ◌<◌, ◌≡◌, Bool, leb, eqb, replicate}
 use Rattle.std.proofs.Math.Path.{refl}
 use Rattle.std.proofs.Common.{ap, le_antisymm, le_trans}
 use Rattle.std.proofs.Math.Bool.{true, false, cond}
@@ -11,7 +11,7 @@ use borrow.Author.Tests.{eq-eqb, ne_eqb}
 use Rattle.estimate.specs.Fraction.{Fraction, fraction, whole, ◌÷◌, ◌+ᶠ◌, ◌*ᶠ◌, ◌≤ᶠ◌}
 use Rattle.estimate.specs.FractionLaws.{÷-num, ÷-den, ≤ᶠ-refl, ≤ᶠ-trans, +ᶠ-mono}
 use Rattle.wide.specs.Scaling.{ceiling}
-use Rattle.wide.specs.Rounding.{ceiling_ge, ceiling-≤}
+use Rattle.wide.specs.Rounding.{ceiling_ge}
 use Rattle.site.specs.declared.values.Site.{Site}
 use Rattle.site.specs.declared.values.Slot.TheVariants.{Absent, Number}
 use Rattle.site.specs.Yearly.{yearly, no_later}

@@ -2,14 +2,12 @@
 use Rattle.std.specs.Prelude.{ℕ, ◌+◌, ◌*◌, ◌≤◌, ◌<◌, ◌≡◌}
 use Rattle.std.proofs.Common.{ap, mul-pos, arith}
 use Rattle.std.proofs.Math.Nat.{mul-le-mul_left, mul-le-mul_right}
-use Rattle.estimate.specs.Fraction.{Fraction, fraction, ◌≤ᶠ◌, ◌=ᶠ◌, ◌÷◌, millionths}
+use Rattle.estimate.specs.Fraction.{Fraction, fraction, ◌≤ᶠ◌, ◌÷◌, millionths}
 use Rattle.estimate.specs.FractionLaws.{≤ᶠ-trans}
 use Rattle.estimate.specs.Standing.{LowRight, HighRight}
 use Rattle.wide.specs.Scaling.{floor, ceiling}
 use Rattle.wide.specs.Rounding.{Narrow, floor_le, floor_lt, ceiling_ge, ceiling_lt, ≤-floor, floor-≤, ≤-ceiling, ceiling-≤, scaled_order, rounded_width}
-use Rattle.site.specs.declared.values.Slot.{Slot}
-use Rattle.site.specs.declared.values.Slot.TheVariants.{Absent, Number}
-use Rattle.model.specs.Expected.{weighed, with_history, expected_low, expected_high}
+use Rattle.model.specs.Expected.{weighed, expected_low, expected_high}
 use Rattle.model.specs.ExpectedLaws.{weighed_mono}
 
 -- what a rounding E of a million times n K / D says, times another denominator F

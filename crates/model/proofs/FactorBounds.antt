@@ -1,17 +1,16 @@
 -- Laws of FactorBounds in specs/.
-use Rattle.std.specs.Prelude.{ℕ, ◌+◌, ◌-◌, ◌*◌, ◌≤◌, ◌<◌, Bool, true, false, cond, ◌&&◌, List, [], ◌∷◌, ◌≡◌, refl, T, leb, ltb, eqb, get_or}
-use Rattle.std.proofs.Common.{ap, mul-pos, mul-le-mul, mul-le-mul_right, mul-le-mul_left, arith, ltb→lt, lit<, lit≤, leb-true}
-use Rattle.std.proofs.Math.Dec.{leb→le}
-use Rattle.estimate.specs.Fraction.{Fraction, ◌≤ᶠ◌, fraction, ◌÷◌, whole, ◌^ᶠ◌, leᶠ}
-use Rattle.estimate.specs.FractionLaws.{÷-num, ÷-den, ≤ᶠ-refl, leᶠ-sound}
-use Rattle.laws.specs.Table.{both, both_left, both_right, all_of, entry_of, all_below, all_below_lem}
-use Rattle.model.specs.Coefficients.{Coefficients, at_lanes, edition_one, left_turn_one, right_turn_one, edition_two, left_turn_two, right_turn_two}
-use Rattle.model.specs.Widths.{Column, none, at_traffic, width_unit, lane_columns, lane_column, lane_value, of_related, lane}
-use Rattle.model.specs.Widths.{shoulder_columns, width_at, type_at, shoulder_value, type_value, shoulder_unit, shoulder}
+use Rattle.std.specs.Prelude.{ℕ, ◌+◌, ◌-◌, ◌*◌, ◌≤◌, ◌<◌, ◌&&◌, [], ◌∷◌, ◌≡◌, leb, ltb, eqb}
+use Rattle.std.proofs.Common.{ap, mul-pos, mul-le-mul, mul-le-mul_left, arith, lit<, lit≤, leb-true}
+use Rattle.estimate.specs.Fraction.{fraction, ◌÷◌, whole}
+use Rattle.estimate.specs.FractionLaws.{÷-num, ÷-den, ≤ᶠ-refl}
+use Rattle.laws.specs.Table.{all_of, entry_of}
+use Rattle.model.specs.Coefficients.{Coefficients}
+use Rattle.model.specs.Widths.{width_unit, lane_value, of_related, lane}
+use Rattle.model.specs.Widths.{shoulder_value, type_value, shoulder_unit, shoulder}
 use Rattle.model.proofs.Neighbours.{columns_few}
 use Rattle.model.specs.Alignment.{curve, superelevation}
 use Rattle.model.specs.Access.{access_density, two_way_lane, passing}
-use Rattle.model.specs.Crossings.{left_turn, right_turn, sight}
+use Rattle.model.specs.Crossings.{sight}
 use Rattle.model.specs.Parts.{ExactFactor, Lane, Shoulder, Grade, SteepGrade, TwoWayLane, Passing, Curve, Superelevation}
 use Rattle.model.specs.Parts.{LeftTurn, RightTurn, Sight, exact_value}
 use Rattle.model.specs.FactorBounds.{Bounded, Capped, ExactSized, MeansWithin, by_test, cap_of, is_part, lane_value_within, means_within_lem, one_within, part_within, related_most}

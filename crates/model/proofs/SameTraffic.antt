@@ -1,17 +1,13 @@
 -- Laws of SameTraffic in specs/.
-use Prim.Native.Nat.{ℕ, zero, suc, ◌+◌, ◌-◌, ◌*◌, ◌≤◌, ◌<◌}
-use Rattle.std.specs.Prelude.{◌≡◌, Bool, cond, List, [], ◌∷◌, get_or, eqb}
+use Prim.Native.Nat.{ℕ, zero, suc, ◌-◌, ◌*◌, ◌≤◌}
+use Rattle.std.specs.Prelude.{◌≡◌, Bool, cond, List, [], ◌∷◌, eqb}
 use Rattle.std.proofs.Math.Path.{refl}
 use Rattle.std.proofs.Common.{ap, le_of_mul-le-mul_right}
 use Rattle.std.proofs.Math.Bool.{true, false}
 use native.Mathlib.Omega.{arith}
 use Rattle.estimate.specs.Fraction.{Fraction, fraction, ◌÷◌, whole, ◌=ᶠ◌, ◌+ᶠ◌, ◌*ᶠ◌}
 use Rattle.site.specs.declared.values.Site.{Site}
-use Rattle.site.specs.declared.values.Slot.TheVariants.{Absent}
-use Rattle.site.specs.Yearly.{yearly, no_later, later_slots}
-use Rattle.site.specs.Numbers.{number}
-use Rattle.site.specs.Record.{site_of}
-use Rattle.site.specs.Writing.{slots_of}
+use Rattle.site.specs.Yearly.{yearly}
 use Rattle.header.specs.declared.Header.{Header}
 use Rattle.model.specs.Coefficients.{Coefficients}
 use Rattle.model.specs.Parts.{Part, Term, exact, term_at, segment_start, segment_parts, crossing_start, crossing_parts, parts_of}

@@ -1,11 +1,10 @@
 -- Laws of TermLaws in specs/.
-use Rattle.std.specs.Prelude.{ℕ, zero, suc, ◌-◌, ◌≤◌, ◌≡◌, refl, Bool, true, false, cond, List, [], ◌∷◌, length}
+use Rattle.std.specs.Prelude.{ℕ, zero, suc, ◌-◌, ◌≤◌, ◌≡◌, refl, Bool, true, false, cond, length}
 use Rattle.std.proofs.Common.{ap, arith}
 use Rattle.site.specs.declared.values.Site.{Site}
 use Rattle.site.specs.Yearly.{yearly}
 use Rattle.header.specs.declared.Header.{Header}
-use Rattle.model.specs.Parts.{Term}
-use Rattle.model.specs.Predicted.{term_of, later_terms, yearly_terms, terms_of}
+use Rattle.model.specs.Predicted.{later_terms, terms_of}
 use Rattle.model.specs.StatedWidths.{sites_counted}
 use Rattle.model.specs.TermLaws.{by_years}
 

@@ -1,26 +1,18 @@
 -- WHAT OBSERVED CRASHES COUNT FOR in the expected width: each as often as its site counts; on a segment of edition 2, 1 + k times that.
 -- In a line they are rounded up once for the site, in the totals once for all sites. The looser readings follow.
-use Rattle.std.specs.Prelude.{ℕ, zero, suc, ◌+◌, ◌*◌, ◌≤◌, ◌<◌, ◌≡◌, Bool, leb, eqb, replicate}
+use Rattle.std.specs.Prelude.{ℕ, zero, suc, ◌+◌, ◌*◌, ◌≤◌, ◌≡◌, leb, eqb, replicate}
 use Rattle.std.proofs.Math.Path.{refl}
-use Rattle.std.proofs.Common.{ap, le_antisymm, le_trans}
-use Rattle.std.proofs.Math.Bool.{true, false, cond}
+use Rattle.std.proofs.Math.Bool.{cond}
 use mathlib.Core.List.{List, [], ◌∷◌}
-use Rattle.std.proofs.Math.Nat.{add-le-add, mul-le-mul_left}
 use native.Mathlib.Omega.{arith}
-use Rattle.std.proofs.Math.Dec.{lit≤}
-use borrow.Author.Tests.{eq-eqb, ne_eqb}
 use Rattle.estimate.specs.Fraction.{Fraction, fraction, whole, ◌÷◌, ◌+ᶠ◌, ◌*ᶠ◌, ◌≤ᶠ◌}
-use Rattle.estimate.specs.FractionLaws.{÷-num, ÷-den, ≤ᶠ-refl, ≤ᶠ-trans, +ᶠ-mono}
-use Rattle.wide.specs.Scaling.{ceiling}
+use Rattle.estimate.specs.FractionLaws.{≤ᶠ-refl, ≤ᶠ-trans, +ᶠ-mono}
 use Rattle.wide.specs.Rounding.{ceiling_ge, ceiling-≤}
 use Rattle.site.specs.declared.values.Site.{Site}
-use Rattle.site.specs.declared.values.Slot.TheVariants.{Absent, Number}
-use Rattle.site.specs.Yearly.{yearly, no_later}
-use Rattle.site.specs.Record.{site_of}
+use Rattle.site.specs.Yearly.{yearly}
 use Rattle.site.specs.Numbers.{number}
-use Rattle.model.specs.Coefficients.{Coefficients, edition_one, edition_two, coefficients_of}
-use Rattle.model.specs.Editions.{by_edition, first_edition, second_edition}
-use Rattle.model.specs.StatedWidths.{sites_counted, crashes_counted, rounded_up, observed_weight, added_up, count_over, sites_counted_in, observed_in}
+use Rattle.model.specs.Coefficients.{edition_two}
+use Rattle.model.specs.StatedWidths.{rounded_up, added_up}
 
 -- ROUNDED UP: the least whole number that is not below
 module _ (count : Fraction) where

@@ -1,16 +1,12 @@
 -- What weighing against a history keeps, for any fraction k: order, standing, width, and that the result lies between the
 -- prediction and the history.
-use Rattle.std.specs.Prelude.{ℕ, ◌+◌, ◌*◌, ◌≤◌, ◌<◌, ◌≡◌}
-use Rattle.std.proofs.Common.{ap, mul-pos, arith}
-use Rattle.std.proofs.Math.Nat.{mul-le-mul_left, mul-le-mul_right}
-use Rattle.estimate.specs.Fraction.{Fraction, fraction, ◌≤ᶠ◌, ◌=ᶠ◌, ◌÷◌, millionths}
-use Rattle.estimate.specs.FractionLaws.{≤ᶠ-trans}
-use Rattle.estimate.specs.Standing.{LowRight, HighRight}
-use Rattle.wide.specs.Scaling.{floor, ceiling}
-use Rattle.wide.specs.Rounding.{Narrow, floor_le, floor_lt, ceiling_ge, ceiling_lt, ≤-floor, floor-≤, ≤-ceiling, ceiling-≤, scaled_order, rounded_width}
+use Rattle.std.specs.Prelude.{ℕ, ◌+◌, ◌*◌}
+use Rattle.std.proofs.Common.{ap, arith}
+use Rattle.std.proofs.Math.Nat.{mul-le-mul_left}
+use Rattle.estimate.specs.Fraction.{Fraction, ◌≤ᶠ◌, ◌=ᶠ◌}
 use Rattle.site.specs.declared.values.Slot.{Slot}
 use Rattle.site.specs.declared.values.Slot.TheVariants.{Absent, Number}
-use Rattle.model.specs.Expected.{weighed, with_history, expected_low, expected_high}
+use Rattle.model.specs.Expected.{weighed, with_history}
 
 -- a larger prediction has a larger expectation
 pub weighed_mono : (k : Fraction) (O : ℕ) {N M : Fraction} → N ≤ᶠ M → weighed k O N ≤ᶠ weighed k O M

@@ -1,19 +1,17 @@
 -- Each exact factor, over its valid range, is positive and at most a cap. A table's bounds are one computed test, and one law
 -- carries it to the entries.
-use Rattle.std.specs.Prelude.{ℕ, ◌+◌, ◌-◌, ◌*◌, ◌≤◌, ◌<◌, Bool, true, false, cond, ◌&&◌, List, [], ◌∷◌, ◌≡◌, refl, T, leb, ltb, eqb, get_or}
-use Rattle.std.proofs.Common.{ap, mul-pos, mul-le-mul, mul-le-mul_right, mul-le-mul_left, arith, ltb→lt, lit<, lit≤, leb-true}
+use Rattle.std.specs.Prelude.{ℕ, ◌+◌, ◌-◌, ◌*◌, ◌≤◌, ◌<◌, Bool, true, false, cond, List, [], ◌≡◌, refl, T, leb, ltb, get_or}
+use Rattle.std.proofs.Common.{mul-le-mul_right, mul-le-mul_left, arith, ltb→lt, lit<, leb-true}
 use Rattle.std.proofs.Math.Dec.{leb→le}
 use Rattle.estimate.specs.Fraction.{Fraction, ◌≤ᶠ◌, fraction, ◌÷◌, whole, ◌^ᶠ◌, leᶠ}
-use Rattle.estimate.specs.FractionLaws.{÷-num, ÷-den, ≤ᶠ-refl, leᶠ-sound}
+use Rattle.estimate.specs.FractionLaws.{÷-num, ÷-den, leᶠ-sound}
 use Rattle.laws.specs.Table.{both, both_left, both_right, all_of, entry_of, all_below, all_below_lem}
 use Rattle.model.specs.Coefficients.{Coefficients, at_lanes, edition_one, left_turn_one, right_turn_one, edition_two, left_turn_two, right_turn_two}
-use Rattle.model.specs.Widths.{Column, none, at_traffic, width_unit, lane_columns, lane_column, lane_value, of_related, lane}
-use Rattle.model.specs.Widths.{shoulder_columns, width_at, type_at, shoulder_value, type_value, shoulder_unit, shoulder}
-use Rattle.model.specs.Alignment.{curve, superelevation}
-use Rattle.model.specs.Access.{access_density, two_way_lane, passing}
-use Rattle.model.specs.Crossings.{left_turn, right_turn, sight}
+use Rattle.model.specs.Widths.{Column, none, at_traffic, lane_columns, lane_column, lane_value}
+use Rattle.model.specs.Widths.{shoulder_columns, width_at, type_at, shoulder_unit}
+use Rattle.model.specs.Crossings.{left_turn, right_turn}
 use Rattle.model.specs.Parts.{ExactFactor, Lane, Shoulder, Grade, SteepGrade, TwoWayLane, Passing, Curve, Superelevation}
-use Rattle.model.specs.Parts.{LeftTurn, RightTurn, Sight, exact_value}
+use Rattle.model.specs.Parts.{LeftTurn, RightTurn, Sight}
 
 -- a factor that is positive and at most a cap
 pub record Capped (cap x : Fraction) : Type 0 where

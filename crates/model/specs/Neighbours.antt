@@ -1,11 +1,7 @@
 -- Twice what a shoulder takes of a table by column, whatever the table holds: its own column's value at 0, 2, 4, 6 and 8 feet, the
 -- mean of its two neighbours at 1, 3, 5 and 7, and the last column's from 8 feet on. And its factor in each of these cases.
-use Rattle.std.specs.Prelude.{ℕ, ◌+◌, ◌*◌, ◌/◌, ◌≤◌, ◌<◌, Bool, true, false, ◌≡◌, refl, leb}
-use Rattle.std.proofs.Common.{arith, le-leb, leb-true, leb-false}
-use Rattle.laws.specs.Table.{all_below, agree_below}
-use Rattle.estimate.specs.Fraction.{Fraction, fraction, ◌÷◌, ◌=ᶠ◌}
-use Rattle.model.specs.Coefficients.{Coefficients}
-use Rattle.model.specs.Widths.{column_below, column_above, twice_mean, width_unit, width_at, type_at, shoulder_value, type_value, of_related, shoulder}
+use Rattle.std.specs.Prelude.{ℕ, ◌≡◌}
+use Rattle.model.specs.Widths.{column_below, column_above}
 
 -- a width with the columns below and above it
 abbrev pub Between : (feet below above : ℕ) → Type 0

@@ -1,24 +1,13 @@
 -- THE YEARS OF A TERM: a product is in proportion to its years, so that a site whose later years all have the traffic of the first has
 -- the estimates of the site without later years, predicted and expected. A sum of terms that are each of all the years has other ones.
-use Prim.Native.Nat.{ℕ, zero, suc, ◌+◌, ◌-◌, ◌*◌, ◌≤◌, ◌<◌}
-use Rattle.std.specs.Prelude.{◌≡◌, Bool, cond, List, [], ◌∷◌, get_or, eqb}
-use Rattle.std.proofs.Math.Path.{refl}
-use Rattle.std.proofs.Common.{ap, le_of_mul-le-mul_right}
-use Rattle.std.proofs.Math.Bool.{true, false}
-use native.Mathlib.Omega.{arith}
-use Rattle.estimate.specs.Fraction.{Fraction, fraction, ◌÷◌, whole, ◌=ᶠ◌, ◌+ᶠ◌, ◌*ᶠ◌}
+use Prim.Native.Nat.{ℕ, ◌+◌, ◌≤◌, ◌<◌}
+use Rattle.std.specs.Prelude.{◌≡◌, get_or}
 use Rattle.site.specs.declared.values.Site.{Site}
 use Rattle.site.specs.declared.values.Slot.TheVariants.{Absent}
-use Rattle.site.specs.Yearly.{yearly, no_later, later_slots}
+use Rattle.site.specs.Yearly.{no_later, later_slots}
 use Rattle.site.specs.Numbers.{number}
 use Rattle.site.specs.Record.{site_of}
 use Rattle.site.specs.Writing.{slots_of}
-use Rattle.header.specs.declared.Header.{Header}
-use Rattle.model.specs.Coefficients.{Coefficients}
-use Rattle.model.specs.Parts.{Part, Term, exact, term_at, segment_start, segment_parts, crossing_start, crossing_parts, parts_of}
-use Rattle.model.specs.Expected.{overdispersion_of, expected_under, expected_over}
-use Rattle.model.specs.ExpectedLaws.{history_same}
-use Rattle.model.specs.Predicted.{product_under, product_over, term_of, year_term, later_terms, yearly_terms, terms_of, sum_under, sum_over, predicted_under, predicted_over}
 
 -- the later year at a place, and every one so many places from a place on, have the traffic of the first, major and minor
 abbrev pub SameAt : Site → (i : ℕ) → Type 0

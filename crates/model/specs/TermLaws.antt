@@ -1,12 +1,10 @@
 -- A SITE'S TERMS, one of all the years or one for each, are as many as the sites that it counts for.
-use Rattle.std.specs.Prelude.{ℕ, zero, suc, ◌-◌, ◌≤◌, ◌≡◌, refl, Bool, true, false, cond, List, [], ◌∷◌, length}
-use Rattle.std.proofs.Common.{ap, arith}
+use Rattle.std.specs.Prelude.{◌≡◌, refl, Bool, true, false, cond, List, [], ◌∷◌}
 use Rattle.site.specs.declared.values.Site.{Site}
 use Rattle.site.specs.Yearly.{yearly}
 use Rattle.header.specs.declared.Header.{Header}
 use Rattle.model.specs.Parts.{Term}
-use Rattle.model.specs.Predicted.{term_of, later_terms, yearly_terms, terms_of}
-use Rattle.model.specs.StatedWidths.{sites_counted}
+use Rattle.model.specs.Predicted.{term_of, yearly_terms, terms_of}
 
 -- what holds of the terms of a site with later years, and of the one term of a site without
 pub by_years : (P : List Term → Type 0) (header : Header) (site : Site) → (yearly site ≡ true → P (yearly_terms header.years site))

@@ -17,7 +17,7 @@ use Rattle.remainder.specs.Remainder.{Exponent, scale, remainder_low, remainder_
 use Rattle.remainder.specs.RemainderLaws.{remainder_low_stands, remainder_high_stands, remainder_near, remainder_near_to_half}
 use Rattle.remainder.specs.RemainderLaws.{remainder_near_whole, remainder_low_near_one, remainder_high_near_one}
 use Rattle.power.specs.Stored.{billion, stored_low, stored_low_stands, stored_high_stands, stored_near, stored_from_one, stored_from_root}
-use Rattle.power.specs.Power.{power_low, power_high, power_bracket, StandingPower}
+use Rattle.power.specs.Power.{power_low, power_high, power_bracket}
 use Rattle.power.specs.PowerWidth.{floor_rounded, ceiling_rounded, at_least, ends_apart, RoundingsWithin, roundings_from_one, roundings_from_roots}
 
 module _ (A p q : ℕ) (from : 1 ≤ A) (to : A ≤ 65536) (e : Exponent p q) where

@@ -1,30 +1,14 @@
 -- Laws of Carrying in specs/.
-use Rattle.std.specs.Prelude.{ℕ, ◌+◌, ◌*◌, ◌≤◌, ◌<◌, ◌≡◌, refl, true, false, List, length, get_or, drop}
-use Rattle.std.proofs.Common.{ap, ◌∙◌, mul-le-mul, add-zero, zero-add, add_assoc, arith, lit<}
-use borrow.Author.Tests.{eq-eqb, ne_eqb}
-use Rattle.bracket.specs.declared.Bracket.{Bracket}
-use Rattle.bracket.specs.declared.carry.CarryAnswer.{CarryAnswer}
-use Rattle.bracket.specs.declared.carry.CarryAnswer.TheVariants.{Carried}
-use Rattle.bracket.specs.Carry.{carried, carried_on, one_by_one}
-use Rattle.bracket.specs.CarryLaws.{one_by_one_lem, carried_append}
-use Rattle.power.specs.Exponents.{exponent_at}
-use Rattle.power.specs.Power.{power_bracket}
+use Rattle.std.specs.Prelude.{ℕ, ◌+◌, ◌≤◌, ◌<◌, ◌≡◌, length, get_or, drop}
+use Rattle.std.proofs.Common.{ap, ◌∙◌, add-zero, zero-add, add_assoc, arith}
 use Rattle.site.specs.declared.values.Site.{Site}
-use Rattle.site.specs.declared.numbers.Segment.{Segment}
-use Rattle.site.specs.declared.numbers.Crossing.{Crossing}
-use Rattle.site.specs.Rules.{most_years}
 use Rattle.site.specs.Writing.{Valid}
-use Rattle.site.specs.Numbers.{segment_of, crossing_of, by_crossing}
-use Rattle.model.specs.Coefficients.{Coefficients, by_kind}
-use Rattle.model.specs.Crossings.{major_exponent, minor_exponent}
-use Rattle.model.specs.Parts.{Factor, Term, straight_factors, curve_factors, segment_factors, crossing_factors}
+use Rattle.model.specs.Coefficients.{Coefficients}
 use Rattle.header.specs.declared.Header.{Header}
-use Rattle.header.specs.Header.{most_calibration}
 use Rattle.header.specs.HeaderLaws.{HeaderWithin}
 use Rattle.model.specs.Predicted.{terms_of}
 use Rattle.prediction.specs.declared.Pair.{Pair}
-use Rattle.prediction.specs.Factors.{brackets_of}
-use Rattle.prediction.specs.Pair.{segment_units, crossing_units, pair_of, segment_pair, crossing_pair, term_pair, plus, sum_pair, predicted_pair, most_predicted}
+use Rattle.prediction.specs.Pair.{term_pair, plus, sum_pair, predicted_pair, most_predicted}
 use Rattle.prediction.specs.Kept.{Rated}
 use Rattle.prediction.proofs.PredictedLaws.{predicted_stands, predicted_small}
 use Rattle.prediction.specs.Terms.{no_term}

@@ -1,15 +1,14 @@
 -- Laws of PredictedLaws in specs/.
-use Rattle.std.specs.Prelude.{ℕ, suc, ◌+◌, ◌*◌, ◌≤◌, ◌≡◌, Bool, cond, length}
+use Rattle.std.specs.Prelude.{ℕ, suc, ◌*◌, ◌≤◌, ◌≡◌, Bool, cond, length}
 use Rattle.std.proofs.Math.Path.{refl}
 use Rattle.std.proofs.Math.Bool.{true, false}
 use mathlib.Core.List.{List, [], ◌∷◌, ◌++◌, map, map-map}
 use Rattle.std.proofs.Common.{mul-le-mul, mul-le-mul_right, pos_of_ne-zero, arith, lit<, lit≤, eqb-true}
 use Rattle.std.proofs.Math.Dec.{eqb}
 use Rattle.std.proofs.lemmas.Bool.{eqb-false}
-use Rattle.estimate.specs.Fraction.{Fraction, fraction, ◌=ᶠ◌, ◌÷◌, whole, millionths, ◌+ᶠ◌}
+use Rattle.estimate.specs.Fraction.{Fraction, fraction, ◌÷◌, whole, millionths, ◌+ᶠ◌}
 use Rattle.estimate.specs.FractionLaws.{≤ᶠ-trans, =ᶠ-≤ᶠ, =ᶠ-≥ᶠ, +ᶠ-mono}
-use Rattle.estimate.specs.Standing.{LowRight, HighRight}
-use Rattle.wide.specs.Rounding.{Narrow, ceiling-≤}
+use Rattle.wide.specs.Rounding.{ceiling-≤}
 use Rattle.bracket.specs.Bracket.{power_width, exponential_width, logarithm_width}
 use Rattle.bracket.specs.WidthLaws.{narrow_in}
 use Rattle.bracket.specs.declared.carry.CarryAnswer.TheVariants.{Carried}

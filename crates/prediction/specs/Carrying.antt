@@ -1,7 +1,7 @@
 -- What the code takes from the factors: the place of each exponent, a start's products, the list of factors that it went through,
 -- and the sum over a site's terms.
-use Rattle.std.specs.Prelude.{ℕ, ◌+◌, ◌*◌, ◌≤◌, ◌<◌, ◌≡◌, refl, true, false, List, length, get_or, drop}
-use Rattle.std.proofs.Common.{ap, ◌∙◌, mul-le-mul, add-zero, zero-add, add_assoc, arith, lit<}
+use Rattle.std.specs.Prelude.{ℕ, ◌*◌, ◌≤◌, ◌<◌, ◌≡◌, refl, true, false, List}
+use Rattle.std.proofs.Common.{◌∙◌, mul-le-mul, lit<}
 use borrow.Author.Tests.{eq-eqb, ne_eqb}
 use Rattle.bracket.specs.declared.Bracket.{Bracket}
 use Rattle.bracket.specs.declared.carry.CarryAnswer.{CarryAnswer}
@@ -14,21 +14,14 @@ use Rattle.site.specs.declared.values.Site.{Site}
 use Rattle.site.specs.declared.numbers.Segment.{Segment}
 use Rattle.site.specs.declared.numbers.Crossing.{Crossing}
 use Rattle.site.specs.Rules.{most_years}
-use Rattle.site.specs.Writing.{Valid}
 use Rattle.site.specs.Numbers.{segment_of, crossing_of, by_crossing}
 use Rattle.model.specs.Coefficients.{Coefficients, by_kind}
 use Rattle.model.specs.Crossings.{major_exponent, minor_exponent}
 use Rattle.model.specs.Parts.{Factor, Term, straight_factors, curve_factors, segment_factors, crossing_factors}
 use Rattle.header.specs.declared.Header.{Header}
 use Rattle.header.specs.Header.{most_calibration}
-use Rattle.header.specs.HeaderLaws.{HeaderWithin}
-use Rattle.model.specs.Predicted.{terms_of}
-use Rattle.prediction.specs.declared.Pair.{Pair}
 use Rattle.prediction.specs.Factors.{brackets_of}
-use Rattle.prediction.specs.Pair.{segment_units, crossing_units, pair_of, segment_pair, crossing_pair, term_pair, plus, sum_pair, predicted_pair, most_predicted}
-use Rattle.prediction.specs.Kept.{Rated}
-use Rattle.prediction.specs.Terms.{no_term}
-use Rattle.laws.specs.Walk.{next, at_end}
+use Rattle.prediction.specs.Pair.{segment_units, crossing_units, pair_of, segment_pair, crossing_pair, term_pair}
 
 -- by kind, the places of the exponents of major and minor traffic among the powers' five; a segment has none
 abbrev pub major_place : ℕ → ℕ

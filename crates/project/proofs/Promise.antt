@@ -4,7 +4,6 @@ use Rattle.std.proofs.Common.{sym}
 use Rattle.project.specs.declared.ScanAnswer.{ScanAnswer}
 use Rattle.project.specs.declared.ScanAnswer.TheVariants.{Accepted, Refused}
 use Rattle.project.specs.File.{scan_file}
-use Rattle.project.specs.Causes.{FirstInBytes, Whole}
 use Rattle.project.proofs.ScanLaws.{accepted_exactly, refused_exactly}
 use Rattle.project.specs.Promise.{ScanTells, ScansFile}
 

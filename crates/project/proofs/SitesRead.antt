@@ -1,19 +1,17 @@
 -- Laws of SitesRead in specs/.
-use Rattle.std.specs.Prelude.{◌≡◌, true, length, drop}
+use Rattle.std.specs.Prelude.{◌≡◌, drop}
 use Rattle.std.proofs.Math.Path.{refl}
 use Rattle.std.proofs.Common.{ap, sym, subst, ◌∙◌, ⊎_elim, arith}
 use mathlib.Core.List.Memᴰ
-use mathlib.Core.List.{List, ◌∷◌, Memᴰ}
-use Prim.Native.Nat.{ℕ, zero, suc, ◌+◌, ◌<◌, ◌≤◌}
+use mathlib.Core.List.{List, ◌∷◌}
+use Prim.Native.Nat.{ℕ, zero, suc, ◌+◌}
 use Rattle.site.specs.declared.values.Site.{Site}
 use Rattle.site.specs.declared.values.SiteAnswer.{SiteAnswer}
 use Rattle.site.specs.declared.values.SiteAnswer.TheVariants as site
-use Rattle.site.specs.Rules.{edition_known, years_known}
 use Rattle.site.specs.Record.{read_site}
 use Rattle.site.specs.Writing.{Valid}
-use Rattle.site.specs.Accepted.{reading}
 use Rattle.site.proofs.ReadWrite.{read_valid}
-use Rattle.header.specs.Header.{edition_in, in_limits, header_length, header_in, count_in, most_sites}
+use Rattle.header.specs.Header.{edition_in, header_length, count_in}
 use Rattle.header.proofs.HeaderLaws.{accepted_header, accepted_edition, accepted_admitted}
 use Rattle.project.specs.declared.ScanAnswer.TheVariants.{Accepted}
 use Rattle.project.specs.File.{years_in, after_record, scan_records, scan_file, taken, sites_from, sites_in}

@@ -1,6 +1,5 @@
 -- The project file: its records one after another, and what a scan of its bytes answers.
-use Rattle.std.specs.Prelude.{ℕ, zero, suc, ◌+◌, ◌≡◌, cond, List, [], ◌∷◌, length, drop, ltb, eqb}
-use Rattle.std.proofs.Common.{ap, add-zero}
+use Rattle.std.specs.Prelude.{ℕ, zero, suc, ◌+◌, cond, List, [], ◌∷◌, length, drop, ltb, eqb}
 use Rattle.site.specs.declared.values.Site.{Site}
 use Rattle.site.specs.declared.values.SiteAnswer.{SiteAnswer}
 use Rattle.site.specs.declared.values.SiteAnswer.TheVariants as site

@@ -1,27 +1,19 @@
 -- The scan finds the first cause that the bytes show, and accepts a file exactly when there is none.
-use Rattle.std.specs.Prelude.{◌≡◌, Bool, true, false, cond, List, ◌↔◌, length, drop, ltb, eqb}
-use Rattle.std.proofs.Math.Path.{refl}
-use Rattle.std.proofs.Common.{ap, sym, subst, ◌∙◌, length-drop, ltb-true, ltb-false, lt-ltb, le-ltb, eqb-true, eq-eqb, ne_eqb}
-use Prim.Native.Nat.{ℕ, zero, suc, ◌+◌, ◌-◌, ◌<◌, ◌≤◌}
-use native.Mathlib.Omega.{arith}
-use Rattle.std.proofs.lemmas.Bool.{eqb-false}
+use Rattle.std.specs.Prelude.{◌≡◌, true, List}
+use Rattle.std.proofs.Common.{ap, sym, ◌∙◌, eq-eqb, ne_eqb}
+use Prim.Native.Nat.{ℕ}
 use Rattle.laws.specs.Truth.{and_left}
 use Rattle.site.specs.declared.values.Site.{Site}
-use Rattle.site.specs.declared.values.SiteAnswer.{SiteAnswer}
 use Rattle.site.specs.declared.values.SiteAnswer.TheVariants as site
 use Rattle.site.specs.Rules.{years_known}
 use Rattle.site.specs.Answers.{read_number}
 use Rattle.site.specs.Record.{refusal_of, read_site}
-use Rattle.site.proofs.RecordCauses.{refused_by_cause}
 use Rattle.site.specs.Accepted.{number_read}
-use Rattle.site.proofs.Theorems.{read_length}
 use Rattle.header.specs.Header.{edition_in, header_length, count_in, in_limits, header_number}
 use Rattle.header.specs.Causes.{HeaderAccepted}
-use Rattle.header.proofs.HeaderLaws.{header_cause, cause_header, header_not_zero, header_accepted, accepted_header, accepted_admitted}
-use Rattle.project.specs.declared.ScanAnswer.{ScanAnswer}
-use Rattle.project.specs.declared.ScanAnswer.TheVariants.{Accepted, Refused}
-use Rattle.project.specs.File.{years_in, after_record, scan_records, scan_file}
-use Rattle.project.specs.Causes.{Starts, first, next, RecordNumber, BytesAfter, FirstInBytes, in_header, in_record, in_rest, Whole}
+use Rattle.header.proofs.HeaderLaws.{accepted_admitted}
+use Rattle.project.specs.declared.ScanAnswer.TheVariants.{Refused}
+use Rattle.project.specs.File.{years_in, scan_records, scan_file}
 
 -- an accepted header has years that the site reader takes: no record of the file is refused with 4
 pub years_known_lem : (s : List ℕ) → HeaderAccepted s → years_known (years_in s) ≡ true

@@ -1,5 +1,5 @@
 -- Laws of Exactly in specs/.
-use Rattle.std.specs.Prelude.{◌≡◌, Bool, cond, List, ◌↔◌, ℕ, ◌+◌, ◌<◌, ◌≤◌, length}
+use Rattle.std.specs.Prelude.{◌≡◌, Bool, cond, List, ◌↔◌, ℕ, ◌+◌, length}
 use Rattle.std.proofs.Math.Path.{refl}
 use Rattle.std.proofs.Common.{ap, sym, subst}
 use Rattle.std.proofs.Math.Bool.{true, false}
@@ -16,7 +16,7 @@ use Rattle.header.proofs.HeaderLaws.{admitted, admits_both}
 use Rattle.project_writer.specs.declared.course.FileAnswer.{FileAnswer}
 use Rattle.project_writer.specs.declared.course.FileAnswer.TheVariants.{Written, EditionUnknown, OutsideLimits, OutsideRange, TooShort}
 use Rattle.project_writer.specs.ProjectFile.{records_of, file_of, sound_sites, file_answer, file_number, file_value}
-use Rattle.project_writer.specs.Causes.{LimitsKept, FirstOutside, Writable, FileCause, edition_neither, limits_broken, site_outside}
+use Rattle.project_writer.specs.Causes.{LimitsKept, Writable, FileCause, edition_neither, limits_broken, site_outside}
 use Rattle.project_writer.specs.Causes.{space_short, file_fits}
 use Rattle.project_writer.specs.Sound.{none_outside}
 use Rattle.project_writer.proofs.Sound.{all_valid_exactly, first_outside, outside_sound}

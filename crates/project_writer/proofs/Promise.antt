@@ -3,8 +3,7 @@ use Rattle.std.specs.Prelude.{◌≡◌, List, ℕ, length}
 use Rattle.site.specs.declared.values.Site.{Site}
 use Rattle.header.specs.declared.Header.{Header}
 use Rattle.project_writer.specs.declared.course.FileAnswer.{FileAnswer}
-use Rattle.project_writer.specs.ProjectFile.{file_answer, file_number, file_value, buffer_after}
-use Rattle.project_writer.specs.Causes.{FileCause}
+use Rattle.project_writer.specs.ProjectFile.{file_answer, buffer_after}
 use Rattle.project_writer.proofs.Exactly.{cause_of}
 use Rattle.project_writer.specs.Promise.{WritesProject}
 

@@ -1,11 +1,9 @@
 -- Laws of Sound in specs/.
 use Rattle.std.specs.Prelude.{◌≡◌, refl, Bool, true, false, cond, List, [], ◌∷◌, ◌↔◌, ℕ, zero, suc, ◌<◌, ◌≤◌, length, get_or, ltb}
-use Rattle.std.proofs.Common.{ap, arith, ltb-true, ltb-false}
-use mathlib.Core.List.Memᴰ
+use Rattle.std.proofs.Common.{arith, ltb-true, ltb-false}
 use Rattle.laws.specs.Truth.{not_both}
 use Rattle.site.specs.declared.values.Site.{Site}
 use Rattle.site.specs.Writing.{sound, Valid}
-use Rattle.project.specs.SitesRead.{ValidSites}
 use Rattle.project_writer.specs.ProjectFile.{sound_sites}
 use Rattle.project_writer.specs.Causes.{ValidBelow, FirstOutside}
 use Rattle.project_writer.specs.Sound.{sound_most}

@@ -1,11 +1,9 @@
 -- Laws of Walks in specs/.
-use Rattle.std.specs.Prelude.{◌≡◌, refl, Bool, true, false, cond, List, [], ◌∷◌, ◌++◌, ℕ, suc, ◌+◌, ◌<◌, ◌≤◌, length, get_or, take, drop}
-use Rattle.std.proofs.Common.{ap, sym, ◌∙◌, append-nil, append_assoc, add-zero, zero-add, length-append, length-drop, drop-drop}
+use Rattle.std.specs.Prelude.{◌≡◌, refl, Bool, true, false, List, [], ◌∷◌, ◌++◌, ℕ, ◌+◌, ◌<◌, ◌≤◌, length, get_or, take, drop}
+use Rattle.std.proofs.Common.{ap, sym, ◌∙◌, append-nil, append_assoc, zero-add, length-drop, drop-drop}
 use native.Mathlib.Omega.{arith}
-use Rattle.std.proofs.lemmas.List.Edits.{sets, sets-eq}
-use Rattle.std.proofs.Math.Seq.{length-sets}
+use Rattle.std.proofs.lemmas.List.Edits.{sets-eq}
 use Rattle.laws.specs.Walk.{next, at_end}
-use Rattle.laws.specs.Stores.{sets_more}
 use Rattle.site.specs.declared.values.Site.{Site}
 use Rattle.site.specs.declared.values.WriteAnswer.{WriteAnswer}
 use Rattle.site.specs.declared.values.WriteAnswer.TheVariants.{Written}
@@ -13,13 +11,11 @@ use Rattle.site.specs.Writing.{record_of, sound, Valid}
 use Rattle.site.proofs.Theorems.{record_length}
 use Rattle.site.proofs.Written.{length_answered, record_written}
 use Rattle.site.specs.Promises.{WritesSite}
-use Rattle.project_writer.specs.declared.course.FileAnswer.{FileAnswer}
-use Rattle.project_writer.specs.declared.course.FileAnswer.TheVariants.{OutsideRange}
 use Rattle.project_writer.specs.declared.course.Course.{Course}
 use Rattle.project_writer.specs.declared.course.Course.TheVariants.{Measured, Placed, Stopped}
 use Rattle.project_writer.specs.ProjectFile.{records_of, sound_sites}
 use Rattle.project_writer.specs.Course.{step_course, step_buffer, walk_course, walk_buffer, Walks}
-use Rattle.project_writer.specs.Sound.{sound_first, outside_first, all_sound}
+use Rattle.project_writer.specs.Sound.{all_sound}
 use Rattle.project_writer.specs.Walks.{Walked, measured_by, records_length, step_length}
 
 -- WHAT IT NEEDS, where a site is written: that it is valid, and space for its record

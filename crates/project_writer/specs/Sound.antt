@@ -1,13 +1,11 @@
 -- Laws of the count of sound sites: it is the index of the first site outside its range, and the length of a list whose sites are all valid.
-use Rattle.std.specs.Prelude.{◌≡◌, refl, Bool, true, false, cond, List, [], ◌∷◌, ◌↔◌, ℕ, zero, suc, ◌<◌, ◌≤◌, length, get_or, ltb}
-use Rattle.std.proofs.Common.{ap, arith, ltb-true, ltb-false}
+use Rattle.std.specs.Prelude.{◌≡◌, refl, Bool, true, false, cond, List, [], ◌∷◌, ℕ, suc, ◌≤◌, length, ltb}
+use Rattle.std.proofs.Common.{ap, arith, ltb-false}
 use mathlib.Core.List.Memᴰ
-use Rattle.laws.specs.Truth.{not_both}
 use Rattle.site.specs.declared.values.Site.{Site}
 use Rattle.site.specs.Writing.{sound, Valid}
 use Rattle.project.specs.SitesRead.{ValidSites}
 use Rattle.project_writer.specs.ProjectFile.{sound_sites}
-use Rattle.project_writer.specs.Causes.{ValidBelow, FirstOutside}
 
 module _ (edition years : ℕ) (site : Site) (sites : List Site) where
   pub sound_first : sound edition years site ≡ true → sound_sites edition years (site ∷ sites) ≡ suc (sound_sites edition years sites)

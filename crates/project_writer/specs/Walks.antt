@@ -1,24 +1,18 @@
 -- Laws of the walk over the sites: where it ends, and one turn of a loop that walks.
-use Rattle.std.specs.Prelude.{◌≡◌, refl, Bool, true, false, cond, List, [], ◌∷◌, ◌++◌, ℕ, suc, ◌+◌, ◌<◌, ◌≤◌, length, get_or, take, drop}
-use Rattle.std.proofs.Common.{ap, sym, ◌∙◌, append-nil, append_assoc, add-zero, zero-add, length-append, length-drop, drop-drop}
+use Rattle.std.specs.Prelude.{◌≡◌, refl, Bool, true, false, cond, List, [], ◌∷◌, ℕ, suc, ◌+◌, ◌<◌, length, drop}
+use Rattle.std.proofs.Common.{ap, ◌∙◌, add-zero, length-append}
 use native.Mathlib.Omega.{arith}
-use Rattle.std.proofs.lemmas.List.Edits.{sets, sets-eq}
+use Rattle.std.proofs.lemmas.List.Edits.{sets}
 use Rattle.std.proofs.Math.Seq.{length-sets}
-use Rattle.laws.specs.Walk.{next, at_end}
 use Rattle.laws.specs.Stores.{sets_more}
 use Rattle.site.specs.declared.values.Site.{Site}
-use Rattle.site.specs.declared.values.WriteAnswer.{WriteAnswer}
-use Rattle.site.specs.declared.values.WriteAnswer.TheVariants.{Written}
-use Rattle.site.specs.Writing.{record_of, sound, Valid}
-use Rattle.site.proofs.Theorems.{record_length}
-use Rattle.site.proofs.Written.{length_answered, record_written}
-use Rattle.site.specs.Promises.{WritesSite}
+use Rattle.site.specs.Writing.{record_of, sound}
 use Rattle.project_writer.specs.declared.course.FileAnswer.{FileAnswer}
 use Rattle.project_writer.specs.declared.course.FileAnswer.TheVariants.{OutsideRange}
 use Rattle.project_writer.specs.declared.course.Course.{Course}
 use Rattle.project_writer.specs.declared.course.Course.TheVariants.{Measured, Placed, Stopped}
 use Rattle.project_writer.specs.ProjectFile.{records_of, sound_sites}
-use Rattle.project_writer.specs.Course.{step_course, step_buffer, walk_course, walk_buffer, Walks}
+use Rattle.project_writer.specs.Course.{step_buffer, walk_course, walk_buffer, Walks}
 use Rattle.project_writer.specs.Sound.{sound_first, outside_first, all_sound}
 
 pub records_length : (edition : ℕ) (site : Site) (sites : List Site)

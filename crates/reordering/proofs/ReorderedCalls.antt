@@ -1,13 +1,7 @@
 -- Laws of ReorderedCalls in specs/.
 use Rattle.std.specs.Prelude.{ℕ, ◌≡◌, refl, List, length}
 use Rattle.std.proofs.Common.{sym, ◌∙◌}
-use Rattle.laws.specs.Reordering.{Reordering}
-use Rattle.site.specs.declared.values.Site.{Site}
-use Rattle.header.specs.Header.{header_in}
-use Rattle.project.specs.declared.ScanAnswer.TheVariants.{Accepted}
-use Rattle.project.specs.File.{scan_file, sites_in}
-use Rattle.project_writer.specs.ProjectFile.{file_of}
-use Rattle.project_writer.proofs.AnyOrder.{any_order_accepted}
+use Rattle.project.specs.File.{sites_in}
 use Rattle.report.specs.LinesLeft.{ReportLeft}
 use Rattle.unit.specs.ProjectNumbers.{ReadsProject}
 use Rattle.reordering.specs.Reordered.{ReorderedProject, ReorderedReport}

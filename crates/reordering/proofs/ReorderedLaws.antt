@@ -1,13 +1,13 @@
 -- Laws of ReorderedLaws in specs/.
-use Rattle.std.specs.Prelude.{ℕ, zero, suc, ◌+◌, ◌*◌, ◌<◌, ◌≡◌, length, get_or, drop}
+use Rattle.std.specs.Prelude.{ℕ, zero, suc, ◌+◌, ◌*◌, ◌<◌, ◌≡◌, length, get_or}
 use Rattle.std.proofs.Math.Path.{refl}
-use Rattle.std.proofs.Common.{sym, ap, ◌∙◌, get_or-drop, lit<, add-zero, arith}
+use Rattle.std.proofs.Common.{sym, ap, ◌∙◌, add-zero, arith}
 use mathlib.Core.List.{List, map, Permᴰ}
 use Rattle.std.proofs.Math.Nat.{add_left_comm}
 use Rattle.laws.proofs.ReorderingLaws.{reordering_permutes}
 use Rattle.site.specs.declared.values.Site.{Site}
 use Rattle.header.specs.declared.Header.{Header}
-use Rattle.header.specs.Header.{header_length, header_in, count_in}
+use Rattle.header.specs.Header.{header_in, count_in}
 use Rattle.model.specs.Coefficients.{coefficients_of}
 use Rattle.line.specs.declared.Line.{Line}
 use Rattle.line.specs.Line.{site_line}

@@ -1,17 +1,14 @@
 -- Laws of Accepted in specs/.
-use Rattle.std.specs.Prelude.{ℕ, ◌*◌, ◌≤◌, ◌≡◌, refl, length, drop}
-use Rattle.std.proofs.Common.{sym, ap, ◌∙◌, length-append, arith}
-use mathlib.Core.List.{List, [], ◌∷◌, ◌++◌, Memᴰ, append_assoc}
+use Rattle.std.specs.Prelude.{ℕ, ◌≤◌, ◌≡◌, length, drop}
+use Rattle.std.proofs.Common.{sym, ap, ◌∙◌, arith}
+use mathlib.Core.List.{List, ◌++◌, append_assoc}
 use Rattle.std.proofs.lemmas.List.Edits.{sets}
 use Rattle.laws.specs.Stores.{sets_laid}
-use Rattle.site.specs.declared.values.Site.{Site}
-use Rattle.site.specs.Writing.{Valid}
 use Rattle.header.specs.declared.Header.{Header}
 use Rattle.header.specs.Header.{header_length, edition_in, header_in, count_in}
 use Rattle.header.proofs.HeaderLaws.{limits_of, accepted_header}
 use Rattle.model.specs.Coefficients.{coefficients_of}
 use Rattle.prediction.specs.Editions.{edition_rated}
-use Rattle.line.specs.declared.Line.{Line}
 use Rattle.line.proofs.LineLaws.{edition_line, edition_counted}
 use Rattle.line.specs.Weighing.{line_small}
 use Rattle.project.specs.declared.ScanAnswer.TheVariants.{Accepted}
@@ -24,7 +21,7 @@ use Rattle.project.specs.Causes.{report_length}
 use Rattle.laws.specs.Lent.{laid_over}
 use Rattle.report.specs.Report.{coefficients_in, numbers_of, all_numbers, no_line, total_of, report_numbers, lines_in}
 use Rattle.report.specs.Demand.{Demand}
-use Rattle.report.specs.DemandLaws.{AllValid, length_lines}
+use Rattle.report.specs.DemandLaws.{length_lines}
 use Rattle.report.proofs.DemandLaws.{report_each, report_totals}
 use Rattle.report.specs.Fill.{fill_from, fill_report, Fillable}
 use Rattle.report.specs.Accepted.{all_valid, length_report}

@@ -1,6 +1,6 @@
 -- Laws of DemandLaws in specs/.
-use Rattle.std.specs.Prelude.{ℕ, zero, suc, ◌+◌, ◌*◌, ◌<◌, ◌≡◌, refl, length, get_or}
-use Rattle.std.proofs.Common.{ap, ◌∙◌, arith}
+use Rattle.std.specs.Prelude.{ℕ, zero, suc, ◌+◌, ◌<◌, length, get_or}
+use Rattle.std.proofs.Common.{arith}
 use mathlib.Core.List.{List, [], ◌∷◌, ◌++◌, map}
 use Rattle.std.proofs.Math.Dec.{lit≤}
 use Rattle.estimate.specs.Fraction.{Fraction, fraction, ◌÷◌, whole, millionths, ◌+ᶠ◌}
@@ -10,7 +10,7 @@ use Rattle.site.specs.declared.values.Site.{Site}
 use Rattle.site.specs.Writing.{Valid}
 use Rattle.header.specs.declared.Header.{Header}
 use Rattle.model.specs.Coefficients.{Coefficients}
-use Rattle.model.specs.StatedWidths.{width_parts, expected_each, sites_counted, crashes_counted, added_up, count_over, sites_counted_in}
+use Rattle.model.specs.StatedWidths.{width_parts, expected_each, crashes_counted, added_up, count_over, sites_counted_in}
 use Rattle.model.specs.CountedWidth.{CountedWidth, none_counted, counted_adds, counted_narrow}
 use Rattle.prediction.specs.PredictedLaws.{millionths_add}
 use Rattle.line.specs.declared.Line.{Line}

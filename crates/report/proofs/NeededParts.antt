@@ -1,14 +1,12 @@
 -- Laws of NeededParts in specs/.
-use Rattle.std.specs.Prelude.{ℕ, ◌+◌, ◌*◌, ◌≤◌, ◌<◌, ◌≡◌, true, false, cond, ◌⊎◌, List, ◌∷◌, length, get_or}
-use Rattle.std.proofs.Common.{lit≤, arith}
+use Rattle.std.specs.Prelude.{ℕ, ◌+◌, ◌*◌, ◌≤◌, ◌<◌, ◌≡◌, true, false, cond, ◌⊎◌, List, length, get_or}
+use Rattle.std.proofs.Common.{arith}
 use Rattle.wide.specs.Scaling.{ceiling}
 use Rattle.estimate.specs.Fraction.{fraction, ◌÷◌, whole, millionths, ◌≤ᶠ◌, ◌<ᶠ◌}
 use Rattle.estimate.specs.FractionLaws.{not-≤ᶠ-and-<ᶠ, <ᶠ-≤ᶠ-trans, ≤ᶠ-<ᶠ-trans}
 use Rattle.site.specs.declared.values.Site.{Site}
 use Rattle.site.specs.declared.values.Slot.TheVariants.{Number}
 use Rattle.header.specs.Header.{edition_in, header_in}
-use Rattle.site.specs.Rules.{most_years}
-use Rattle.site.specs.LaterLaws.{years_within}
 use Rattle.site.specs.Yearly.{yearly}
 use Rattle.site.specs.Numbers.{number}
 use Rattle.model.specs.Predicted.{predicted_under, predicted_over}
@@ -16,10 +14,8 @@ use Rattle.model.specs.Expected.{expected_under, expected_over}
 use Rattle.model.specs.StatedWidths.{sites_counted}
 use Rattle.model.specs.CrashCounts.{sites_over, crashes_over}
 use Rattle.model.proofs.CrashCounts.{sites_over_lem, counted_at_most}
-use Rattle.model.proofs.TermLaws.{by_count}
 use Rattle.line.proofs.NeededParts as line
 use Rattle.project.specs.File.{years_in, sites_in}
-use Rattle.project.specs.SitesRead.{sites_years}
 use Rattle.report.specs.Report.{coefficients_in}
 use Rattle.report.specs.Demand.{Demand, site_at, sum_of_sites}
 

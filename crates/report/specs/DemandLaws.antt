@@ -3,22 +3,16 @@
 use Rattle.std.specs.Prelude.{ℕ, zero, suc, ◌+◌, ◌*◌, ◌<◌, ◌≡◌, refl, length, get_or}
 use Rattle.std.proofs.Common.{ap, ◌∙◌, arith}
 use mathlib.Core.List.{List, [], ◌∷◌, ◌++◌, map}
-use Rattle.std.proofs.Math.Dec.{lit≤}
-use Rattle.estimate.specs.Fraction.{Fraction, fraction, ◌÷◌, whole, millionths, ◌+ᶠ◌}
-use Rattle.estimate.specs.FractionLaws.{=ᶠ-≤ᶠ, =ᶠ-≥ᶠ}
-use Rattle.estimate.specs.Standing.{Between, smaller_low_right, larger_high_right, low_sum_right, high_sum_right}
 use Rattle.site.specs.declared.values.Site.{Site}
 use Rattle.site.specs.Writing.{Valid}
 use Rattle.header.specs.declared.Header.{Header}
 use Rattle.model.specs.Coefficients.{Coefficients}
-use Rattle.model.specs.StatedWidths.{width_parts, expected_each, sites_counted, crashes_counted, added_up, count_over, sites_counted_in}
-use Rattle.model.specs.CountedWidth.{CountedWidth, none_counted, counted_adds, counted_narrow}
-use Rattle.prediction.specs.PredictedLaws.{millionths_add}
+use Rattle.model.specs.StatedWidths.{width_parts, expected_each, sites_counted, crashes_counted}
+use Rattle.model.specs.CountedWidth.{CountedWidth}
 use Rattle.line.specs.declared.Line.{Line}
 use Rattle.line.specs.Line.{site_line}
-use Rattle.line.specs.Stands.{LineStands}
-use Rattle.report.specs.Report.{numbers_of, all_numbers, no_line, total_of}
-use Rattle.report.specs.Demand.{line_at, site_at, TotalsStand}
+use Rattle.report.specs.Report.{numbers_of, all_numbers, no_line}
+use Rattle.report.specs.Demand.{line_at}
 
 -- the lines of a report by index: the first, and the ones after it
 next_line : (line : Line) (numbers : List ℕ) (i : ℕ) → line_at (numbers_of line ++ numbers) (suc i) ≡ line_at numbers i

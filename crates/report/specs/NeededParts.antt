@@ -1,28 +1,14 @@
 -- EVERY PART OF DEMAND 3 IS NEEDED: a report that fails one part, at one site or in its totals, does not meet the demand. The
 -- numbers of the report are named by their index, and the widths are written out.
-use Rattle.std.specs.Prelude.{ℕ, ◌+◌, ◌*◌, ◌≤◌, ◌<◌, ◌≡◌, true, false, cond, ◌⊎◌, List, ◌∷◌, length, get_or}
+use Rattle.std.specs.Prelude.{ℕ, ◌≤◌, ◌<◌, List, ◌∷◌, length}
 use Rattle.std.proofs.Common.{lit≤, arith}
-use Rattle.wide.specs.Scaling.{ceiling}
-use Rattle.estimate.specs.Fraction.{fraction, ◌÷◌, whole, millionths, ◌≤ᶠ◌, ◌<ᶠ◌}
-use Rattle.estimate.specs.FractionLaws.{not-≤ᶠ-and-<ᶠ, <ᶠ-≤ᶠ-trans, ≤ᶠ-<ᶠ-trans}
-use Rattle.site.specs.declared.values.Site.{Site}
-use Rattle.site.specs.declared.values.Slot.TheVariants.{Number}
-use Rattle.header.specs.Header.{edition_in, header_in}
 use Rattle.site.specs.Rules.{most_years}
 use Rattle.site.specs.LaterLaws.{years_within}
-use Rattle.site.specs.Yearly.{yearly}
-use Rattle.site.specs.Numbers.{number}
-use Rattle.model.specs.Predicted.{predicted_under, predicted_over}
-use Rattle.model.specs.Expected.{expected_under, expected_over}
 use Rattle.model.specs.StatedWidths.{sites_counted}
-use Rattle.model.specs.CrashCounts.{sites_over, crashes_over}
-use Rattle.model.proofs.CrashCounts.{sites_over_lem, counted_at_most}
 use Rattle.model.proofs.TermLaws.{by_count}
-use Rattle.line.proofs.NeededParts as line
 use Rattle.project.specs.File.{years_in, sites_in}
 use Rattle.project.specs.SitesRead.{sites_years}
-use Rattle.report.specs.Report.{coefficients_in}
-use Rattle.report.specs.Demand.{Demand, site_at, sum_of_sites}
+use Rattle.report.specs.Demand.{Demand, site_at}
 
 -- a site of a project counts as ten sites at most
 counts_most : (bytes : List ℕ) (i : ℕ) → 0 < length (sites_in bytes) → sites_counted (years_in bytes) (site_at (sites_in bytes) i) ≤ most_years

@@ -1,7 +1,6 @@
 -- Laws of Curve in specs/.
-use Rattle.std.specs.Prelude.{◌≡◌, refl, Bool, true, false, cond, ◌&&◌, ◌||◌, not, ℕ, zero, suc, ◌/◌, ◌≤◌}
+use Rattle.std.specs.Prelude.{◌≡◌, refl, Bool, true, false, cond, ◌&&◌, ◌||◌, not, ℕ, ◌/◌, ◌≤◌}
 use Rattle.std.proofs.Common.{sym, ◌∙◌, true≢false, div-one}
-use Rattle.std.specs.Bool.{beq}
 use Rattle.std.proofs.lemmas.Bool.{not-false}
 use Rattle.site.specs.Rules.{entries_by, entries_of, last_kind, segment, settle}
 use Rattle.site.specs.Record.{any_field, misses, curved, rules_read}

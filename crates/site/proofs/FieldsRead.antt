@@ -1,6 +1,6 @@
 -- Laws of FieldsRead in specs/.
-use Rattle.std.specs.Prelude.{◌≡◌, refl, Bool, true, false, cond, ◌&&◌, List, [], ◌∷◌, ◌↔◌, ℕ, zero, suc, ◌*◌, ◌%◌, ◌<◌, ◌≤◌, get_or, drop, ltb, leb, eqb}
-use Rattle.std.proofs.Common.{ap, sym, ◌∙◌, inl, inr, lt_of_not-le, arith, ltb-true, leb-true, eqb-true, ne_eqb}
+use Rattle.std.specs.Prelude.{◌≡◌, refl, Bool, true, false, cond, List, [], ◌∷◌, ◌↔◌, ℕ, zero, suc, ◌*◌, ◌%◌, ◌<◌, ◌≤◌, get_or, drop, leb, eqb}
+use Rattle.std.proofs.Common.{ap, sym, ◌∙◌, inl, inr, arith, leb-true, eqb-true}
 use Rattle.std.proofs.Math.Nat.{mod-one}
 use Rattle.site.specs.declared.rules.Rule.{Rule}
 use Rattle.site.specs.declared.rules.Rule.TheVariants.{Foreign, Lacking, Needed, Optional, Default}
@@ -10,14 +10,14 @@ use Rattle.site.specs.declared.values.Slot.{Slot}
 use Rattle.site.specs.declared.values.Slot.TheVariants.{Absent, Number}
 use Rattle.site.specs.declared.values.Site.{Site}
 use Rattle.site.specs.declared.values.SiteAnswer.TheVariants.{Read}
-use Rattle.site.specs.Rules.{segment, has_sight, entries_by, entries_of, last_kind, later_years, inside, allows, absent_of, needed, lacking, bits}
-use Rattle.site.specs.Rules.{settled, settle, holds}
+use Rattle.site.specs.Rules.{segment, entries_by, entries_of, last_kind, later_years, inside, absent_of, needed, lacking}
+use Rattle.site.specs.Rules.{settled, settle}
 use Rattle.site.specs.Record.{any_field, lacked_bit_stands, lacks, misses, curved, rules_read, word, words, value_number}
 use Rattle.site.specs.Record.{fields_number, fields_values, kind_in, field_map_in, rules_in, later_in, later_minor_in, fields_in, later_at, later_minor_at, later_read}
 use Rattle.site.specs.Record.{later_allowed, length_in, site_in, read_site}
 use Rattle.site.specs.Fields.{Absence, never, no_number, usual, on_curve, Field, lacked, field, Row, bit, segment_rows, rows_by, rows_of, field_at}
-use Rattle.site.specs.Fields.{map_bits, lacked_from, lacked_of, lacked_bits, field_in, others_by, others_of, bit_at, standing, value_at, number_at, in_range}
-use Rattle.site.specs.Fields.{is_usual, spells_default, AbsentAs, FieldRead, BitRead, LaterYears, AllAbsent, FieldsRead}
+use Rattle.site.specs.Fields.{map_bits, field_in, others_by, others_of, bit_at, standing, value_at, number_at}
+use Rattle.site.specs.Fields.{is_usual, AbsentAs, FieldRead, BitRead, LaterYears, AllAbsent, FieldsRead}
 use Rattle.site.specs.Writing.{slots_of}
 use Rattle.laws.specs.Truth.{and_left, and_right, or_left, or_right, not_both, never_so}
 use Rattle.site.specs.Tested.{by_rules, tested_rules}
@@ -27,7 +27,7 @@ use Rattle.site.specs.ReadWrite.{value_taken}
 use Rattle.site.proofs.ReadWrite.{no_miss, between, slots_again, later_slots_again, minor_slots_again, yearly_again}
 use Rattle.site.proofs.PlaceLaws.{passes_both, number_of}
 use Rattle.site.specs.PlaceLaws.{later_of, minor_of, end_of}
-use Rattle.site.specs.BitLaws.{yearly_told, later_told_lem, minor_told, bit_rules, bit_slots, with_bits, listed, EachHasBit, words_listed, value_at_lem, needed_stands}
+use Rattle.site.specs.BitLaws.{yearly_told, later_told_lem, minor_told, bit_rules, bit_slots, with_bits, listed, words_listed, value_at_lem, needed_stands}
 use Rattle.site.specs.BitLaws.{BitsTell, bits_tell, all_right, StandingBit, Past, lacked_found, lacked_told, standing_past, same_road}
 use Rattle.site.proofs.Curve.{curved_by_six}
 use Rattle.site.specs.FieldsRead.{ByBits, RuleTells, among, bits_held, each_has_bit, lacked_past, rule_at, rule_for, rules_at, rules_of_bit, wrong_number}

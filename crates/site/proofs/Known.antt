@@ -1,12 +1,7 @@
 -- Laws of Known in specs/.
-use Rattle.std.specs.Prelude.{◌≡◌, refl, true, List, [], ◌∷◌, ℕ, ◌-◌, ◌*◌}
-use Rattle.std.proofs.Common.{arith}
-use Rattle.site.specs.declared.values.Slot.TheVariants.{Absent, Number}
-use Rattle.site.specs.declared.values.Site.{Site}
-use Rattle.site.specs.declared.values.SiteAnswer.TheVariants.{Read}
-use Rattle.site.specs.Rules.{entries_of, edition_known, years_known}
-use Rattle.site.specs.Yearly.{no_later}
-use Rattle.site.specs.Record.{any_field, words, fields_number, fields_values, site_of, later_read, later_allowed, site_in, record_number, refusal_of, read_site}
+use Rattle.std.specs.Prelude.{refl}
+use Rattle.site.specs.Rules.{entries_of}
+use Rattle.site.specs.Record.{any_field, words, fields_number, fields_values, later_read, later_allowed, record_number, refusal_of, read_site}
 use Rattle.site.specs.Known.{SightRead, hidden, turn_off}
 
 pub sight_read : SightRead

@@ -5,12 +5,12 @@ use Rattle.std.proofs.Common.{◌∙◌, arith}
 use Rattle.std.proofs.Math.Bool.{not-not}
 use borrow.Author.Tests.{eqb-true, eqb-false, eq-eqb, ne_eqb}
 use Rattle.site.specs.declared.values.SiteAnswer.TheVariants.{Refused}
-use Rattle.site.specs.Rules.{last_kind, edition_known, years_known, traffic, allows}
+use Rattle.site.specs.Rules.{traffic, allows}
 use Rattle.site.proofs.Tested.{unknown_neither, neither_unknown}
 use Rattle.site.specs.Answers.{read_number}
-use Rattle.site.specs.Record.{word, lacks, words, fields_number, kind_in, map_in, field_map_in, rules_in, later_in, later_minor_in, fields_in, later_at, later_minor_at}
+use Rattle.site.specs.Record.{word, lacks, words, fields_number, kind_in, field_map_in, rules_in, later_in, later_minor_in, fields_in, later_at, later_minor_at}
 use Rattle.site.specs.Record.{later_allowed, all_later_allowed, length_in, yearly_in_one, misses_in, refusal_of, read_site}
-use Rattle.site.specs.Fields.{Field, lacked, map_bits, rows_of, field_at, field_in, bit_at, standing, numbers_in, value_at, number_at, fields_end, in_range}
+use Rattle.site.specs.Fields.{Field, map_bits, rows_of, field_at, field_in, bit_at, standing, numbers_in, value_at, number_at, fields_end, in_range}
 use Rattle.site.specs.Fields.{spells_default}
 use Rattle.laws.specs.Truth.{and_left, and_right, not_both, never_so, never_false, both_true}
 use Rattle.site.specs.Accepted.{HeadPresent, MapPasses, Tried, edition_unknown, years_unknown, head_short, kind_unknown, map_lacks}

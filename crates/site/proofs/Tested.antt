@@ -1,19 +1,10 @@
 -- Laws of Tested in specs/.
-use Rattle.std.specs.Prelude.{◌≡◌, refl, Bool, true, false, ◌&&◌, ◌||◌, not, List, [], ◌∷◌, ◌↔◌, ◌⊎◌, ℕ, zero, suc, ◌+◌, ◌<◌, ◌≤◌, length, get_or, leb, ltb, eqb}
-use Rattle.std.proofs.Common.{sym, ◌∙◌, true≢false, inl, inr, arith, eqb-true, leb-true, le-leb}
+use Rattle.std.specs.Prelude.{◌≡◌, refl, true, false, ◌↔◌, ◌⊎◌, ℕ, zero, suc, ◌<◌, leb}
+use Rattle.std.proofs.Common.{true≢false, inl, inr, arith}
 use Rattle.std.proofs.Math.Bool.{and-false}
-use Rattle.std.proofs.lemmas.List.{length-map}
 use Rattle.std.proofs.lemmas.Bool.{lt-leb}
-use Rattle.site.specs.declared.rules.Rule.{Rule}
-use Rattle.site.specs.declared.rules.Rule.TheVariants.{Foreign, Lacking, Needed, Optional, Default}
-use Rattle.site.specs.declared.rules.Entry.{Entry}
-use Rattle.site.specs.declared.rules.Entry.TheVariants.{Always, OnCurve}
-use Rattle.site.specs.declared.values.Slot.TheVariants.{Absent}
-use Rattle.site.specs.Rules.{has_sight, entries_by, entries_of, last_kind, edition_known, most_years, years_known, slot_count, allows, absent_of, needed, lacking, bits}
-use Rattle.site.specs.Rules.{rule_of, on_curve, settled, settle}
-use Rattle.site.specs.Writing.{fits}
-use Rattle.site.specs.LaterLaws.{years_within}
-use Rattle.laws.specs.Truth.{and_left, and_right, not_both}
+use Rattle.site.specs.Rules.{edition_known}
+use Rattle.laws.specs.Truth.{not_both}
 
 -- 1 and 2 are the editions
 pub unknown_neither : (edition : ℕ) → edition_known edition ≡ false → (edition ≡ 1 → ⊥) × (edition ≡ 2 → ⊥)

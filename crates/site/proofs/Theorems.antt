@@ -1,25 +1,21 @@
 -- Laws of Theorems in specs/.
 use Rattle.std.proofs.Math.Path.{◌≡◌, refl}
-use Rattle.std.proofs.Common.{ap, ◌∙◌, append-nil, arith, length-take-le, lit≤}
-use Rattle.std.specs.Prelude.{Bool, List, [], ◌∷◌, ◌++◌, ◌↔◌, ℕ, ◌+◌, ◌<◌, ◌≤◌, take, ltb}
+use Rattle.std.proofs.Common.{ap, ◌∙◌, append-nil, arith, length-take-le}
+use Rattle.std.specs.Prelude.{Bool, List, [], ◌++◌, ◌↔◌, ℕ, ◌<◌, ◌≤◌, take}
 use Rattle.std.proofs.Math.Bool.{true, false, cond}
 use Rattle.std.proofs.Math.ListN.{length, drop}
 use Rattle.std.proofs.Math.Dec.{leb, eqb}
-use borrow.Author.Tests.{ltb-false, leb-true, leb-false, le-leb, lt-leb, eqb-true}
-use Rattle.site.specs.declared.rules.Rule.{Rule}
+use borrow.Author.Tests.{leb-true, leb-false, le-leb, lt-leb, eqb-true}
 use Rattle.site.specs.declared.values.Site.{Site}
 use Rattle.site.specs.declared.values.SiteAnswer.TheVariants.{Read}
 use Rattle.site.specs.declared.values.Measure.TheVariants.{Length, OutsideRange}
 use Rattle.site.specs.declared.values.WriteAnswer.TheVariants.{Written, Unwritten}
-use Rattle.site.specs.Rules.{segment, entries_by, entries_of, last_kind, edition_known, years_known, later_years, bits, settle}
-use Rattle.site.specs.Yearly.{later_minor}
-use Rattle.site.specs.Record.{curved, rest_of, words, kind_in, field_map_in, rules_in, later_in, length_in, read_site}
+use Rattle.site.specs.Rules.{edition_known, years_known}
+use Rattle.site.specs.Record.{kind_in, field_map_in, read_site}
 use Rattle.site.specs.Writing.{record_of, sound_site, sound, Valid, measure_of, write_refusal, write_answer, write_into}
-use Rattle.site.specs.Digits.{Bytes, digit_most}
-use Rattle.laws.specs.Truth.{and_left, and_right, or_left, chosen, never_so, not_both}
-use Rattle.site.specs.Tested.{bit_count, by_rules}
-use Rattle.site.specs.Accepted.{words_least, later_most, reading}
-use Rattle.site.specs.BytesRead.{project_known, head_refused, bears}
+use Rattle.site.specs.Digits.{Bytes}
+use Rattle.laws.specs.Truth.{and_left, and_right, chosen, never_so, not_both}
+use Rattle.site.specs.Accepted.{words_least, reading}
 use Rattle.site.proofs.WriteRead.{write_read}
 use Rattle.site.proofs.ReadWrite.{no_miss, read_valid, read_write}
 use Rattle.site.proofs.Bytes.{record_bytes}

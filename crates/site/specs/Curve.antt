@@ -1,15 +1,11 @@
 -- Refusal 7 in document 01's own words: "Bits 0 and 1 always stand. Bits 6 and 7 of a segment stand together, and 8 and 9 only
 -- with them".
-use Rattle.std.specs.Prelude.{◌≡◌, refl, Bool, true, false, cond, ◌&&◌, ◌||◌, not, ℕ, zero, suc, ◌/◌, ◌≤◌}
-use Rattle.std.proofs.Common.{sym, ◌∙◌, true≢false, div-one}
+use Rattle.std.specs.Prelude.{◌≡◌, Bool, false, ◌&&◌, ◌||◌, not, ℕ, zero, suc, ◌/◌}
+use Rattle.std.proofs.Common.{div-one}
 use Rattle.std.specs.Bool.{beq}
-use Rattle.std.proofs.lemmas.Bool.{not-false}
-use Rattle.site.specs.Rules.{entries_by, entries_of, last_kind, segment, settle}
-use Rattle.site.specs.Record.{any_field, misses, curved, rules_read}
-use Rattle.site.specs.Fields.{bit_at, road_curves}
-use Rattle.laws.specs.Truth.{and_right}
-use Rattle.site.specs.Tested.{by_rules}
-use Rattle.site.specs.Accepted.{rules_by}
+use Rattle.site.specs.Rules.{segment}
+use Rattle.site.specs.Record.{any_field, curved}
+use Rattle.site.specs.Fields.{bit_at}
 
 -- 6 and 7 stand together, and 8 and 9 only with them
 abbrev pub matched : Bool → Bool → Bool → Bool → Bool

@@ -1,32 +1,18 @@
 -- The rows of document 01 are the table of rules, bit by bit; so a record that is read has the values that they say.
-use Rattle.std.specs.Prelude.{◌≡◌, refl, Bool, true, false, cond, ◌&&◌, List, [], ◌∷◌, ◌↔◌, ℕ, zero, suc, ◌*◌, ◌%◌, ◌<◌, ◌≤◌, get_or, drop, ltb, leb, eqb}
-use Rattle.std.proofs.Common.{ap, sym, ◌∙◌, inl, inr, lt_of_not-le, arith, ltb-true, leb-true, eqb-true, ne_eqb}
-use Rattle.std.proofs.Math.Nat.{mod-one}
+use Rattle.std.specs.Prelude.{◌≡◌, refl, Bool, true, false, cond, ◌&&◌, List, [], ◌∷◌, ℕ, zero, suc, ◌<◌, ◌≤◌, ltb}
+use Rattle.std.proofs.Common.{lt_of_not-le, arith, ltb-true, ne_eqb}
 use Rattle.site.specs.declared.rules.Rule.{Rule}
-use Rattle.site.specs.declared.rules.Rule.TheVariants.{Foreign, Lacking, Needed, Optional, Default}
-use Rattle.site.specs.declared.rules.Entry.{Entry}
-use Rattle.site.specs.declared.rules.Entry.TheVariants.{Always, OnCurve}
-use Rattle.site.specs.declared.values.Slot.{Slot}
-use Rattle.site.specs.declared.values.Slot.TheVariants.{Absent, Number}
-use Rattle.site.specs.declared.values.Site.{Site}
-use Rattle.site.specs.declared.values.SiteAnswer.TheVariants.{Read}
-use Rattle.site.specs.Rules.{segment, has_sight, entries_by, entries_of, last_kind, later_years, inside, allows, absent_of, needed, lacking, bits}
-use Rattle.site.specs.Rules.{settled, settle, holds}
-use Rattle.site.specs.Record.{any_field, lacked_bit_stands, lacks, misses, curved, rules_read, word, words, value_number}
-use Rattle.site.specs.Record.{fields_number, fields_values, kind_in, field_map_in, rules_in, later_in, later_minor_in, fields_in, later_at, later_minor_at, later_read}
-use Rattle.site.specs.Record.{later_allowed, length_in, site_in, read_site}
-use Rattle.site.specs.Fields.{Absence, never, no_number, usual, on_curve, Field, lacked, field, Row, bit, segment_rows, rows_by, rows_of, field_at}
-use Rattle.site.specs.Fields.{map_bits, lacked_from, lacked_of, lacked_bits, field_in, others_by, others_of, bit_at, standing, value_at, number_at, in_range}
-use Rattle.site.specs.Fields.{is_usual, spells_default, AbsentAs, FieldRead, BitRead, LaterYears, AllAbsent, FieldsRead}
-use Rattle.site.specs.Writing.{slots_of}
-use Rattle.laws.specs.Truth.{and_left, and_right, or_left, or_right, not_both, never_so}
-use Rattle.site.specs.Tested.{by_rules, tested_rules}
-use Rattle.site.specs.LaterLaws.{later_given_lem, later_absent, allowed_at}
-use Rattle.site.specs.Accepted.{Accepted, later_most, reading}
-use Rattle.site.specs.ReadWrite.{value_taken}
-use Rattle.site.specs.PlaceLaws.{later_of, minor_of, end_of}
-use Rattle.site.specs.BitLaws.{yearly_told, later_told_lem, minor_told, bit_rules, bit_slots, with_bits, listed, EachHasBit, words_listed, value_at_lem, needed_stands}
-use Rattle.site.specs.BitLaws.{BitsTell, bits_tell, all_right, StandingBit, Past, lacked_found, lacked_told, standing_past, same_road}
+use Rattle.site.specs.declared.rules.Rule.TheVariants.{Lacking, Needed, Optional, Default}
+use Rattle.site.specs.Rules.{has_sight, last_kind, inside, allows, absent_of, lacking, bits}
+use Rattle.site.specs.Rules.{holds}
+use Rattle.site.specs.Record.{lacks, rules_read, words}
+use Rattle.site.specs.Record.{fields_number}
+use Rattle.site.specs.Fields.{Absence, never, no_number, usual, on_curve, Field, lacked, field, Row, bit, rows_by, rows_of, field_at}
+use Rattle.site.specs.Fields.{map_bits, lacked_from, lacked_of, lacked_bits, in_range}
+use Rattle.site.specs.Fields.{is_usual, spells_default}
+use Rattle.laws.specs.Truth.{and_left, and_right}
+use Rattle.site.specs.Tested.{by_rules}
+use Rattle.site.specs.BitLaws.{listed, EachHasBit}
 
 -- the rule that a field has in the table of rules, on a curve or not
 abbrev pub rule_for : (low high : ℕ) → Absence → Bool → Rule

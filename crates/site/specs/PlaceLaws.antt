@@ -1,19 +1,16 @@
 -- Where the numbers of a bit stand in a record with later values: the fields that are gathered, told by bit number.
-use Rattle.std.specs.Prelude.{◌≡◌, refl, true, List, length}
+use Rattle.std.specs.Prelude.{◌≡◌, refl, true, List}
 use Rattle.std.proofs.Math.Path.{ap, sym}
 use Rattle.std.proofs.Common.{◌∙◌, eqb-true}
 use Prim.Native.Nat.{ℕ, zero, suc, ◌+◌, ◌*◌, ◌/◌, ◌%◌, ◌≤◌}
 use native.Mathlib.Omega.{arith}
 use Rattle.std.proofs.Math.ListN.{drop}
 use Rattle.std.proofs.Math.Seq.{drop-drop}
-use Rattle.std.proofs.lemmas.Bool.{not-false}
 use Rattle.site.specs.Yearly.{later_minor}
-use Rattle.site.specs.Record.{word, misses, words, kind_in, field_map_in, rules_in, later_in, later_minor_in, fields_in, later_at, later_minor_at, length_in}
-use Rattle.site.specs.Fields.{map_bits, bit_at, standing, later_told, numbers_of, numbers_below, place_of, value_at, number_at, fields_end}
-use Rattle.laws.specs.Truth.{and_left, and_right, or_left}
-use Rattle.site.specs.LaterLaws.{gathered_first, gathered_second, gathered_rest}
-use Rattle.site.specs.Accepted.{MapPasses}
-use Rattle.site.specs.BitLaws.{later_told_lem, minor_told, word_at}
+use Rattle.site.specs.Record.{word, words, kind_in, field_map_in, rules_in, later_in, later_at, later_minor_at, length_in}
+use Rattle.site.specs.Fields.{map_bits, bit_at, standing, later_told, numbers_of, numbers_below, place_of, value_at, fields_end}
+use Rattle.laws.specs.Truth.{and_left, and_right}
+use Rattle.site.specs.BitLaws.{later_told_lem, minor_told}
 use Rattle.site.specs.Curve.{map_matched}
 
 -- "Bits 0 and 1 always stand"

@@ -1,6 +1,6 @@
 -- What the public calls promise, in one record each, with equations for the answer and for every lent number afterwards.
 use Rattle.std.specs.Prelude.{◌≡◌, refl, Bool, true, false, cond, ◌&&◌, List, ℕ, length, leb, eqb}
-use Rattle.std.proofs.Common.{ap, sym, ◌∙◌, le_refl, le-leb}
+use Rattle.std.proofs.Common.{ap, ◌∙◌, le_refl, le-leb}
 use Rattle.site.specs.declared.values.Site.{Site}
 use Rattle.site.specs.declared.values.SiteAnswer.{SiteAnswer}
 use Rattle.site.specs.declared.values.SiteAnswer.TheVariants.{Read, Refused}
@@ -10,10 +10,10 @@ use Rattle.site.specs.declared.values.WriteAnswer.{WriteAnswer}
 use Rattle.site.specs.declared.values.WriteAnswer.TheVariants.{Written, Unwritten}
 use Rattle.site.specs.Rules.{edition_known, years_known}
 use Rattle.site.specs.Answers.{read_number, read_value, write_number, write_value, measure_number, measure_value, beside}
-use Rattle.site.specs.Record.{length_in, site_in, refusal_of, read_site}
+use Rattle.site.specs.Record.{length_in, refusal_of, read_site}
 use Rattle.site.specs.Fields.{FieldsRead}
 use Rattle.site.specs.Writing.{record_of, sound_site, sound, Valid, measure_of, write_refusal, measure_refusal, write_answer, write_into}
-use Rattle.site.specs.Accepted.{number_of_answer, number_read}
+use Rattle.site.specs.Accepted.{number_of_answer}
 use Rattle.site.specs.RecordCauses.{RecordCause}
 use Rattle.site.specs.Theorems.{RecordLength}
 

@@ -1,29 +1,14 @@
 -- Document 01's causes to refuse the bytes that a record starts, 3 of the edition and 4 of the years, then 1 and 5 to 9, in its own words
 -- and order and by bit number.
 -- The site reader has a number for them exactly where that cause is the first.
-use Rattle.std.proofs.Math.Path.{◌≡◌, ap, sym}
-use Rattle.std.specs.Prelude.{refl, Bool, true, false, cond, ◌&&◌, ◌||◌, not, List, ◌↔◌, ℕ, zero, suc, ◌*◌, ◌<◌, ◌≤◌, length, drop, eqb}
-use Rattle.std.proofs.Common.{◌∙◌, arith}
-use Rattle.std.proofs.Math.Bool.{not-not}
-use borrow.Author.Tests.{eqb-true, eqb-false, eq-eqb, ne_eqb}
-use Rattle.site.specs.declared.values.SiteAnswer.TheVariants.{Refused}
-use Rattle.site.specs.Rules.{last_kind, edition_known, years_known, traffic, allows}
-use Rattle.site.specs.Answers.{read_number}
-use Rattle.site.specs.Record.{word, lacks, words, fields_number, kind_in, map_in, field_map_in, rules_in, later_in, later_minor_in, fields_in, later_at, later_minor_at}
-use Rattle.site.specs.Record.{later_allowed, all_later_allowed, length_in, yearly_in_one, misses_in, refusal_of, read_site}
-use Rattle.site.specs.Fields.{Field, lacked, map_bits, rows_of, field_at, field_in, bit_at, standing, numbers_in, value_at, number_at, fields_end, in_range}
+use Rattle.std.proofs.Math.Path.{◌≡◌}
+use Rattle.std.specs.Prelude.{Bool, true, false, ◌&&◌, not, List, ℕ, ◌<◌, ◌≤◌, length, eqb}
+use Rattle.site.specs.Rules.{last_kind, edition_known, years_known}
+use Rattle.site.specs.Record.{kind_in, map_in, field_map_in}
+use Rattle.site.specs.Fields.{lacked, field_in, bit_at, numbers_in, value_at, number_at, fields_end, in_range}
 use Rattle.site.specs.Fields.{spells_default}
-use Rattle.laws.specs.Truth.{and_left, and_right, not_both, never_so, never_false, both_true}
-use Rattle.site.specs.Accepted.{HeadPresent, MapPasses, Tried, edition_unknown, years_unknown, head_short, kind_unknown, map_lacks}
-use Rattle.site.specs.Accepted.{map_misses, fields_short}
-use Rattle.site.specs.Accepted.{later_refused, fields_tell, fields_long, tried, tried_number, accepted, accept, number_read}
-use Rattle.site.specs.ReadWrite.{value_taken}
-use Rattle.site.specs.BitLaws.{yearly_told, later_told_lem, minor_told, bit_number, BitsTell, none_refused, first_refused, refused_first}
+use Rattle.site.specs.Accepted.{HeadPresent}
 use Rattle.site.specs.Curve.{map_matched}
-use Rattle.site.specs.FieldsRead.{rules_at, bits_held, each_has_bit, among}
-use Rattle.site.specs.FieldsRead.{wrong_number}
-use Rattle.site.specs.LaterLaws.{allowed_at, Outside, some_outside}
-use Rattle.site.specs.PlaceLaws.{BothStand, later_of, minor_of, end_of}
 
 -- no bit stands that the kind lacks
 abbrev pub NoneLacked : (edition : ℕ) → List ℕ → Type 0

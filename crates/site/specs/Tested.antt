@@ -1,19 +1,17 @@
 -- The table of rules passes one test, which every law below rests on: a new field or kind touches the table and this.
-use Rattle.std.specs.Prelude.{◌≡◌, refl, Bool, true, false, ◌&&◌, ◌||◌, not, List, [], ◌∷◌, ◌↔◌, ◌⊎◌, ℕ, zero, suc, ◌+◌, ◌<◌, ◌≤◌, length, get_or, leb, ltb, eqb}
-use Rattle.std.proofs.Common.{sym, ◌∙◌, true≢false, inl, inr, arith, eqb-true, leb-true, le-leb}
-use Rattle.std.proofs.Math.Bool.{and-false}
+use Rattle.std.specs.Prelude.{◌≡◌, refl, Bool, true, false, ◌&&◌, ◌||◌, not, List, [], ◌∷◌, ◌↔◌, ℕ, zero, suc, ◌+◌, ◌≤◌, length, get_or, leb, ltb, eqb}
+use Rattle.std.proofs.Common.{sym, ◌∙◌, true≢false, arith, eqb-true, leb-true, le-leb}
 use Rattle.std.proofs.lemmas.List.{length-map}
-use Rattle.std.proofs.lemmas.Bool.{lt-leb}
 use Rattle.site.specs.declared.rules.Rule.{Rule}
 use Rattle.site.specs.declared.rules.Rule.TheVariants.{Foreign, Lacking, Needed, Optional, Default}
 use Rattle.site.specs.declared.rules.Entry.{Entry}
 use Rattle.site.specs.declared.rules.Entry.TheVariants.{Always, OnCurve}
 use Rattle.site.specs.declared.values.Slot.TheVariants.{Absent}
-use Rattle.site.specs.Rules.{has_sight, entries_by, entries_of, last_kind, edition_known, most_years, years_known, slot_count, allows, absent_of, needed, lacking, bits}
+use Rattle.site.specs.Rules.{has_sight, entries_by, entries_of, last_kind, most_years, years_known, slot_count, allows, absent_of, needed, lacking, bits}
 use Rattle.site.specs.Rules.{rule_of, on_curve, settled, settle}
 use Rattle.site.specs.Writing.{fits}
 use Rattle.site.specs.LaterLaws.{years_within}
-use Rattle.laws.specs.Truth.{and_left, and_right, not_both}
+use Rattle.laws.specs.Truth.{and_left, and_right}
 
 -- a kind is one of four
 pub by_kind : (P : ℕ → Type 0) → P 0 → P 1 → P 2 → P 3 → (kind : ℕ) → kind ≤ last_kind → P kind

@@ -2,27 +2,24 @@
 -- `written_reads_back` and `read_writes_back`; `past_nothing`, `same_for_any` and `one_exactly` of BytesRead say which bytes bear
 -- on an answer.
 use Rattle.std.proofs.Math.Path.{◌≡◌, refl}
-use Rattle.std.proofs.Common.{ap, ◌∙◌, append-nil, arith, length-take-le, lit≤}
-use Rattle.std.specs.Prelude.{Bool, List, [], ◌∷◌, ◌++◌, ◌↔◌, ℕ, ◌+◌, ◌<◌, ◌≤◌, take, ltb}
+use Rattle.std.proofs.Common.{arith, lit≤}
+use Rattle.std.specs.Prelude.{Bool, List, [], ◌∷◌, ℕ, ◌+◌, ◌≤◌, ltb}
 use Rattle.std.proofs.Math.Bool.{true, false, cond}
-use Rattle.std.proofs.Math.ListN.{length, drop}
-use Rattle.std.proofs.Math.Dec.{leb, eqb}
-use borrow.Author.Tests.{ltb-false, leb-true, leb-false, le-leb, lt-leb, eqb-true}
+use Rattle.std.proofs.Math.ListN.{length}
+use Rattle.std.proofs.Math.Dec.{eqb}
+use borrow.Author.Tests.{ltb-false}
 use Rattle.site.specs.declared.rules.Rule.{Rule}
 use Rattle.site.specs.declared.values.Site.{Site}
-use Rattle.site.specs.declared.values.SiteAnswer.TheVariants.{Read}
-use Rattle.site.specs.declared.values.Measure.TheVariants.{Length, OutsideRange}
-use Rattle.site.specs.declared.values.WriteAnswer.TheVariants.{Written, Unwritten}
+use Rattle.site.specs.declared.values.Measure.TheVariants.{OutsideRange}
 use Rattle.site.specs.Rules.{segment, entries_by, entries_of, last_kind, edition_known, years_known, later_years, bits, settle}
 use Rattle.site.specs.Yearly.{later_minor}
-use Rattle.site.specs.Record.{curved, rest_of, words, kind_in, field_map_in, rules_in, later_in, length_in, read_site}
-use Rattle.site.specs.Writing.{record_of, sound_site, sound, Valid, measure_of, write_refusal, write_answer, write_into}
-use Rattle.site.specs.Digits.{Bytes, digit_most}
-use Rattle.laws.specs.Truth.{and_left, and_right, or_left, chosen, never_so, not_both}
+use Rattle.site.specs.Record.{curved, rest_of, words, kind_in, field_map_in, rules_in, later_in, length_in}
+use Rattle.site.specs.Writing.{sound, measure_of}
+use Rattle.site.specs.Digits.{digit_most}
+use Rattle.laws.specs.Truth.{and_right, or_left, never_so}
 use Rattle.site.specs.Tested.{bit_count, by_rules}
-use Rattle.site.specs.Accepted.{words_least, later_most, reading}
+use Rattle.site.specs.Accepted.{later_most}
 use Rattle.site.specs.BytesRead.{project_known, head_refused, bears}
-use Rattle.site.specs.Bytes.{bytes_append, bytes_nil}
 
 -- a record has no more fields than its rules have bits
 pub words_most : (rules : List Rule) (map : ℕ) → words rules map ≤ bit_count rules

@@ -1,38 +1,21 @@
 -- What is written is read back: field by field, then the curve, then the whole record.
-use Rattle.std.specs.Prelude.{◌≡◌, refl, Bool, true, false, ◌&&◌, ◌||◌, not, ℕ, zero, suc, ◌+◌, ◌-◌, ◌*◌, ◌/◌, ◌%◌, ◌^◌, ◌<◌, ◌≤◌, get_or, eqb}
-use Rattle.std.proofs.Math.Path.{ap, sym}
-use Rattle.std.proofs.Common.{◌∙◌, true≢false, le_refl, le_trans, lt_of_lt_of_le, drop_at, drop-drop, pow_pos, pow-add, eqb-true}
-use Rattle.std.proofs.Math.Bool.{cond, and-false, or-true}
-use mathlib.Core.List.{List, [], ◌∷◌, ◌++◌, append_assoc}
+use Rattle.std.specs.Prelude.{◌≡◌, refl, Bool, true, false, ℕ, zero, suc, ◌+◌, ◌*◌, ◌^◌, ◌<◌, ◌≤◌, eqb}
+use Rattle.std.proofs.Common.{le_refl, le_trans, lt_of_lt_of_le, pow_pos, pow-add}
+use Rattle.std.proofs.Math.Bool.{cond}
+use mathlib.Core.List.{List, [], ◌∷◌, ◌++◌}
 use Rattle.std.proofs.Math.Nat.{pow-le-pow_right}
 use native.Mathlib.Omega.{arith}
 use Rattle.std.proofs.Math.ListN.{length, drop, length-append}
-use Rattle.std.proofs.lemmas.Bool.{not-true}
 use Rattle.site.specs.declared.rules.Rule.{Rule}
-use Rattle.site.specs.declared.rules.Rule.TheVariants.{Foreign}
-use Rattle.site.specs.declared.rules.Entry.{Entry}
-use Rattle.site.specs.declared.rules.Entry.TheVariants.{Always, OnCurve}
 use Rattle.site.specs.declared.values.Slot.{Slot}
 use Rattle.site.specs.declared.values.Slot.TheVariants.{Absent, Number}
-use Rattle.site.specs.declared.values.Site.{Site}
-use Rattle.site.specs.declared.values.SiteAnswer.TheVariants.{Read}
-use Rattle.site.specs.Yearly.{later_slots, later_from_slots, later_given, later_minor}
-use Rattle.site.specs.Yearly as years_given
-use Rattle.site.specs.Rules.{entries_of, last_kind, edition_known, years_known, later_years, slot_count, allows, absent_of, needed, lacking, bits}
-use Rattle.site.specs.Rules.{settle, absent, holds}
-use Rattle.site.specs.Record.{bit_of, stands, lacked_bit_stands, needed_bit_absent, any_field, lacks, misses, curved, rules_read}
-use Rattle.site.specs.Record.{words, field_number, field_value, after, fields_number, fields_values, site_of, yearly_bit, map_in, field_map_in}
-use Rattle.site.specs.Record.{rules_in, later_in, later_minor_in, fields_in, later_read, later_at, later_minor_at, length_in, site_in, read_site}
-use Rattle.site.specs.Writing.{slots_of, curve_held, rules_held, fits, all_fit, slot_bit, map_of, slot_bytes, field_bytes, bytes_of}
-use Rattle.site.specs.Writing.{later_bytes, spread_bytes, record_by, record_of, later_fits, Valid}
-use Rattle.laws.specs.Truth.{and_left, and_right, not_both, never_so}
-use Rattle.site.specs.Digits.{digit_low, digit_rest, two_bytes_lem}
-use Rattle.site.specs.Ranges.{tests, valid_kind}
-use Rattle.site.specs.Tested.{right, entry_right, has_curve, needs_curve, bit_count, bits_most, every, leads, rules_lead}
-use Rattle.laws.specs.Walk.{next}
-use Rattle.site.specs.LaterLaws.{bit_of_whole, fields_of_whole, gathered_spread, past, LaterReadBack, later_read_back}
-use Rattle.site.specs.Tested.{allows_bit, needed_bit, tested_rules, entries_count}
-use Rattle.site.specs.Accepted.{Accepted, accept}
+use Rattle.site.specs.Rules.{absent_of, bits}
+use Rattle.site.specs.Rules.{holds}
+use Rattle.site.specs.Record.{lacked_bit_stands, needed_bit_absent}
+use Rattle.site.specs.Record.{words, field_number, field_value, after}
+use Rattle.site.specs.Writing.{slot_bit, map_of, slot_bytes, field_bytes, bytes_of}
+use Rattle.site.specs.Digits.{digit_low, digit_rest}
+use Rattle.site.specs.Tested.{bit_count, bits_most}
 
 pub slot_bit_most : (rule : Rule) (slot : Slot) → slot_bit rule slot ≤ bits rule
 slot_bit_most rule Absent = omega arith

@@ -1,6 +1,6 @@
 -- Laws of Coding in specs/.
-use Rattle.std.specs.Prelude.{◌≡◌, refl, Bool, true, List, [], ◌∷◌, ◌++◌, map, ℕ, zero, suc, ◌+◌, ◌<◌, ◌≤◌, ltb, length, get_or, take, drop}
-use Rattle.std.proofs.Common.{ap, sym, ◌∙◌, lt_of_not-le, length-drop, length-take-le, drop-cons, drop-drop, take-add, take_all, lt-ltb, le-ltb, ltb-true, ne_eqb, le-leb}
+use Rattle.std.specs.Prelude.{◌≡◌, refl, true, List, [], ◌∷◌, ◌++◌, map, ℕ, zero, suc, ◌+◌, ◌<◌, ◌≤◌, length, get_or, take, drop}
+use Rattle.std.proofs.Common.{ap, sym, ◌∙◌, lt_of_not-le, length-drop, length-take-le, drop-cons, drop-drop, take-add, take_all, lt-ltb, le-ltb, ltb-true, le-leb}
 use Rattle.std.proofs.Math.Decide.{dec_lt}
 use native.Mathlib.Omega.{arith, by_contra}
 use Rattle.std.proofs.lemmas.List.{length-map}

@@ -1,30 +1,19 @@
 -- Laws of FileRoundTrips in specs/.
-use Rattle.std.specs.Prelude.{◌≡◌, refl, ℕ, ◌≤◌, length, take, drop}
+use Rattle.std.specs.Prelude.{◌≡◌, refl, ℕ, ◌≤◌, length, drop}
 use Rattle.std.proofs.Math.Path.{ap}
-use Rattle.std.proofs.Common.{sym, ◌∙◌}
-use mathlib.Core.List.{List, ◌++◌, map}
-use borrow.Author.Tests.{le-leb}
-use Rattle.laws.specs.Lent.{laid_over}
-use Rattle.site.specs.declared.values.Site.{Site}
+use Rattle.std.proofs.Common.{◌∙◌}
+use mathlib.Core.List.{List, ◌++◌}
 use Rattle.site.specs.Digits.{Bytes}
-use Rattle.header.specs.declared.Header.{Header}
 use Rattle.header.specs.Header.{header_in, count_in}
-use Rattle.model.specs.Coefficients.{coefficients_of}
-use Rattle.line.specs.declared.Line.{Line}
-use Rattle.line.specs.Line.{site_line}
 use Rattle.project.specs.declared.ScanAnswer.TheVariants.{Accepted}
 use Rattle.project.specs.File.{scan_file, sites_in}
-use Rattle.project.specs.Causes.{report_length}
 use Rattle.project.proofs.Acceptance.{no_cause_exactly}
-use Rattle.report.specs.declared.ProjectAnswer.TheVariants.{Reported}
-use Rattle.report.specs.Report.{project_answer, answer_number, answer_value, report_numbers, lines_in, report_after}
 use Rattle.project_writer.specs.declared.course.FileAnswer.TheVariants.{Written}
 use Rattle.project_writer.specs.ProjectFile.{file_answer, file_number, file_value, buffer_after}
-use Rattle.project_writer.specs.Promise.{WritesProject}
 use Rattle.project_writer.proofs.Exactly.{writable_sound}
-use Rattle.project_writer.proofs.Theorems.{buffer_accepted, accepted_writable, accepted_written}
+use Rattle.project_writer.proofs.Theorems.{accepted_writable, accepted_written}
 use Rattle.unit.specs.ProjectNumbers.{ReadsProject}
-use Rattle.unit.specs.FileNumbers.{sites_given, WritesFile, zero_filed}
+use Rattle.unit.specs.FileNumbers.{sites_given, WritesFile}
 use Rattle.unit.specs.Given.{sites_run}
 use Rattle.unit.proofs.Given.{given_again}
 use Rattle.unit.specs.FileRoundTrips.{FileWrittenBack}

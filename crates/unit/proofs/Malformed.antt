@@ -4,11 +4,9 @@ use Rattle.std.proofs.Math.Path.{refl}
 use Rattle.std.proofs.Common.{◌∙◌, length-drop, get_or-take, get_or-drop}
 use Rattle.std.proofs.Math.Bool.{false}
 use native.Mathlib.Omega.{arith, by_contra}
-use borrow.Author.Tests.{le-leb}
 use Rattle.site.specs.declared.values.Site.{Site}
 use Rattle.site.specs.Rules.{edition_known, years_known}
 use Rattle.site.proofs.Tested.{neither_unknown}
-use Rattle.site.specs.Record.{refusal_of, read_site}
 use Rattle.site.specs.Writing.{sound_site, sound, write_refusal, Valid}
 use Rattle.laws.specs.Quotient.{quotient_up_lem}
 use Rattle.laws.specs.Truth.{not_both, never_so}
@@ -16,7 +14,7 @@ use Rattle.site.specs.Promises.{number_written}
 use Rattle.header.specs.declared.Header.{Header}
 use Rattle.header.specs.Header.{in_limits}
 use Rattle.project_writer.specs.Causes.{LimitsKept, FileCause, edition_neither, limits_broken, site_outside, space_short, file_fits}
-use Rattle.unit.specs.SiteNumbers.{all_count, slot_numbers, site_from, site_numbers, ReadsNumbers, WritesNumbers}
+use Rattle.unit.specs.SiteNumbers.{all_count, slot_numbers, site_from, site_numbers, WritesNumbers}
 use Rattle.unit.specs.LineNumbers.{line_order, LinesNumbers}
 use Rattle.unit.specs.FileNumbers.{site_count, sites_given, WritesFile}
 use Rattle.unit.proofs.Coding.{enough, kind_small, slots_small}

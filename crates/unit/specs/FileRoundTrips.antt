@@ -1,32 +1,26 @@
 -- BOTH ROUND TRIPS of a whole project: what the writer leaves is reported with the same sites in the same order, and an accepted file
 -- is written again as it was; of the functions, and of the exported calls.
-use Rattle.std.specs.Prelude.{◌≡◌, refl, ℕ, ◌≤◌, length, take, drop}
+use Rattle.std.specs.Prelude.{◌≡◌, ℕ, ◌≤◌, length, take, drop}
 use Rattle.std.proofs.Math.Path.{ap}
 use Rattle.std.proofs.Common.{sym, ◌∙◌}
 use mathlib.Core.List.{List, ◌++◌, map}
 use borrow.Author.Tests.{le-leb}
 use Rattle.laws.specs.Lent.{laid_over}
 use Rattle.site.specs.declared.values.Site.{Site}
-use Rattle.site.specs.Digits.{Bytes}
 use Rattle.header.specs.declared.Header.{Header}
-use Rattle.header.specs.Header.{header_in, count_in}
+use Rattle.header.specs.Header.{header_in}
 use Rattle.model.specs.Coefficients.{coefficients_of}
 use Rattle.line.specs.declared.Line.{Line}
 use Rattle.line.specs.Line.{site_line}
-use Rattle.project.specs.declared.ScanAnswer.TheVariants.{Accepted}
-use Rattle.project.specs.File.{scan_file, sites_in}
+use Rattle.project.specs.File.{sites_in}
 use Rattle.project.specs.Causes.{report_length}
-use Rattle.project.proofs.Acceptance.{no_cause_exactly}
 use Rattle.report.specs.declared.ProjectAnswer.TheVariants.{Reported}
 use Rattle.report.specs.Report.{project_answer, answer_number, answer_value, report_numbers, lines_in, report_after}
 use Rattle.project_writer.specs.declared.course.FileAnswer.TheVariants.{Written}
-use Rattle.project_writer.specs.ProjectFile.{file_answer, file_number, file_value, buffer_after}
 use Rattle.project_writer.specs.Promise.{WritesProject}
-use Rattle.project_writer.proofs.Exactly.{writable_sound}
-use Rattle.project_writer.proofs.Theorems.{buffer_accepted, accepted_writable, accepted_written}
+use Rattle.project_writer.proofs.Theorems.{buffer_accepted}
 use Rattle.unit.specs.ProjectNumbers.{ReadsProject}
 use Rattle.unit.specs.FileNumbers.{sites_given, WritesFile, zero_filed}
-use Rattle.unit.specs.Given.{sites_run}
 
 -- the lines of a header's values and a list of sites
 abbrev pub lines_of : Header → List Site → List Line

@@ -1,15 +1,12 @@
 -- Laws of the sites that a run of numbers gives: how many, where each stands, and that every list of valid sites can be given.
 use Rattle.std.specs.Prelude.{◌≡◌, List, [], ◌∷◌, ◌++◌, get_or, drop}
 use Rattle.std.proofs.Math.Path.{refl, ap}
-use Rattle.std.proofs.Common.{sym, ◌∙◌}
+use Rattle.std.proofs.Common.{◌∙◌}
 use Prim.Native.Nat.{ℕ, zero, suc, ◌+◌, ◌*◌, ◌<◌}
 use native.Mathlib.Omega.{arith}
-use Rattle.std.proofs.Math.ListN.{length, length-append}
-use Rattle.std.proofs.Math.Seq.{drop-append-add}
-use Rattle.laws.specs.Quotient.{quotient_up_lem, rounded_up_is, quotient_up_zero}
+use Rattle.std.proofs.Math.ListN.{length}
+use Rattle.laws.specs.Quotient.{quotient_up_lem}
 use Rattle.site.specs.declared.values.Site.{Site}
-use Rattle.project_writer.specs.ProjectFile.{sound_sites}
-use Rattle.project_writer.specs.Sound.{all_sound}
 use Rattle.unit.specs.SiteNumbers.{site_run, site_from, site_numbers}
 use Rattle.unit.specs.FileNumbers.{site_count, given_from, sites_given}
 

@@ -1,11 +1,8 @@
 -- Edition and years are within their limits, kind and map are there, then the fields are read by their rules.
 use borrow.Author.Tests.{lt-ltb, le-ltb}
-use mathlib.Core.Path.{◌≡◌, refl, ap, sym, ◌∙◌}
-use mathlib.Core.Bool.{true}
-use Rattle.site.specs.Rules.{edition_known}
+use mathlib.Core.Path.{refl, ap, sym, ◌∙◌}
 use Rattle.site.specs.Record.{yearly_bit, field_map, refusal_of, read_site}
 use Rattle.site.proofs.Promises.{reads_site}
-use borrow.Author.Rules.{rules}
 use Rattle.site_reader.proofs.read_site.Goals as goal
 
 pub returns-then-not-is_edition_known : goal.returns-then-not-is_edition_known

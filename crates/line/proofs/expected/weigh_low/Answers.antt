@@ -1,6 +1,5 @@
 -- It fits, because it is at most the prediction or the history.
 use Rattle.line.specs.Weighing.{under_positive, low_fits}
-use borrow.Author.Rules.{rules}
 use Rattle.line.proofs.expected.weigh_low.Goals as goal
 
 pub times_down-requires : goal.times_down-requires
