@@ -17,3 +17,5 @@ pub mod ExponentialBounds
 pub mod SignedExponent
 pub mod LogarithmLaws
 pub mod Remainder
+pub mod EqualFractions
+pub mod FirstFound

@@ -50,7 +50,7 @@ smallest_passes test (suc b) h = by_test (test zero) refl (smallest_passes (λ i
     by_test true e r = rw e tt
     by_test false e r = r
 
-smallest_least : (test : ℕ → Bool) (b t : ℕ) → T (test t) → smallest test b ≤ t
+pub smallest_least : (test : ℕ → Bool) (b t : ℕ) → T (test t) → smallest test b ≤ t
 unfolding smallest
 smallest_least test zero t h = zero-le
 smallest_least test (suc b) zero h = by_test (test zero) h

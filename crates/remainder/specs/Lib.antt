@@ -5,3 +5,4 @@ pub mod Remainder
 pub mod LogarithmBounds
 pub mod ExponentialBounds
 pub mod RemainderLaws
+pub mod EqualFractions
