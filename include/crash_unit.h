@@ -182,7 +182,7 @@ extern "C" {
  * CRASH_TOO_SHORT, where report has fewer than 4(sites + 1) numbers.
  * Where two calls answer CRASH_OK for files with the same header and the same sites in another order, the numbers of a site,
  * report[4 * i] to report[4 * i + 3] for the site at index i, are the same at its index in each, and the totals are equal;
- * proved in crates/reordering/specs. */
+ * proved in crates/reordering. */
 uint64_t crash_project(const uint8_t *file, size_t file_len, uint64_t *report, size_t report_len, uint64_t *value);
 
 /* Reads the record that part starts with, in a project of an edition and so many years. What follows the record in part bears on

@@ -1,4 +1,4 @@
-// Brackets of a segment's driveway part, (0.2 + typeof.c.DD)/(0.2 + 5c) with c = 0.05 - 0.005 ln A, an edition's constant in place of 0.2,
+// Brackets of a segment's driveway part, (0.2 + c·DD)/(0.2 + 5c) with c = 0.05 - 0.005 ln A, an edition's constant in place of 0.2,
 // from the bracket of ln A. The part falls as ln A rises from 5 driveways a mile on and rises below, so its ends are its values at
 // the ends of ln A.
 #![tactic(auto)]

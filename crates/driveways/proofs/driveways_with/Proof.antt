@@ -9,12 +9,6 @@ use Rattle.driveways.proofs.Cases.{low_fits, high_fits, rising_ends, falling_end
 use Rattle.driveways.proofs.driveways_with.Statement.{statement}
 use Rattle.driveways.proofs.driveways_with.Tie as tie
 
-returns : tie.Need-returns-then-driveways-fewest
-unfolding whole fraction
-returns c =
-    let a = c.args in
-    c.span.ensures ∙ sym (bracket_below a.constant a.fewest a.driveways (logarithm_bracket a.traffic) (omega arith))
-
 value_at_requires : tie.Need-value_at-at_low-requires
 value_at_requires c κs =
     let f = low_fits c.args.traffic c.requires.4 c.requires.5 c.logarithm_with-ln.ensures in
@@ -25,30 +19,28 @@ value_at_requires_2 c κs =
     let f = high_fits c.args.traffic c.requires.4 c.requires.5 c.logarithm_with-ln.ensures in
     (c.requires.2, c.requires.1, c.requires.3, f.0, f.1, f.2)
 
-returns_2 : tie.Need-returns-then-driveways-lt5
-returns_2 c =
-    let a = c.args in
-    c.span-then-driveways-lt5.ensures
-    ∙ rising_ends a.constant a.fewest a.driveways c.logarithm_with-ln.ensures c.value_at-at_low.ensures c.value_at-at_high.ensures
-    (omega arith) (omega arith)
-
-returns_3 : tie.Need-returns
-returns_3 c =
-    let a = c.args in
-    c.span-2.ensures
-    ∙ falling_ends a.constant a.fewest a.driveways c.logarithm_with-ln.ensures c.value_at-at_low.ensures c.value_at-at_high.ensures
-    (omega arith) (omega arith)
-
+-- each answer by itself, so that no goal is cited by the test that it follows
 pub driveways_with_spec : {M : Type 1} → statement M
+unfolding whole fraction
 driveways_with_spec =
     tie.close
     (tie.spec
     (λ c κs. search rules)
-    returns
+    (λ c.
+    let a = c.args in
+    c.span.ensures ∙ sym (bracket_below a.constant a.fewest a.driveways (logarithm_bracket a.traffic) (omega arith)))
     (λ c κs. search rules)
     value_at_requires
     value_at_requires_2
     (λ c κs. search rules)
-    returns_2
+    (λ c.
+    let a = c.args in
+    c.span-then-driveways-lt5.ensures
+    ∙ rising_ends a.constant a.fewest a.driveways c.logarithm_with-ln.ensures c.value_at-at_low.ensures c.value_at-at_high.ensures
+    (omega arith) (omega arith))
     (λ c κs. search rules)
-    returns_3)
+    (λ c.
+    let a = c.args in
+    c.span-2.ensures
+    ∙ falling_ends a.constant a.fewest a.driveways c.logarithm_with-ln.ensures c.value_at-at_low.ensures c.value_at-at_high.ensures
+    (omega arith) (omega arith)))

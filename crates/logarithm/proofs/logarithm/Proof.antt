@@ -6,18 +6,13 @@ use Rattle.logarithm.proofs.AnswerLaws.{logarithm_answers}
 use Rattle.logarithm.proofs.logarithm.Statement.{statement}
 use Rattle.logarithm.proofs.logarithm.Tie as tie
 
-returns : tie.Need-returns-then-a-lt1
-unfolding logarithm_answer
-returns c = refused (logarithm_answers c.args.a) (λ r. omega (arith, r.from_one))
-
-returns_2 : tie.Need-returns-then-a-gt20000
-unfolding logarithm_answer
-returns_2 c = refused (logarithm_answers c.args.a) (λ r. omega (arith, r.to_20000))
-
-returns_3 : tie.Need-returns
-unfolding logarithm_answer
-returns_3 c =
-    given (logarithm_answers c.args.a) (record { from_one = omega arith; to_20000 = omega arith }) c.logarithm_with.ensures
-
+-- each answer by itself, so that no goal is cited by the test that it follows
 pub logarithm_spec : {M : Type 1} → statement M
-logarithm_spec = tie.close (tie.spec returns returns_2 (λ c κs. search rules) (λ c κs. search rules) returns_3)
+unfolding logarithm_answer
+logarithm_spec =
+    tie.close
+    (tie.spec
+    (λ c. refused (logarithm_answers c.args.a) (λ r. omega (arith, r.from_one)))
+    (λ c. refused (logarithm_answers c.args.a) (λ r. omega (arith, r.to_20000)))
+    (λ c κs. search rules) (λ c κs. search rules)
+    (λ c. given (logarithm_answers c.args.a) (record { from_one = omega arith; to_20000 = omega arith }) c.logarithm_with.ensures))
