@@ -40,7 +40,7 @@ const MARKS: [&str; 7] = [
     "infix",
     "module",
 ];
-const DEFINERS: [&str; 6] = ["record", "data", "fn", "const", "enum", "struct"];
+const DEFINERS: [&str; 7] = ["record", "data", "fn", "const", "enum", "struct", "type"];
 
 fn root() -> PathBuf {
     Path::new(env!("CARGO_MANIFEST_DIR")).join("..")
@@ -262,7 +262,7 @@ fn functions() -> HashSet<String> {
         let text = fs::read_to_string(&file).expect("a source file");
         for line in text.lines() {
             if let Some((_, rest)) = line.split_once("fn ") {
-                names.extend(rest.split('(').next().map(str::to_owned));
+                names.extend(rest.split(['(', '<']).next().map(str::to_owned));
             }
         }
     }

@@ -1,15 +1,15 @@
 -- Laws of CarryLaws in specs/.
-use Rattle.std.specs.Prelude.{◌≡◌, List, [], ◌∷◌, ℕ, ◌+◌, ◌≤◌}
+use Rattle.std.specs.Prelude.{Some, ◌≡◌, List, [], ◌∷◌, ℕ, ◌+◌, ◌≤◌}
+use Rattle.std.proofs.lemmas.Option.{some_pair_parts}
 use Rattle.wide.specs.Scaling.{ceiling}
 use Rattle.wide.specs.Rounding.{Narrow, scaled_order, scaled_width, ceiling_ge}
 use Rattle.bracket.specs.Carry.{carried, Widths, absolute_part, relative_part}
 use Rattle.bracket.specs.declared.Bracket.{Bracket}
-use Rattle.bracket.specs.declared.carry.CarryAnswer.TheVariants.{Carried}
 use Rattle.bracket.specs.CarryLaws.{CarriedWidth, past}
 
 pub carried_width : (fs : List Bracket) (rs : List ℕ) (R a r low high l h : ℕ) → Widths R fs rs → low ≤ high → Narrow R a r low high
-    → carried low high fs ≡ Carried l h → CarriedWidth R (absolute_part a fs) (relative_part r rs) l h
-carried_width [] [] R a r low high l h w o n e = let p : low ≡ l = cc in let q : high ≡ h = cc in rw (← p, ← q) (record { in_order = o; narrow = n })
+    → carried low high fs ≡ Some (l, h) → CarriedWidth R (absolute_part a fs) (relative_part r rs) l h
+carried_width [] [] R a r low high l h w o n e = let p = some_pair_parts low l high h e in rw (← p.0, ← p.1) (record { in_order = o; narrow = n })
 carried_width [] (p ∷ ps) R a r low high l h w o n e = absurd w
 carried_width (f ∷ fs) [] R a r low high l h w o n e = absurd w
 carried_width (f ∷ fs) (p ∷ ps) R a r low high l h w o n e =

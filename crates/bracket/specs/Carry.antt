@@ -1,32 +1,28 @@
 -- A bracket of whole numbers carried through a list of factors: the low rounded down at each, the high rounded up.
-use Rattle.std.specs.Prelude.{ℕ, ◌+◌, ◌*◌, ◌≤◌, List, [], ◌∷◌}
+use Rattle.std.specs.Prelude.{Option, None, Some, ℕ, ◌+◌, ◌*◌, ◌≤◌, List, [], ◌∷◌}
 use Rattle.estimate.specs.Fraction.{Fraction}
 use Rattle.wide.specs.Scaling.{scaled_down, scaled_up, ceiling}
-use Rattle.wide.specs.declared.scale.Scaled.{Scaled}
-use Rattle.wide.specs.declared.scale.Scaled.TheVariants as scaled
 use Rattle.bracket.specs.Bracket.{RelativeWidth}
 use Rattle.bracket.specs.declared.Bracket.{Bracket}
-use Rattle.bracket.specs.declared.carry.CarryAnswer.{CarryAnswer}
-use Rattle.bracket.specs.declared.carry.CarryAnswer.TheVariants.{Carried, TooLarge}
 
 -- what follows a step, where both its ends fit
-abbrev pub onward : Scaled → Scaled → (ℕ → ℕ → CarryAnswer) → CarryAnswer
-onward (scaled.Value x) (scaled.Value y) k = k x y
-onward (scaled.Value x) scaled.TooLarge k = TooLarge
-onward scaled.TooLarge s k = TooLarge
+abbrev pub onward : Option ℕ → Option ℕ → (ℕ → ℕ → Option (ℕ × ℕ)) → Option (ℕ × ℕ)
+onward (Some x) (Some y) k = k x y
+onward (Some x) None k = None
+onward None s k = None
 
-abbrev pub carried : ℕ → ℕ → List Bracket → CarryAnswer
-carried low high [] = Carried low high
+abbrev pub carried : ℕ → ℕ → List Bracket → Option (ℕ × ℕ)
+carried low high [] = Some (low, high)
 carried low high (f ∷ fs) =
     onward (scaled_down low f.low_num f.low_den) (scaled_up high f.high_num f.high_den) (λ x y. carried x y fs)
 
 -- from what earlier factors answered: what did not fit stays so
-abbrev pub carried_on : CarryAnswer → List Bracket → CarryAnswer
-carried_on (Carried low high) fs = carried low high fs
-carried_on TooLarge fs = TooLarge
+abbrev pub carried_on : Option (ℕ × ℕ) → List Bracket → Option (ℕ × ℕ)
+carried_on (Some (low, high)) fs = carried low high fs
+carried_on None fs = None
 
 -- a list's factors taken one at a time, as code goes through them
-abbrev pub one_by_one : CarryAnswer → List Bracket → CarryAnswer
+abbrev pub one_by_one : Option (ℕ × ℕ) → List Bracket → Option (ℕ × ℕ)
 one_by_one a [] = a
 one_by_one a (f ∷ fs) = one_by_one (carried_on a (f ∷ [])) fs
 

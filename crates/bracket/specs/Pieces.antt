@@ -1,19 +1,16 @@
 -- A bracket carried through factors that are known by what they stand for: it fits 64 bits by a computed test of bounds, stands
 -- to the product of the estimates at every depth, and has a width.
-use Rattle.std.specs.Prelude.{◌≡◌, refl, Bool, true, List, [], ◌∷◌, map, ℕ, ◌+◌, ◌*◌, ◌^◌, ◌≤◌, ◌<◌, T, ltb}
+use Rattle.std.specs.Prelude.{Option, Some, ◌≡◌, refl, Bool, true, List, [], ◌∷◌, map, ℕ, ◌+◌, ◌*◌, ◌^◌, ◌≤◌, ◌<◌, T, ltb}
 use Rattle.std.proofs.Common.{ap, ◌∙◌, mul-le-mul, mul-le-mul_right, le_of_mul-le-mul_right, ltb→lt}
 use native.Mathlib.Omega.{arith}
 use Rattle.estimate.specs.Fraction.{Fraction, fraction, ◌*ᶠ◌, whole}
 use Rattle.laws.specs.Table.{both, both_left, both_right}
 use Rattle.wide.specs.Scaling.{floor, ceiling, scaled_up, answered_value}
 use Rattle.wide.specs.Rounding.{Narrow, ceiling_ge, ceiling-≤, scaled_order}
-use Rattle.wide.specs.declared.scale.Scaled.{Scaled}
-use Rattle.wide.specs.declared.scale.Scaled.TheVariants as scaled
 use Rattle.bracket.specs.Bracket.{Stands, RelativeWidth}
 use Rattle.bracket.specs.Ratio.{exactly}
 use Rattle.bracket.specs.Carry.{onward, carried, relative_part}
 use Rattle.bracket.specs.declared.Bracket.{Bracket}
-use Rattle.bracket.specs.declared.carry.CarryAnswer.TheVariants.{Carried}
 
 -- a factor: the estimates that it stands for, its bracket, its share of the width, and a bound of its high
 pub record Piece : Type 0 where
@@ -76,7 +73,7 @@ ceiling_mono a b n d m e hd he h k =
 pub record Room (low high H : ℕ) (ps : List Piece) : Type 0 where
   pub low_end : ℕ
   pub high_end : ℕ
-  pub is : carried low high (brackets ps) ≡ Carried low_end high_end
+  pub is : carried low high (brackets ps) ≡ Some (low_end, high_end)
   pub small : high_end ≤ grown H (bounds ps)
 
 -- a step whose two ends fit
@@ -84,8 +81,8 @@ onward_fits : (low high : ℕ) (f : Bracket) (fs : List Bracket) → 0 < f.low_d
     → floor low f.low_num f.low_den < 2 ^ 64 → ceiling high f.high_num f.high_den < 2 ^ 64
     → carried low high (f ∷ fs) ≡ carried (floor low f.low_num f.low_den) (ceiling high f.high_num f.high_den) fs
 onward_fits low high f fs pl ph l h =
-    ap (λ (s : Scaled). onward s (scaled_up high f.high_num f.high_den) (λ x y. carried x y fs)) (answered_value f.low_den _ pl l)
-    ∙ ap (λ (s : Scaled). onward (scaled.Value (floor low f.low_num f.low_den)) s (λ x y. carried x y fs)) (answered_value f.high_den _ ph h)
+    ap (λ (s : Option ℕ). onward s (scaled_up high f.high_num f.high_den) (λ x y. carried x y fs)) (answered_value f.low_den _ pl l)
+    ∙ ap (λ (s : Option ℕ). onward (Some (floor low f.low_num f.low_den)) s (λ x y. carried x y fs)) (answered_value f.high_den _ ph h)
 
 pub carried_room : (R : ℕ) (ps : List Piece) (low high H : ℕ) → AllKept R ps → low ≤ high → high ≤ H → T (has_room H (bounds ps)) → Room low high H ps
 unfolding fraction
@@ -116,7 +113,7 @@ absolute_most a (m ∷ ms) = absolute_most (ceiling a m.num m.den + 2) ms
 pub record Ends (R M c : ℕ) (start : Fraction) (ps : List Piece) (S H : ℕ) : Type 0 where
   pub low_end : ℕ
   pub high_end : ℕ
-  pub is : carried S S (brackets ps) ≡ Carried low_end high_end
+  pub is : carried S S (brackets ps) ≡ Some (low_end, high_end)
   pub low_right : (d : ℕ) → 1 ≤ d → floor low_end 1 c * (start *ᶠ product (overs d ps)).den ≤ (start *ᶠ product (overs d ps)).num * M
   pub high_right : (d : ℕ) → 1 ≤ d → (start *ᶠ product (unders d ps)).num * M ≤ ceiling high_end 1 c * (start *ᶠ product (unders d ps)).den
   pub in_order : floor low_end 1 c ≤ ceiling high_end 1 c

@@ -22,11 +22,11 @@ pub struct Bracket {
     pub high_den: u64,
 }
 
-// What a call that makes a bracket answers.
+// Two whole numbers between which a value is.
 #[derive(Clone, Copy)]
-pub enum BracketAnswer {
-    Between(Bracket),
-    OutOfRange,
+pub struct Bounds {
+    pub low: u64,
+    pub high: u64,
 }
 
 // The bracket with these ends.

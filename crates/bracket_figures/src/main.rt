@@ -1,30 +1,30 @@
 // Prints some brackets, the low and the high of each in whole millionths. The stored output was made by the reference.
 #![tactic(auto)]
 
-use bracket::BracketAnswer;
+use bracket::Bracket;
 use exponential::{exponential, exponential_negative};
 use logarithm::logarithm;
 use power::power;
 use std::io;
-use wide::scale::{Scaled, scale_down};
+use wide::scale::scale_down;
 
 // num / den in whole millionths, rounded down.
 fn print_millionths(rt: &impl Print, num: u64, den: u64) -> io::Result<()> {
     match scale_down(num, 1000000, den) {
-        Scaled::Value(v) => print!(rt; "{v}"),
-        Scaled::TooLarge => print!(rt; "too large"),
+        Some(v) => print!(rt; "{v}"),
+        None => print!(rt; "too large"),
     }
 }
 
-fn print_bracket(rt: &impl Print, answer: BracketAnswer) -> io::Result<()> {
+fn print_bracket(rt: &impl Print, answer: Option<Bracket>) -> io::Result<()> {
     match answer {
-        BracketAnswer::Between(b) => {
+        Some(b) => {
             print_millionths(rt, b.low_num, b.low_den)?;
             print!(rt; " ")?;
             print_millionths(rt, b.high_num, b.high_den)?;
             println!(rt; "")
         }
-        BracketAnswer::OutOfRange => println!(rt; "out of range"),
+        None => println!(rt; "out of range"),
     }
 }
 

@@ -1,10 +1,11 @@
 -- What the program prints for a file, and that the bytes past the longest file bear on none of it.
+use Rattle.site.specs.Refusals.{number_of}
+use Rattle.std.specs.Prelude.{Result, Ok, Err}
+use Rattle.project.specs.declared.Refused.{Refused}
 use Rattle.std.specs.Prelude.{ℕ, ◌+◌, ◌*◌, ◌<◌, ◌≤◌, ◌≡◌, refl, Bool, true, false, List, length, take, drop, leb}
 use Rattle.std.proofs.Common.{sym, ap, ◌∙◌, arith, take_at, take_all, le-leb, leb-true, leb-false}
 use Rattle.std.proofs.Math.Seq.{length-sets}
 use Rattle.header.specs.Header.{header_length, edition_in, most_sites}
-use Rattle.project.specs.declared.ScanAnswer.{ScanAnswer}
-use Rattle.project.specs.declared.ScanAnswer.TheVariants as scan
 use Rattle.site.specs.Theorems.{longest}
 use Rattle.site.proofs.Theorems.{read_length}
 use Rattle.project.specs.File.{years_in, scan_file}
@@ -13,8 +14,6 @@ use Rattle.project.proofs.ScanLaws.{accepted_exactly}
 use Rattle.project.proofs.SitesRead.{accepted_sites}
 use Rattle.project.specs.Prefix.{longest_file}
 use Rattle.project.proofs.ScanPrefix.{scan_prefix}
-use Rattle.report.specs.declared.ProjectAnswer.{ProjectAnswer}
-use Rattle.report.specs.declared.ProjectAnswer.TheVariants.{Reported, Refused}
 use Rattle.report.specs.Report.{report_numbers, lines_in, project_answer, report_after}
 use Rattle.report.specs.Demand.{ReportsProject}
 use Rattle.report.specs.Accepted.{length_report}
@@ -34,9 +33,9 @@ abbrev pub text_room : ℕ
 text_room = 21 * report_room
 
 -- the report of an accepted file, or the line of a refusal
-abbrev pub answer_text : ScanAnswer → (numbers : List ℕ) → List ℕ
-answer_text (scan.Accepted sites) numbers = report_text numbers
-answer_text (scan.Refused number place) numbers = refusal_text number place
+abbrev pub answer_text : Result ℕ Refused → (numbers : List ℕ) → List ℕ
+answer_text (Ok sites) numbers = report_text numbers
+answer_text (Err refused) numbers = refusal_text (number_of refused.refusal) refused.place
 
 -- WHAT IS PRINTED for a file
 unfoldable pub project_text : List ℕ → List ℕ
@@ -61,18 +60,18 @@ starts_with {before} {after} {text} {place} p h =
 -- a report that was made is the report of an accepted file
 pub record Made (s after : List ℕ) (count : ℕ) : Type 0 where
   pub sites : ℕ
-  pub accepted : scan_file s ≡ scan.Accepted sites
+  pub accepted : scan_file s ≡ Ok sites
   pub few : count ≤ report_room
   pub starts : take count after ≡ report_numbers (lines_in s)
 
-pub made : (s before after : List ℕ) {answer : ProjectAnswer} {count : ℕ} → length before ≡ report_room
-    → ReportsProject s before after answer → answer ≡ Reported count → Made s after count
+pub made : (s before after : List ℕ) {answer : Result ℕ Refused} {count : ℕ} → length before ≡ report_room
+    → ReportsProject s before after answer → answer ≡ Ok count → Made s after count
 unfolding project_answer report_after
 made s before after {answer} {count} l told reported = by (scan_file s) refl
   where
-    by : (x : ScanAnswer) → scan_file s ≡ x → Made s after count
-    by (scan.Refused number place) q = let e = told.answer_is in let z : ◌≡◌ {A = ℕ} 0 1 = cc in absurd (omega arith)
-    by (scan.Accepted n) q =
+    by : (x : Result ℕ Refused) → scan_file s ≡ x → Made s after count
+    by (Err refused) q = let e = told.answer_is in let z : ◌≡◌ {A = ℕ} 0 1 = cc in absurd (omega arith)
+    by (Ok n) q =
         let facts = accepted_sites s n q in
         let fits = le-leb (report_length n) (length before) (omega (arith, facts.few)) in
         let numbers = report_numbers (lines_in s) in
@@ -85,7 +84,7 @@ made s before after {answer} {count} l told reported = by (scan_file s) refl
           starts = ap (take count) (told.report_is ∙ rw (q, fits) refl) ∙ take_at numbers (drop (length numbers) before) count long;
         }
       where
-        same : Reported count ≡ Reported (report_length n) → count ≡ report_length n
+        same : ◌≡◌ {A = Result ℕ Refused} (Ok count) (Ok (report_length n)) → count ≡ report_length n
         same h = cc
 
 pub report_printed : (s after text out : List ℕ) (count place : ℕ) → Made s after count
@@ -93,18 +92,17 @@ pub report_printed : (s after text out : List ℕ) (count place : ℕ) → Made 
 unfolding project_text
 report_printed s after text out count place m p = rw (m.accepted, ← m.starts) (starts_with p.0 p.1)
 
-pub refusal_printed : (s text out : List ℕ) (room place : ℕ) {answer : ProjectAnswer} {number at : ℕ} → room ≡ report_room
-    → answer ≡ project_answer s room → answer ≡ Refused number at → Puts text 0 (refusal_text number at) place out × (place ≤ length text)
+pub refusal_printed : (s text out : List ℕ) (room place : ℕ) {answer : Result ℕ Refused} {r : Refused} → room ≡ report_room
+    → answer ≡ project_answer s room → answer ≡ Err r → Puts text 0 (refusal_text (number_of r.refusal) r.place) place out × (place ≤ length text)
     → StartsWith (project_text s) place out
 unfolding project_text project_answer
-refusal_printed s text out room place {answer} {number} {at} l e refused p = by (scan_file s) refl
+refusal_printed s text out room place {answer} {r} l e refused p = by (scan_file s) refl
   where
-    by : (x : ScanAnswer) → scan_file s ≡ x → StartsWith (answer_text (scan_file s) (report_numbers (lines_in s))) place out
-    by (scan.Refused m q) z =
-        let n_is : number ≡ m = cc in
-        let at_is : at ≡ q = cc in
-        rw (z, ← n_is, ← at_is) (starts_with p.0 p.1)
-    by (scan.Accepted n) z =
+    by : (x : Result ℕ Refused) → scan_file s ≡ x → StartsWith (answer_text (scan_file s) (report_numbers (lines_in s))) place out
+    by (Err q) z =
+        let is : r ≡ q = cc in
+        rw (z, ← is) (starts_with p.0 p.1)
+    by (Ok n) z =
         let few = (accepted_sites s n z).few in
         let fits = le-leb (report_length n) room (omega arith) in
         let f : ◌≡◌ {A = ℕ} 0 1 = cc in
@@ -115,13 +113,13 @@ starts_near : {s : List ℕ} {i p : ℕ} → Starts s i p → p ≤ header_lengt
 starts_near first = omega arith
 starts_near {s} (next {i} {p} {n} {value} r e) = omega (arith, starts_near r, (read_length (edition_in s) (years_in s) (drop p s) value n e).at_most)
 
-accepted_short : (s : List ℕ) (n : ℕ) → scan_file s ≡ scan.Accepted n → length s ≤ longest_file
+accepted_short : (s : List ℕ) (n : ℕ) → scan_file s ≡ Ok n → length s ≤ longest_file
 accepted_short s n e = omega (arith, (accepted_sites s n e).few, starts_near ((accepted_exactly s n).0 e).ends)
 
-long_printed : (s : List ℕ) → longest_file < length s → (x : ScanAnswer) → scan_file s ≡ x → project_text (take (longest_file + 1) s) ≡ project_text s
+long_printed : (s : List ℕ) → longest_file < length s → (x : Result ℕ Refused) → scan_file s ≡ x → project_text (take (longest_file + 1) s) ≡ project_text s
 unfolding project_text
-long_printed s h (scan.Refused number place) q = rw (scan_prefix s, q) refl
-long_printed s h (scan.Accepted n) q = absurd (omega (arith, accepted_short s n q))
+long_printed s h (Err refused) q = rw (scan_prefix s, q) refl
+long_printed s h (Ok n) q = absurd (omega (arith, accepted_short s n q))
 
 -- THE PREFIX THAT IS READ tells what is printed
 pub prefix_printed : (s : List ℕ) → project_text (take input_room s) ≡ project_text s

@@ -6,10 +6,12 @@ ghost use Rattle.crash_report.specs.Printed.{input_room, report_room, text_room,
 ghost use Rattle.crash_report.specs.Input.{InputWithin};
 
 use header::{HEADER_LENGTH, MOST_SITES};
-use report::{ProjectAnswer, read_project};
+use input::fill_buffer;
+use report::read_project;
 use report_text::{put_refusal, put_report};
 use site::rules::LONGEST_RECORD;
-use std::io::{Read, Stdin};
+use std::io;
+use std::io::Stdin;
 
 // One byte more than the longest file: the bytes past it bear on nothing.
 const INPUT_ROOM: usize = HEADER_LENGTH + MOST_SITES * LONGEST_RECORD + 1;
@@ -19,27 +21,12 @@ const REPORT_ROOM: usize = 4 * (MOST_SITES + 1);
 
 const TEXT_ROOM: usize = 21 * REPORT_ROOM;
 
-// How many bytes were read, or that a read failed.
-#[derive(Clone, Copy)]
-enum Input {
-    Bytes(usize),
-    Failed,
-}
-
-// Fills a buffer from standard input until it is full or the input ends.
-fn read_input(stdin: &mut Stdin, buffer: &mut [u8]) -> Input
+// Reads standard input into a buffer that has room for the longest file and one byte more.
+fn read_input(stdin: &mut Stdin, buffer: &mut [u8]) -> io::Result<usize>
     requires { length buffer.old ≡ input_room }
     ensures { InputWithin result (length buffer.new) }
 {
-    let mut done = 0;
-    while done < buffer.len() {
-        match stdin.read(&mut buffer[done..]) {
-            Ok(0) => return Input::Bytes(done),
-            Ok(n) => done += n,
-            Err(_) => return Input::Failed,
-        }
-    }
-    Input::Bytes(done)
+    fill_buffer(stdin, buffer)
 }
 
 // The text of a file's report or refusal, from the start of a buffer: its length.
@@ -47,10 +34,9 @@ fn project_text(file: &[u8], report: &mut [u64], text: &mut [u8]) -> usize
     requires { (length report.old ≡ report_room) × (length text.old ≡ text_room) }
     ensures { StartsWith (project_text file.now) result text.new }
 {
-    let answer = read_project(file, report);
-    match answer {
-        ProjectAnswer::Reported(count) => put_report(&report[..count], text),
-        ProjectAnswer::Refused(number, place) => put_refusal(number, place, text),
+    match read_project(file, report) {
+        Ok(count) => put_report(&report[..count], text),
+        Err(refused) => put_refusal(u64::from(refused.refusal), refused.place, text),
     }
 }
 
@@ -67,10 +53,9 @@ fn print_answer(rt: &HostRuntime, file: &[u8]) {
 // Reads standard input, then prints the answer, or tells that a read failed.
 fn main(rt: HostRuntime) {
     let mut file = [0u8; INPUT_ROOM];
-    let input = read_input(&mut rt.stdin(), &mut file);
-    match input {
-        Input::Bytes(n) => print_answer(&rt, &file[..n]),
-        Input::Failed => {
+    match read_input(&mut rt.stdin(), &mut file) {
+        Ok(n) => print_answer(&rt, &file[..n]),
+        Err(_) => {
             let _ = eprintln!(rt; "crash_report: reading failed");
         }
     }

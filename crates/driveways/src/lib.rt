@@ -5,13 +5,13 @@
 
 ghost use Rattle.std.specs.Prelude.{◌≡◌, ◌*◌, ◌≤◌, ◌<◌};
 ghost use Rattle.estimate.specs.Fraction.{◌÷◌};
-ghost use Rattle.logarithm.specs.Stored.{StoredLogarithms};
 ghost use Rattle.model.specs.Access.{driveway_at};
 ghost use Rattle.bracket.specs.Ratio.{coded};
 ghost use Rattle.driveways.specs.Driveways.{driveways_of};
 
 use bracket::{Bracket, Ratio, span};
 use logarithm::logarithm_with;
+use logarithm::stored::Logarithms;
 
 // The part where ln A is num / den, at most 10. The sizes are those of an edition and of a bracket of ln A.
 fn value_at(constant: u64, driveways: u64, num: u64, den: u64) -> Ratio
@@ -28,19 +28,19 @@ fn value_at(constant: u64, driveways: u64, num: u64, den: u64) -> Ratio
 
 // The part's bracket at a traffic, with the stored logarithms lent: 1 below the edition's fewest driveways.
 pub fn driveways_with(
-    stored: &[u64; 256],
+    logarithms: &Logarithms,
     constant: u64,
     fewest: u64,
     driveways: u64,
     traffic: u64,
 ) -> Bracket
-    requires { StoredLogarithms stored.now × (constant ≤ 1000) × (0 < constant) × (driveways ≤ 50) × (1 ≤ traffic) × (traffic ≤ 20000) }
+    requires { (constant ≤ 1000) × (0 < constant) × (driveways ≤ 50) × (1 ≤ traffic) × (traffic ≤ 20000) }
     ensures { result ≡ driveways_of constant fewest driveways traffic }
 {
     if driveways < fewest {
         return span(Ratio { num: 1, den: 1 }, Ratio { num: 1, den: 1 });
     }
-    let ln = logarithm_with(stored, traffic);
+    let ln = logarithm_with(logarithms, traffic);
     let at_low = value_at(constant, driveways, ln.low_num, ln.low_den);
     let at_high = value_at(constant, driveways, ln.high_num, ln.high_den);
     if driveways < 5 {

@@ -1,14 +1,16 @@
 -- The brackets of e^x and e^(-x) stand at every depth and have the stated width; what is answered stands.
-use Rattle.std.specs.Prelude.{ℕ, ◌≤◌, ◌<◌, leb}
-use Rattle.std.proofs.Common.{lt_of_not-le, arith, leb→le, le-leb}
+use Rattle.std.specs.Prelude.{Some, ℕ, ◌≡◌, ◌≤◌, ◌<◌, leb}
+use Rattle.std.proofs.Common.{lt_of_not-le, arith, leb→le, le-leb, sym, ap}
+use Rattle.std.proofs.lemmas.Bool.{leb-true}
+use Rattle.std.proofs.lemmas.Option.{cond_some}
 use Rattle.estimate.specs.Fraction.{fraction, ten_thousandths}
 use Rattle.estimate.specs.Exponential.{exp_under, exp_over, exp_neg_under, exp_neg_over, exp_under_positive, exp_over_positive}
 use Rattle.estimate.proofs.ExponentialBounds.{within_tail_law, exp_low_stands}
 use Rattle.estimate.specs.ExponentialBounds.{exp_high_stands}
 use Rattle.bracket.specs.Bracket.{Stands, RelativeWidth, exponential_width}
 use Rattle.bracket.specs.declared.Bracket.{Bracket}
-use Rattle.bracket.specs.Answer.{Answers, answer_stands}
-use Rattle.bracket.specs.Reciprocal.{reciprocal_stands, reciprocal_width}
+use Rattle.bracket.specs.Answer.{Answers, answer_stands, given}
+use Rattle.bracket.specs.Reciprocal.{reciprocal, reciprocal_stands, reciprocal_width}
 use Rattle.exponential.specs.Scale.{scale_positive, scaled}
 use Rattle.exponential.specs.Exponential.{exp_bracket, exp_neg_bracket, exponential_limit, exponential_answer, exponential_negative_answer}
 use Rattle.exponential.specs.Exponential.{OfExponential, OfExponentialNegative, ExponentialStands, ExponentialNegativeStands}
@@ -60,3 +62,10 @@ module _ (x : ℕ) where
   pub exponential_negative_stands : ExponentialNegativeStands x (exponential_negative_answer x)
   unfolding exponential_negative_answer
   exponential_negative_stands = answer_stands exponential_negative_answers
+
+  -- the answer for e^(-x) from the one for e^x
+  pub negative_given : {b : Bracket} → Some b ≡ exponential_answer x → (Some (reciprocal b) ≡ exponential_negative_answer x) × OfExponentialNegative x (reciprocal b)
+  unfolding exponential_answer exponential_negative_answer exp_neg_bracket
+  negative_given {b} e =
+      let p = cond_some (leb x exponential_limit) (exp_bracket x) b (sym e) in
+      given exponential_negative_answers (leb-true x exponential_limit p.0) (ap reciprocal (sym p.1))

@@ -1,5 +1,5 @@
 -- The brackets of e^x and e^(-x), x in ten-thousandths, what the calls answer, and what an answer promises.
-use Rattle.std.specs.Prelude.{ℕ, ◌+◌, ◌*◌, ◌/◌, ◌%◌, ◌<◌, leb}
+use Rattle.std.specs.Prelude.{Option, ℕ, ◌+◌, ◌*◌, ◌/◌, ◌%◌, ◌<◌, leb}
 use Rattle.estimate.specs.Fraction.{Fraction, ten_thousandths}
 use Rattle.estimate.specs.Exponential.{exp_under, exp_over, exp_neg_under, exp_neg_over}
 use Rattle.wide.specs.Scaling.{floor, ceiling}
@@ -7,7 +7,6 @@ use Rattle.bracket.specs.Bracket.{Stands, RelativeWidth, exponential_width}
 use Rattle.bracket.specs.Answer.{answer_where, AnswerPromised}
 use Rattle.bracket.specs.Reciprocal.{reciprocal}
 use Rattle.bracket.specs.declared.Bracket.{Bracket}
-use Rattle.bracket.specs.declared.BracketAnswer.{BracketAnswer}
 use Rattle.exponential.specs.Scale.{scale}
 use Rattle.exponential.specs.Stored.{stored_exp}
 use Rattle.exponential.specs.Taylor.{taylor_low, taylor_high}
@@ -41,11 +40,11 @@ abbrev pub exponential_limit : ℕ
 exponential_limit = 140000
 
 -- what the calls answer for e^x
-unfoldable pub exponential_answer : ℕ → BracketAnswer
+unfoldable pub exponential_answer : ℕ → Option Bracket
 exponential_answer x = answer_where (leb x exponential_limit) (exp_bracket x)
 
 -- and for e^(-x)
-unfoldable pub exponential_negative_answer : ℕ → BracketAnswer
+unfoldable pub exponential_negative_answer : ℕ → Option Bracket
 exponential_negative_answer x = answer_where (leb x exponential_limit) (exp_neg_bracket x)
 
 -- "the brackets of the shared arithmetic, which stand to the estimates as a pair does and have a stated width"
@@ -62,8 +61,8 @@ abbrev pub OfExponentialNegative : ℕ → Bracket → Type 0
 OfExponentialNegative x = Promised (λ d. exp_neg_under d (ten_thousandths x)) (λ d. exp_neg_over d (ten_thousandths x))
 
 -- an answer within the range has such a bracket, and only an argument outside it has none
-abbrev pub ExponentialStands : ℕ → BracketAnswer → Type 0
+abbrev pub ExponentialStands : ℕ → Option Bracket → Type 0
 ExponentialStands x = AnswerPromised (OfExponential x) (exponential_limit < x)
 
-abbrev pub ExponentialNegativeStands : ℕ → BracketAnswer → Type 0
+abbrev pub ExponentialNegativeStands : ℕ → Option Bracket → Type 0
 ExponentialNegativeStands x = AnswerPromised (OfExponentialNegative x) (exponential_limit < x)

@@ -6,13 +6,13 @@ pub mod stored_bracket;
 pub mod taylor;
 
 ghost use Rattle.std.specs.Prelude.{◌≡◌, ◌≤◌};
-ghost use Rattle.exponential.specs.Stored.{StoredExponentials};
-ghost use Rattle.exponential.specs.Exponential.{exponential_limit, exp_bracket, exp_neg_bracket, exponential_answer};
+ghost use Rattle.bracket.specs.Reciprocal.{reciprocal};
+ghost use Rattle.exponential.specs.Exponential.{exponential_limit, exp_bracket, exponential_answer};
 ghost use Rattle.exponential.specs.Exponential.{exponential_negative_answer, ExponentialStands, ExponentialNegativeStands};
 
-use crate::stored::stored_exponentials;
+use crate::stored::{Exponentials, stored_exp, stored_exponentials};
 use crate::taylor::taylor;
-use bracket::{Bracket, BracketAnswer};
+use bracket::Bracket;
 use wide::scale::{times_down, times_up};
 
 // A whole number w stands for w / SCALE.
@@ -22,12 +22,11 @@ pub const SCALE: u64 = 1000000000000;
 const LIMIT: u64 = 140000;
 
 // e^(x / 10000), with the stored numbers lent.
-pub fn exponential_with(stored: &[u64; 15], x: u64) -> Bracket
-    requires { StoredExponentials stored.now × (x ≤ exponential_limit) }
+pub fn exponential_with(exponentials: &Exponentials, x: u64) -> Bracket
+    requires { x ≤ exponential_limit }
     ensures { result ≡ exp_bracket x }
 {
-    let i = (x / 10000) as usize;
-    let e = stored[i];
+    let e = stored_exp(exponentials, x / 10000);
     let t = taylor(x % 10000);
     Bracket {
         low_num: times_down(e, t.low, SCALE),
@@ -37,12 +36,10 @@ pub fn exponential_with(stored: &[u64; 15], x: u64) -> Bracket
     }
 }
 
-// e^(-x / 10000), with the stored numbers lent: the reciprocals, exchanged.
-fn exponential_negative_with(stored: &[u64; 15], x: u64) -> Bracket
-    requires { StoredExponentials stored.now × (x ≤ exponential_limit) }
-    ensures { result ≡ exp_neg_bracket x }
+// The reciprocals of a bracket's ends, exchanged.
+fn reciprocal(b: Bracket) -> Bracket
+    ensures { result ≡ reciprocal b }
 {
-    let b = exponential_with(stored, x);
     Bracket {
         low_num: b.high_den,
         low_den: b.high_num,
@@ -52,25 +49,21 @@ fn exponential_negative_with(stored: &[u64; 15], x: u64) -> Bracket
 }
 
 // e^(x / 10000), for x up to 140,000: it stands to the estimates at every depth and has the stated width.
-pub fn exponential(x: u64) -> BracketAnswer
+pub fn exponential(x: u64) -> Option<Bracket>
     ensures value { result ≡ exponential_answer x }
     ensures stands { ExponentialStands x result }
 {
     if LIMIT < x {
-        return BracketAnswer::OutOfRange;
+        return None;
     }
-    let stored = stored_exponentials();
-    BracketAnswer::Between(exponential_with(&stored, x))
+    Some(exponential_with(&stored_exponentials(), x))
 }
 
 // e^(-x / 10000), for x up to 140,000: it stands to the estimates at every depth and has the stated width.
-pub fn exponential_negative(x: u64) -> BracketAnswer
+pub fn exponential_negative(x: u64) -> Option<Bracket>
     ensures value { result ≡ exponential_negative_answer x }
     ensures stands { ExponentialNegativeStands x result }
 {
-    if LIMIT < x {
-        return BracketAnswer::OutOfRange;
-    }
-    let stored = stored_exponentials();
-    BracketAnswer::Between(exponential_negative_with(&stored, x))
+    let b = exponential(x)?;
+    Some(reciprocal(b))
 }

@@ -1,5 +1,13 @@
 // The stored e^i for whole i, to be made once and lent: a constant is written out anew wherever it is read.
-ghost use Rattle.exponential.specs.Stored.{StoredExponentials};
+ghost use Rattle.std.specs.Prelude.{◌≡◌, ◌<◌};
+ghost use Rattle.exponential.specs.Stored.{stored_exp, StoredExponentials};
+
+// e^i for i from 0 to 14, each rounded down at the scale.
+#[derive(Drop)]
+pub struct Exponentials {
+    pub numbers: [u64; 15],
+    ghost stored: { StoredExponentials numbers },
+}
 
 const EXPONENTIALS: [u64; 15] = [
     1000000000000,
@@ -19,9 +27,19 @@ const EXPONENTIALS: [u64; 15] = [
     1202604284164776777,
 ];
 
-// e^i for i from 0 to 14, each rounded down at the scale.
-pub fn stored_exponentials() -> [u64; 15]
-    ensures { StoredExponentials result }
+// The stored e^i.
+pub fn stored_exponentials() -> Exponentials
+    ensures { StoredExponentials result.numbers }
 {
-    EXPONENTIALS
+    Exponentials {
+        numbers: EXPONENTIALS,
+    }
+}
+
+// The stored e^i of one i.
+pub(crate) fn stored_exp(exponentials: &Exponentials, i: u64) -> u64
+    requires { i < 15 }
+    ensures { result ≡ stored_exp i }
+{
+    exponentials.numbers[i as usize]
 }

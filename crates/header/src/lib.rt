@@ -4,8 +4,10 @@
 ghost use Rattle.std.specs.Prelude.{◌≡◌, ◌≤◌, true, length};
 ghost use Rattle.std.proofs.lemmas.List.Edits.{sets};
 ghost use Rattle.site.specs.Rules.{inside, edition_known};
+ghost use Rattle.site.specs.Refusals.{checked};
 ghost use Rattle.header.specs.Header.{header_length, header_in, count_in, in_limits, admits, header_bytes, header_number};
 
+use site::refusal::Refusal;
 use site::rules::{are_years_known, is_edition_known};
 use site::words::{put_word, word_at};
 
@@ -24,27 +26,16 @@ const MOST_CALIBRATION: u64 = 9999;
 
 pub const MOST_SITES: usize = 1200;
 
-// A byte as a number of 64 bits.
-fn wide(byte: u8) -> u64
-    ensures { result ≡ byte }
-{
-    byte as u64
-}
-
 // The edition, years and calibrations of a file that is long enough for a header.
 pub fn header_in(file: &[u8]) -> Header
     requires { header_length ≤ length file.now }
     ensures { result ≡ header_in file.now }
 {
-    let edition = wide(file[0]);
-    let years = wide(file[1]);
-    let segments = word_at(file, 2) as u64;
-    let crossings = word_at(file, 4) as u64;
     Header {
-        edition,
-        years,
-        segments,
-        crossings,
+        edition: u64::from(file[0]),
+        years: u64::from(file[1]),
+        segments: u64::from(word_at(file, 2)),
+        crossings: u64::from(word_at(file, 4)),
     }
 }
 
@@ -53,7 +44,7 @@ pub fn count_in(file: &[u8]) -> usize
     requires { header_length ≤ length file.now }
     ensures { result ≡ count_in file.now }
 {
-    word_at(file, 6) as usize
+    usize::from(word_at(file, 6))
 }
 
 // Whether a value lies from 1 to a number.
@@ -64,26 +55,20 @@ fn is_up_to(most: u64, value: u64) -> bool
 }
 
 // Whether years and calibrations are within their limits.
+#[tactic(auto, unfolding(crate::specs::Header::in_limits))]
 pub fn is_in_limits(header: Header) -> bool
     ensures { result ≡ in_limits header }
 {
-    if !are_years_known(header.years) {
-        return false;
-    }
-    if !is_up_to(MOST_CALIBRATION, header.segments) {
-        return false;
-    }
-    is_up_to(MOST_CALIBRATION, header.crossings)
+    are_years_known(header.years)
+        && is_up_to(MOST_CALIBRATION, header.segments)
+        && is_up_to(MOST_CALIBRATION, header.crossings)
 }
 
 // Whether years, calibrations and the count of sites are within their limits.
 pub fn does_admit(header: Header, sites: usize) -> bool
     ensures { result ≡ admits header sites }
 {
-    if !is_in_limits(header) {
-        return false;
-    }
-    sites <= MOST_SITES
+    is_in_limits(header) && sites <= MOST_SITES
 }
 
 // Writes a header of a known edition, within its limits, at the start of a buffer that has space for it.
@@ -98,19 +83,20 @@ pub fn put_header(header: Header, sites: usize, buffer: &mut [u8])
     put_word(sites as u16, buffer, 6);
 }
 
-// The header's refusal, 1, 3 or 4, or 0.
-pub fn header_number(file: &[u8]) -> u8
-    ensures { result ≡ header_number file.now }
+// The header's refusal: a file too short for one, an edition that is not known, or a value outside its limits.
+#[tactic(auto, unfolding(crate::specs::Header::header_number))]
+pub fn check_header(file: &[u8]) -> Result<(), Refusal>
+    ensures { result ≡ checked (header_number file.now) }
 {
     if file.len() < HEADER_LENGTH {
-        return 1;
+        return Err(Refusal::TooShort);
     }
     let header = header_in(file);
     if !is_edition_known(header.edition) {
-        return 3;
+        return Err(Refusal::EditionUnknown);
     }
     if !does_admit(header, count_in(file)) {
-        return 4;
+        return Err(Refusal::OutsideLimits);
     }
-    0
+    Ok(())
 }

@@ -1,11 +1,10 @@
 -- Laws of LineLaws in specs/.
+use Rattle.std.specs.Prelude.{Option, None, Some}
 use Rattle.std.specs.Prelude.{ℕ, ◌+◌, ◌*◌, ◌≤◌, ◌<◌, ◌≡◌}
 use Rattle.std.proofs.Common.{ap, mul-le-mul_left, mul-le-mul_right, le_of_mul-le-mul_right, arith}
 use Rattle.estimate.specs.Fraction.{Fraction, millionths}
 use Rattle.estimate.specs.Standing.{Between}
 use Rattle.site.specs.declared.values.Site.{Site}
-use Rattle.site.specs.declared.values.Slot.{Slot}
-use Rattle.site.specs.declared.values.Slot.TheVariants.{Absent, Number}
 use Rattle.site.specs.Writing.{Valid}
 use Rattle.header.specs.declared.Header.{Header}
 use Rattle.header.specs.HeaderLaws.{HeaderWithin}
@@ -16,7 +15,7 @@ use Rattle.model.proofs.ExpectedLaws.{expected_low_right, expected_high_right, e
 use Rattle.model.specs.StatedWidths.{width_parts, predicted_each, expected_each, sites_counted, crashes_counted}
 use Rattle.model.specs.CountedWidth.{CountedWidth, counted_narrow}
 use Rattle.model.specs.Predicted.{predicted_under, predicted_over}
-use Rattle.prediction.specs.declared.Pair.{Pair}
+use Rattle.bracket.specs.declared.Bounds.{Bounds}
 use Rattle.prediction.specs.Pair.{predicted_pair}
 use Rattle.prediction.specs.Kept.{Rated}
 use Rattle.prediction.specs.Editions.{edition_rated}
@@ -30,14 +29,14 @@ use Rattle.line.specs.LineLaws.{high_between, low_between}
 
 -- WITH A HISTORY OR WITHOUT: what the expected pair keeps of a predicted pair that stands, where the site counts as n and its crashes
 -- for a fraction
-record ExpectedStands (k : Fraction) (slot : Slot) (n : ℕ) (crashes : Fraction) (under over : ℕ → Fraction) (p e : Pair) : Type 0 where
+record ExpectedStands (k : Fraction) (slot : Option ℕ) (n : ℕ) (crashes : Fraction) (under over : ℕ → Fraction) (p e : Bounds) : Type 0 where
   between : Between (millionths e.low) (millionths e.high) (λ d. with_history k slot (under d)) (λ d. with_history k slot (over d))
   in_order : e.low ≤ e.high
   narrow : CountedWidth width_parts expected_each n crashes e.low e.high
-  low_amid : (O : ℕ) → slot ≡ Number O → Amid p.low (O * 1000000) e.low
-  high_amid : (O : ℕ) → slot ≡ Number O → Amid p.high (O * 1000000) e.high
+  low_amid : (O : ℕ) → slot ≡ Some O → Amid p.low (O * 1000000) e.low
+  high_amid : (O : ℕ) → slot ≡ Some O → Amid p.high (O * 1000000) e.high
 
-number_of : (m O : ℕ) → ◌≡◌ {A = Slot} (Number m) (Number O) → m ≡ O
+number_of : (m O : ℕ) → ◌≡◌ {A = Option ℕ} (Some m) (Some O) → m ≡ O
 number_of m O e = ap number e
 
 -- without a history, the width of n sites is that of a predicted pair and more
@@ -51,16 +50,16 @@ within_width : (R d w D W low high : ℕ) → 0 < d → R * d * high ≤ R * d *
 within_width R d w D W low high pos h k =
     le_of_mul-le-mul_right {k = d} (omega (arith, mul-le-mul_right D h, mul-le-mul_left R k)) pos
 
-expected_stands : (k : Fraction) (slot : Slot) (n : ℕ) (crashes : Fraction) → Weighs k.num k.den (number slot) n crashes
-    → (under over : ℕ → Fraction) (p : Pair) → PairStands n under over p → ExpectedStands k slot n crashes under over p (expected_pair k slot p)
-expected_stands k Absent n crashes enough under over p s = record {
+expected_stands : (k : Fraction) (slot : Option ℕ) (n : ℕ) (crashes : Fraction) → Weighs k.num k.den (number slot) n crashes
+    → (under over : ℕ → Fraction) (p : Bounds) → PairStands n under over p → ExpectedStands k slot n crashes under over p (expected_pair k slot p)
+expected_stands k None n crashes enough under over p s = record {
   between = record { low_right = record { at = s.low_right.at }; high_right = record { at = s.high_right.at } };
   in_order = s.in_order;
   narrow = record { width = wide_enough n crashes.num crashes.den p.low p.high s.narrow.width };
   low_amid = λ O e. let z : ◌≡◌ {A = ℕ} 0 1 = cc in absurd (omega arith);
   high_amid = λ O e. let z : ◌≡◌ {A = ℕ} 0 1 = cc in absurd (omega arith);
 }
-expected_stands k (Number m) n crashes enough under over p s = record {
+expected_stands k (Some m) n crashes enough under over p s = record {
   between = record { low_right = expected_low_right k m p.low s.low_right; high_right = expected_high_right k m p.high s.high_right };
   in_order = expected_in_order k m p.low p.high s.in_order;
   narrow =

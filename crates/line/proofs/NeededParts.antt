@@ -1,12 +1,12 @@
 -- EVERY PART OF THE CLAIM IS NEEDED: a line that fails one part does not stand, whatever its other numbers are. The widths are
 -- written out as numbers here, so that a wider claim is refused.
+use Rattle.std.specs.Prelude.{Some}
 use Rattle.std.specs.Prelude.{ℕ, ◌+◌, ◌*◌, ◌≤◌, ◌<◌, ◌≡◌, true, false, ◌⊎◌}
 use Rattle.std.proofs.Common.{ap, ◌∙◌, ⊎_elim, arith}
 use Rattle.estimate.specs.Fraction.{millionths, ◌<ᶠ◌}
 use Rattle.estimate.specs.FractionLaws.{not-≤ᶠ-and-<ᶠ}
 use Rattle.wide.specs.Scaling.{ceiling}
 use Rattle.site.specs.declared.values.Site.{Site}
-use Rattle.site.specs.declared.values.Slot.TheVariants.{Number}
 use Rattle.header.specs.declared.Header.{Header}
 use Rattle.model.specs.Coefficients.{Coefficients, coefficients_of}
 use Rattle.site.specs.Numbers.{number}
@@ -72,7 +72,7 @@ module _ (c : Coefficients) (header : Header) (site : Site) (line : Line) where
   expected_wider n weight counts weight_is l s = omega (arith, counts, weight_is, s.expected_narrow.width)
 
   -- an expected number that is not between the prediction and the history
-  module _ (observed : ℕ) (history : site.observed ≡ Number observed) where
+  module _ (observed : ℕ) (history : site.observed ≡ Some observed) where
     pub expected_low_below_both : line.expected_low < line.predicted_low → line.expected_low < observed * 1000000 → Fails
     expected_low_below_both h k s = below_both _ _ _ h k (s.low_amid observed history)
 

@@ -1,13 +1,12 @@
 -- The expected numbers as the code makes them, one scaling each, and the sizes of what a line is made from and of its numbers: all
 -- fit 64 bits, for any edition whose numbers are within bounds.
+use Rattle.std.specs.Prelude.{Option, None, Some}
 use Rattle.std.specs.Prelude.{ℕ, ◌+◌, ◌*◌, ◌^◌, ◌/◌, ◌-◌, ◌≤◌, ◌<◌, ◌≡◌, refl}
 use Rattle.std.proofs.Math.Path.{ap}
 use Rattle.std.proofs.Common.{arith}
 use Rattle.wide.specs.Scaling.{floor, ceiling}
 use Rattle.estimate.specs.Fraction.{Fraction, fraction, millionths, ◌÷◌}
 use Rattle.site.specs.declared.values.Site.{Site}
-use Rattle.site.specs.declared.values.Slot.{Slot}
-use Rattle.site.specs.declared.values.Slot.TheVariants.{Absent, Number}
 use Rattle.site.specs.Writing.{Valid}
 use Rattle.header.specs.declared.Header.{Header}
 use Rattle.header.specs.HeaderLaws.{HeaderWithin}
@@ -17,7 +16,7 @@ use Rattle.prediction.specs.Pair.{most_predicted, predicted_pair}
 use Rattle.site.specs.Numbers.{number, observed_most}
 use Rattle.model.specs.Predicted.{predicted_under, predicted_over}
 use Rattle.model.specs.StatedWidths.{sites_counted}
-use Rattle.prediction.specs.declared.Pair.{Pair}
+use Rattle.bracket.specs.declared.Bounds.{Bounds}
 use Rattle.prediction.specs.Kept.{Rated}
 use Rattle.prediction.specs.PredictedLaws.{PairStands}
 use Rattle.prediction.proofs.PredictedLaws.{predicted_stands, predicted_small}
@@ -68,19 +67,19 @@ module _ (kn kd O n : ℕ) (s : Sizes kn kd O n) where
   under_positive = omega (arith, s.overdispersed.kd_least)
 
 -- the expected pair of an overdispersion kn / kd
-abbrev pub weighed_pair : (kn kd : ℕ) → Slot → Pair → Pair
-weighed_pair kn kd Absent p = p
-weighed_pair kn kd (Number O) p = record {
+abbrev pub weighed_pair : (kn kd : ℕ) → Option ℕ → Bounds → Bounds
+weighed_pair kn kd None p = p
+weighed_pair kn kd (Some O) p = record {
   low = floor p.low (over kn kd O) (under kn kd p.low);
   high = ceiling p.high (over kn kd O) (under kn kd p.high);
 }
 
-pub weighed_is_expected : (k : Fraction) (slot : Slot) (p : Pair) → weighed_pair k.num k.den slot p ≡ expected_pair k slot p
-weighed_is_expected k Absent p = refl
-weighed_is_expected k (Number O) p = rw (low_is k O p.low, high_is k O p.high) refl
+pub weighed_is_expected : (k : Fraction) (slot : Option ℕ) (p : Bounds) → weighed_pair k.num k.den slot p ≡ expected_pair k slot p
+weighed_is_expected k None p = refl
+weighed_is_expected k (Some O) p = rw (low_is k O p.low, high_is k O p.high) refl
 
 -- the line that the two pairs make
-pub line_made : (c : Coefficients) (header : Header) (site : Site) (kn kd : ℕ) (p e : Pair)
+pub line_made : (c : Coefficients) (header : Header) (site : Site) (kn kd : ℕ) (p e : Bounds)
     → kn ≡ (overdispersion_of c site).num → kd ≡ (overdispersion_of c site).den
     → p ≡ predicted_pair c header site → e ≡ weighed_pair kn kd site.observed p → line_by p e ≡ site_line c header site
 unfolding site_line
@@ -103,13 +102,13 @@ at_most_wider h l = record {
   expected_high = omega (arith, l.expected_high);
 }
 
-record PairSmall (e : Pair) : Type 0 where
+record PairSmall (e : Bounds) : Type 0 where
   low : e.low ≤ most_predicted
   high : e.high ≤ most_predicted
 
 module _ (c : Coefficients) (rated : Rated c) (header : Header) (limits : HeaderWithin header) (site : Site)
     (valid : Valid header.edition header.years site) where
-  abbrev p : Pair
+  abbrev p : Bounds
   p = predicted_pair c header site
 
   stands : PairStands (sites_counted header.years site) (predicted_under c header site) (predicted_over c header site) p
@@ -132,9 +131,9 @@ module _ (c : Coefficients) (rated : Rated c) (header : Header) (limits : Header
     pub both_sizes : SizesAt p.low × SizesAt p.high
     both_sizes = (sizes p.low (omega (arith, stands.in_order, small)), sizes p.high (omega (arith, small)))
 
-  expected_small : (k : Fraction) (slot : Slot) → number slot ≤ 500 → PairSmall (expected_pair k slot p)
-  expected_small k Absent h = record { low = omega (arith, stands.in_order, small); high = omega (arith, small) }
-  expected_small k (Number O) h = record {
+  expected_small : (k : Fraction) (slot : Option ℕ) → number slot ≤ 500 → PairSmall (expected_pair k slot p)
+  expected_small k None h = record { low = omega (arith, stands.in_order, small); high = omega (arith, small) }
+  expected_small k (Some O) h = record {
     low = omega (arith, (low_between k O p.low).to, stands.in_order, small);
     high = omega (arith, (high_between k O p.high).to, small);
   }

@@ -6,8 +6,7 @@ ghost use Rattle.prediction.specs.Pair.{most_predicted};
 ghost use Rattle.line.specs.Dispersion.{Overdispersed};
 ghost use Rattle.line.specs.Weighing.{over, under, Sizes, weighed_pair};
 
-use bracket::Ratio;
-use prediction::Pair;
+use bracket::{Bounds, Ratio};
 use site::values::Slot;
 use wide::scale::{times_down, times_up};
 
@@ -50,13 +49,13 @@ fn weigh_high(k: Ratio, observed: u64, high: u64) -> u64
 }
 
 // The predicted pair itself where there is no history; a history of 0 is one.
-pub fn weigh(k: Ratio, observed: Slot, predicted: Pair) -> Pair
+pub fn weigh(k: Ratio, observed: Slot, predicted: Bounds) -> Bounds
     requires { Sizes k.num k.den (number observed) predicted.low × Sizes k.num k.den (number observed) predicted.high }
     ensures { result ≡ weighed_pair k.num k.den observed predicted }
 {
     match observed {
-        Slot::Absent => predicted,
-        Slot::Number(crashes) => Pair {
+        None => predicted,
+        Some(crashes) => Bounds {
             low: weigh_low(k, crashes as u64, predicted.low),
             high: weigh_high(k, crashes as u64, predicted.high),
         },

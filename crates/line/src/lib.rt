@@ -4,9 +4,6 @@
 pub mod expected;
 
 ghost use Rattle.std.specs.Prelude.{◌≡◌};
-ghost use Rattle.exponential.specs.Stored.{StoredExponentials};
-ghost use Rattle.logarithm.specs.Stored.{StoredLogarithms};
-ghost use Rattle.power.specs.Stored.{StoredPowers};
 ghost use Rattle.site.specs.Writing.{Valid};
 ghost use Rattle.header.specs.HeaderLaws.{HeaderWithin};
 ghost use Rattle.model.specs.Coefficients.{coefficients_of};
@@ -14,12 +11,10 @@ ghost use Rattle.line.specs.Line.{site_line, line_answer, line_number, line_refu
 ghost use Rattle.line.specs.Stands.{AnswerStands};
 
 use crate::expected::weigh;
-use exponential::stored::stored_exponentials;
 use factors::coefficients::overdispersion;
 use header::{Header, is_in_limits};
-use logarithm::stored::stored_logarithms;
-use power::stored::stored_powers;
 use prediction::predicted_with;
+use prediction::tables::{Tables, stored_tables};
 use site::numbers::number;
 use site::rules::is_edition_known;
 use site::values::Site;
@@ -34,33 +29,24 @@ pub struct Line {
     pub expected_high: u64,
 }
 
-// A site's line, or that there is no such edition, that a header value is outside its limits, or that the site is outside its
-// range.
-#[derive(Clone, Copy)]
-pub enum LineAnswer {
-    Made(Line),
+// Why there is no line: there is no such edition, a header value is outside its limits, or the site is outside its range.
+#[derive(Clone, Copy, PartialEq, Eq)]
+pub enum LineRefusal {
     EditionUnknown,
     OutsideLimits,
     OutsideRange,
 }
 
 // The line of a valid site, with the stored numbers lent.
-pub fn line_with(
-    powers: &[u64; 2560],
-    logarithms: &[u64; 256],
-    exponentials: &[u64; 15],
-    header: Header,
-    site: Site,
-) -> Line
-    requires { StoredPowers powers.now × StoredLogarithms logarithms.now × StoredExponentials exponentials.now × HeaderWithin header
-        × Valid header.edition header.years site }
+pub fn line_with(tables: &Tables, header: Header, site: Site) -> Line
+    requires { HeaderWithin header × Valid header.edition header.years site }
     ensures { result ≡ site_line (coefficients_of header.edition) header site }
 {
     let kind = site.kind;
     let observed = site.observed;
     let length = site.length;
     let k = overdispersion(header.edition, kind, number(length));
-    let predicted = predicted_with(powers, logarithms, exponentials, header, site);
+    let predicted = predicted_with(tables, header, site);
     let expected = weigh(k, observed, predicted);
     Line {
         predicted_low: predicted.low,
@@ -71,22 +57,19 @@ pub fn line_with(
 }
 
 // The line of a site, or the first refusal: the edition, then a header value outside its limits, then the site outside its range.
-pub fn line_of(header: Header, site: Site) -> LineAnswer
+pub fn line_of(header: Header, site: Site) -> Result<Line, LineRefusal>
     ensures value { result ≡ line_answer (coefficients_of header.edition) header site }
     ensures number { line_number result ≡ line_refusal header site }
     ensures stands { AnswerStands (coefficients_of header.edition) header site result }
 {
     if !is_edition_known(header.edition) {
-        return LineAnswer::EditionUnknown;
+        return Err(LineRefusal::EditionUnknown);
     }
     if !is_in_limits(header) {
-        return LineAnswer::OutsideLimits;
+        return Err(LineRefusal::OutsideLimits);
     }
     if !is_sound(header.edition, header.years, site) {
-        return LineAnswer::OutsideRange;
+        return Err(LineRefusal::OutsideRange);
     }
-    let powers = stored_powers();
-    let logarithms = stored_logarithms();
-    let exponentials = stored_exponentials();
-    LineAnswer::Made(line_with(&powers, &logarithms, &exponentials, header, site))
+    Ok(line_with(&stored_tables(), header, site))
 }

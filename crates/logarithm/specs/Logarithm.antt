@@ -1,12 +1,11 @@
 -- The bracket of ln a, and the answer of the call that makes it. With a = n m + r it is ln n + ln m + ln((n m + r)/(n m)).
-use Rattle.std.specs.Prelude.{ℕ, ◌+◌, ◌*◌, ◌≤◌, Bool, leb}
+use Rattle.std.specs.Prelude.{Option, ℕ, ◌+◌, ◌*◌, ◌≤◌, Bool, leb}
 use Rattle.estimate.specs.Fraction.{whole}
 use Rattle.laws.specs.Table.{both}
 use Rattle.estimate.specs.Logarithm.{ln_under, ln_over}
 use Rattle.bracket.specs.Bracket.{Stands, AbsoluteWidth, logarithm_width}
 use Rattle.bracket.specs.Answer.{answer_where, AnswerPromised}
 use Rattle.bracket.specs.declared.Bracket.{Bracket}
-use Rattle.bracket.specs.declared.BracketAnswer.{BracketAnswer}
 use Rattle.remainder.specs.Split.{first_factor, second_factor, split_rest}
 use Rattle.remainder.specs.Remainder.{scale, log_low, log_high}
 use Rattle.logarithm.specs.Stored.{stored_low, stored_high}
@@ -34,7 +33,7 @@ unfoldable pub in_range : ℕ → Bool
 in_range a = both (leb 1 a) (leb a 20000)
 
 -- what the call answers
-unfoldable pub logarithm_answer : ℕ → BracketAnswer
+unfoldable pub logarithm_answer : ℕ → Option Bracket
 logarithm_answer a = answer_where (in_range a) (logarithm_bracket a)
 
 -- "brackets of the shared arithmetic, which stand to the estimates as a pair does and have a stated width"
@@ -43,5 +42,5 @@ pub record StandingLogarithm (a : ℕ) (b : Bracket) : Type 0 where
   pub narrow : AbsoluteWidth logarithm_width b
 
 -- a bracket stands; no bracket is answered outside the range only
-abbrev pub LogarithmStands : ℕ → BracketAnswer → Type 0
+abbrev pub LogarithmStands : ℕ → Option Bracket → Type 0
 LogarithmStands a = AnswerPromised (StandingLogarithm a) (LogarithmRange a → ⊥)

@@ -9,6 +9,7 @@ use Rattle.estimate.proofs.Logarithm.{ln_one}
 use Rattle.estimate.proofs.LogarithmLaws.{ln_under_at_least, ln_under-≤-over, ln_under-≤-ten, ln_over-≤-ten}
 use Rattle.estimate.specs.LogarithmLaws.{ln_over_at_most}
 use Rattle.remainder.specs.Remainder.{scale}
+use Rattle.bracket.specs.declared.Bounds.{Bounds}
 use Rattle.logarithm.specs.EstimatesNear.{ln_estimates_near}
 
 -- the under-estimate of ln k at depth 12, in units of 10^-12
@@ -18,6 +19,10 @@ stored_low k = ln_largest 12 (whole k)
 -- and the over-estimate
 unfoldable pub stored_high : ℕ → ℕ
 stored_high k = ln_smallest 12 (whole k)
+
+-- both
+abbrev pub stored_bounds : ℕ → Bounds
+stored_bounds k = record { low = stored_low k; high = stored_high k }
 
 -- a table that has the lower bound at each entry; from ln 2 on, the upper bound is the next number
 pub record StoredLogarithms (table : List ℕ) : Type 0 where

@@ -5,41 +5,36 @@
 pub mod stored;
 
 ghost use Rattle.std.specs.Prelude.{◌≡◌, ◌≤◌};
-ghost use Rattle.logarithm.specs.Stored.{StoredLogarithms};
 ghost use Rattle.logarithm.specs.Logarithm.{logarithm_bracket, logarithm_answer, LogarithmStands};
 
-use crate::stored::{stored_high, stored_logarithms, stored_low};
-use bracket::{Bracket, BracketAnswer};
+use crate::stored::{Logarithms, stored_bounds, stored_logarithms};
+use bracket::Bracket;
 use remainder::{SCALE, log_bounds, split};
 
 // Both ends in units of 10^-12, with the stored numbers lent.
-pub fn logarithm_with(stored: &[u64; 256], a: u64) -> Bracket
-    requires { StoredLogarithms stored.now × (1 ≤ a) × (a ≤ 20000) }
+pub fn logarithm_with(logarithms: &Logarithms, a: u64) -> Bracket
+    requires { (1 ≤ a) × (a ≤ 20000) }
     ensures { result ≡ logarithm_bracket a }
 {
     let s = split(a);
     let rest = log_bounds(s.n * s.m, s.r);
-    let low = stored_low(stored, s.n) + stored_low(stored, s.m) + rest.low;
-    let high = stored_high(stored, s.n) + stored_high(stored, s.m) + rest.high;
+    let first = stored_bounds(logarithms, s.n);
+    let second = stored_bounds(logarithms, s.m);
     Bracket {
-        low_num: low,
+        low_num: first.low + second.low + rest.low,
         low_den: SCALE,
-        high_num: high,
+        high_num: first.high + second.high + rest.high,
         high_den: SCALE,
     }
 }
 
 // A bracket of ln a, or that a is out of range.
-pub fn logarithm(a: u64) -> BracketAnswer
+pub fn logarithm(a: u64) -> Option<Bracket>
     ensures value { result ≡ logarithm_answer a }
     ensures stands { LogarithmStands a result }
 {
-    if a < 1 {
-        return BracketAnswer::OutOfRange;
+    if a < 1 || 20000 < a {
+        return None;
     }
-    if 20000 < a {
-        return BracketAnswer::OutOfRange;
-    }
-    let stored = stored_logarithms();
-    BracketAnswer::Between(logarithm_with(&stored, a))
+    Some(logarithm_with(&stored_logarithms(), a))
 }

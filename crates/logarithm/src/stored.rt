@@ -1,9 +1,17 @@
 // Stored bounds of the logarithms of 1 to 256, in units of 10^-12: made once, and lent to the calls that read them.
 ghost use Rattle.std.specs.Prelude.{◌≡◌, ◌*◌, ◌≤◌};
-ghost use Rattle.logarithm.specs.Stored.{StoredLogarithms, stored_low, stored_high};
+ghost use Rattle.logarithm.specs.Stored.{StoredLogarithms, stored_bounds};
 ghost use Rattle.remainder.specs.Remainder.{scale};
 
-// The lower bounds. But for ln 1, which is 0, the upper bound is the next number.
+use bracket::Bounds;
+
+// The lower bounds of the logarithms: the estimates at depth 12. But for ln 1, which is 0, the upper bound is the next number.
+#[derive(Drop)]
+pub struct Logarithms {
+    pub numbers: [u64; 256],
+    ghost stored: { StoredLogarithms numbers },
+}
+
 const LOGARITHMS: [u64; 256] = [
     0,
     693147180559,
@@ -263,31 +271,24 @@ const LOGARITHMS: [u64; 256] = [
     5545177444479,
 ];
 
-// The stored logarithms: the estimates at depth 12.
-pub fn stored_logarithms() -> [u64; 256]
-    ensures { StoredLogarithms result }
+// The stored logarithms.
+pub fn stored_logarithms() -> Logarithms
+    ensures { StoredLogarithms result.numbers }
 {
-    LOGARITHMS
-}
-
-// The lower bound of ln k.
-pub fn stored_low(stored: &[u64; 256], k: u64) -> u64
-    requires { StoredLogarithms stored.now × (1 ≤ k) × (k ≤ 256) }
-    ensures value { result ≡ stored_low k }
-    ensures small { result ≤ 10 * scale }
-{
-    let i = (k - 1) as usize;
-    stored[i]
-}
-
-// The upper bound.
-pub fn stored_high(stored: &[u64; 256], k: u64) -> u64
-    requires { StoredLogarithms stored.now × (1 ≤ k) × (k ≤ 256) }
-    ensures value { result ≡ stored_high k }
-    ensures small { result ≤ 10 * scale }
-{
-    if k == 1 {
-        return 0;
+    Logarithms {
+        numbers: LOGARITHMS,
     }
-    stored_low(stored, k) + 1
+}
+
+// The bounds of ln k.
+pub fn stored_bounds(logarithms: &Logarithms, k: u64) -> Bounds
+    requires { (1 ≤ k) × (k ≤ 256) }
+    ensures value { result ≡ stored_bounds k }
+    ensures small { (result.low ≤ 10 * scale) × (result.high ≤ 10 * scale) }
+{
+    let low = logarithms.numbers[(k - 1) as usize];
+    Bounds {
+        low,
+        high: if k == 1 { 0 } else { low + 1 },
+    }
 }

@@ -1,4 +1,5 @@
 -- Laws of CrashCounts in specs/.
+use Rattle.std.specs.Prelude.{None, Some}
 use Rattle.std.specs.Prelude.{ℕ, ◌+◌, ◌*◌, ◌≤◌, ◌<◌, ◌≡◌, Bool, leb, eqb, replicate}
 use Rattle.std.proofs.Math.Path.{refl}
 use Rattle.std.proofs.Common.{ap, le_antisymm, le_trans}
@@ -13,7 +14,6 @@ use Rattle.estimate.specs.FractionLaws.{÷-num, ÷-den, ≤ᶠ-refl, ≤ᶠ-tran
 use Rattle.wide.specs.Scaling.{ceiling}
 use Rattle.wide.specs.Rounding.{ceiling_ge}
 use Rattle.site.specs.declared.values.Site.{Site}
-use Rattle.site.specs.declared.values.Slot.TheVariants.{Absent, Number}
 use Rattle.site.specs.Yearly.{yearly, no_later}
 use Rattle.site.specs.Record.{site_of}
 use Rattle.site.specs.Numbers.{number}
@@ -152,7 +152,7 @@ module _ (c : Coefficients) (years : ℕ) where
   totals_at_most_by_crash sites = le_trans (totals_at_most_by_site sites) (by_site_at_most_by_crash sites)
 
 abbrev long_segment : Site
-long_segment = site_of 0 (Number 1 ∷ Number 20000 ∷ Absent ∷ Number 1 ∷ []) no_later no_later
+long_segment = site_of 0 (Some 1 ∷ Some 20000 ∷ None ∷ Some 1 ∷ []) no_later no_later
 
 pub many_long_segments : observed_in (coefficients_of 2) 1 (replicate 1200 long_segment) ≤ 1215
 unfolding crashes_counted sites_counted coefficients_of edition_two whole fraction ◌÷◌ ◌+ᶠ◌ ◌*ᶠ◌

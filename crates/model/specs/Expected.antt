@@ -1,11 +1,10 @@
 -- The history: "Expected = N(1 + kO)/(1 + kN)", for any fraction k, and a site's estimates of it.
+use Rattle.std.specs.Prelude.{Option, None, Some}
 use Rattle.std.specs.Prelude.{ℕ, ◌+◌, ◌*◌}
 use Rattle.std.proofs.Common.{mul-pos, arith}
 use Rattle.estimate.specs.Fraction.{Fraction, millionths}
 use Rattle.wide.specs.Scaling.{floor, ceiling}
 use Rattle.site.specs.declared.values.Site.{Site}
-use Rattle.site.specs.declared.values.Slot.{Slot}
-use Rattle.site.specs.declared.values.Slot.TheVariants.{Absent, Number}
 use Rattle.header.specs.declared.Header.{Header}
 use Rattle.model.specs.Coefficients.{Coefficients}
 use Rattle.site.specs.Numbers.{number}
@@ -27,9 +26,9 @@ unfoldable pub expected_high : (k : Fraction) (observed high : ℕ) → ℕ
 expected_high k observed high = let x = weighed k observed (millionths high) in ceiling 1000000 x.num x.den
 
 -- "its estimates are this at N's estimates, and N's own where there is no history"; a standing 0 is a history
-abbrev pub with_history : Fraction → Slot → Fraction → Fraction
-with_history k Absent N = N
-with_history k (Number observed) N = weighed k observed N
+abbrev pub with_history : Fraction → Option ℕ → Fraction → Fraction
+with_history k None N = N
+with_history k (Some observed) N = weighed k observed N
 
 -- k of a site
 abbrev pub overdispersion_of : Coefficients → Site → Fraction

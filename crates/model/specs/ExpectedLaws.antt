@@ -1,11 +1,10 @@
 -- What weighing against a history keeps, for any fraction k: order, standing, width, and that the result lies between the
 -- prediction and the history.
+use Rattle.std.specs.Prelude.{Option, None, Some}
 use Rattle.std.specs.Prelude.{ℕ, ◌+◌, ◌*◌}
 use Rattle.std.proofs.Common.{ap, arith}
 use Rattle.std.proofs.Math.Nat.{mul-le-mul_left}
 use Rattle.estimate.specs.Fraction.{Fraction, ◌≤ᶠ◌, ◌=ᶠ◌}
-use Rattle.site.specs.declared.values.Slot.{Slot}
-use Rattle.site.specs.declared.values.Slot.TheVariants.{Absent, Number}
 use Rattle.model.specs.Expected.{weighed, with_history}
 
 -- a larger prediction has a larger expectation
@@ -18,6 +17,6 @@ weighed_same : (k : Fraction) (O : ℕ) {N M : Fraction} → N =ᶠ M → weighe
 unfolding weighed
 weighed_same k O e = record { cross = omega (arith, ap (λ (z : ℕ). k.den * (k.den + k.num * O) * z) e.cross) }
 
-pub history_same : (k : Fraction) (slot : Slot) {N M : Fraction} → N =ᶠ M → with_history k slot N =ᶠ with_history k slot M
-history_same k Absent e = e
-history_same k (Number O) e = weighed_same k O e
+pub history_same : (k : Fraction) (slot : Option ℕ) {N M : Fraction} → N =ᶠ M → with_history k slot N =ᶠ with_history k slot M
+history_same k None e = e
+history_same k (Some O) e = weighed_same k O e

@@ -1,7 +1,7 @@
 -- A site's prediction N at depth d: "N's under-estimate takes each part's under .. Over takes each part's over".
+use Rattle.std.specs.Prelude.{None}
 use Rattle.std.specs.Prelude.{ℕ, zero, suc, ◌-◌, cond, List, [], ◌∷◌, get_or}
 use Rattle.estimate.specs.Fraction.{Fraction, whole, ◌+ᶠ◌, ◌*ᶠ◌}
-use Rattle.site.specs.declared.values.Slot.TheVariants.{Absent}
 use Rattle.site.specs.declared.values.Site.{Site}
 use Rattle.site.specs.Yearly.{later_slots, yearly}
 use Rattle.header.specs.declared.Header.{Header}
@@ -25,7 +25,7 @@ term_of years site = term_at years (number site.traffic) (number site.minor_traf
 -- one of the later years, the second at place 0, at its own traffic
 abbrev pub year_term : Site → (i : ℕ) → Term
 year_term site i =
-    term_at 1 (number (get_or (later_slots site.later_traffic) i Absent)) (number (get_or (later_slots site.later_minor) i Absent))
+    term_at 1 (number (get_or (later_slots site.later_traffic) i None)) (number (get_or (later_slots site.later_minor) i None))
 
 -- so many later years from a place on
 unfoldable pub later_terms : Site → (i count : ℕ) → List Term

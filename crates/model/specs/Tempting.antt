@@ -1,9 +1,9 @@
 -- "Tempting: using 1.50 at A = 2,000; reading history 0 as no history; taking 5 driveways as a floor; rounding expected low to
 -- nearest": the definitions do none of these.
+use Rattle.std.specs.Prelude.{Some}
 use Rattle.std.specs.Prelude.{◌≡◌, refl}
 use Rattle.std.proofs.Common.{lit<}
 use Rattle.estimate.specs.Fraction.{fraction, ◌÷◌, ◌<ᶠ◌, ◌=ᶠ◌, whole, millionths}
-use Rattle.site.specs.declared.values.Slot.TheVariants.{Number}
 use Rattle.model.specs.Coefficients.{edition_one}
 use Rattle.model.specs.Widths.{lane, lane_value, shoulder, shoulder_value, type_value}
 use Rattle.model.specs.Access.{driveway_part}
@@ -12,7 +12,7 @@ use Rattle.model.specs.Expected.{weighed, with_history, expected_low}
 pub record Tempting : Type 0 where
   pub lane_at_2000 : lane edition_one 9 2000 <ᶠ lane edition_one 9 2001
   -- a history of none lowers 2 crashes at a signal to 2 / 1.22
-  pub history_zero : with_history (11 ÷ 100) (Number 0) (whole 2) =ᶠ 200 ÷ 122
+  pub history_zero : with_history (11 ÷ 100) (Some 0) (whole 2) =ᶠ 200 ÷ 122
   -- no driveway at ln A = 5 is 0.2 / 0.325, below 1
   pub no_driveway : driveway_part edition_one 0 (whole 5) =ᶠ 200 ÷ 325
   -- 2,540,983.6 is rounded down

@@ -1,14 +1,13 @@
 -- The answer of the public call: its test is the range's, the bracket that is answered stands, and what a form of the call ensures.
-use Rattle.std.specs.Prelude.{ℕ, ◌≡◌, leb, eqb}
+use Rattle.std.specs.Prelude.{None, Some, ℕ, ◌≡◌, ◌≤◌, leb, eqb}
 use Rattle.std.proofs.Common.{arith}
 use borrow.Author.Tests.{le-leb, lt-ltb, eq-eqb}
 use Rattle.std.proofs.Math.Dec.{leb→le, ltb→lt, eqb→eq}
 use Rattle.laws.specs.Table.{both_left, both_right}
 use Rattle.bracket.specs.Answer.{Answers, answer_stands, refused, given}
 use Rattle.bracket.specs.declared.Bracket.{Bracket}
-use Rattle.bracket.specs.declared.BracketAnswer.TheVariants.{Between, OutOfRange}
 use Rattle.remainder.specs.Remainder.{Exponent}
-use Rattle.power.specs.Exponents.{exponent_at, place_of, place_of_holds, exponent_small}
+use Rattle.power.specs.Exponents.{exponent_at, place_of, place_of_holds, place_among, place_among_is, place_among_none, exponent_small}
 use Rattle.power.specs.Power.{power_bracket, PowerRange, in_range, StandingPower, power_answer, PowerStands}
 use Rattle.power.proofs.PowerStanding.{power_standing}
 
@@ -43,12 +42,19 @@ module _ (base num den : ℕ) where
   power_answer_stands = answer_stands power_answers
 
   -- THE TWO ANSWERS OF A FORM OF THE CALL, with all that it ensures
-  pub power_refused : (PowerRange base num den → ⊥) → (OutOfRange ≡ power_answer base num den) × (PowerRange base num den → ⊥)
+  pub power_refused : (PowerRange base num den → ⊥) → (None ≡ power_answer base num den) × (PowerRange base num den → ⊥)
   unfolding power_answer
   power_refused = refused power_answers
 
+  -- none, where the exponent has no place
+  pub power_refused_place : None ≡ place_among num → (None ≡ power_answer base num den) × (PowerRange base num den → ⊥)
+  power_refused_place e = power_refused (λ r. place_among_none num e r.stored)
+
   -- the bracket that was made at the place of num hundredths
-  pub power_given : {place : ℕ} {b : Bracket} → place ≡ place_of num → PowerRange base num den → b ≡ power_bracket base (exponent_at place) 100
-      → (Between b ≡ power_answer base num den) × StandingPower base num den b
+  pub power_given : {place : ℕ} {b : Bracket} → 1 ≤ base → base ≤ 20000 → den ≡ 100 → Some place ≡ place_among num → b ≡ power_bracket base (exponent_at place) 100
+      → (Some b ≡ power_answer base num den) × StandingPower base num den b
   unfolding power_answer
-  power_given e r is = given power_answers r (rw (is, e, place_of_holds num r.stored, r.hundredths))
+  power_given {place} from to hundredths e is =
+      let p = place_among_is num place e in
+      let r : PowerRange base num den = record { from_one = from; to_20000 = to; hundredths = hundredths; stored = p.1 } in
+      given power_answers r (rw (is, p.0, place_of_holds num p.1, hundredths))

@@ -1,6 +1,8 @@
 -- The five exponents, in hundredths, each named by its place.
-use Rattle.std.specs.Prelude.{ℕ, zero, suc, ◌≤◌, ◌<◌, cond, List, [], ◌∷◌, ◌≡◌, refl, eqb, leb, length, get_or}
-use Rattle.std.proofs.Common.{suc-le-suc, ap, zero-lt-suc, not-suc-le-zero, le_of_suc-le-suc, arith, eq-eqb, ne_eqb, leb→le}
+use Rattle.std.specs.Prelude.{ℕ, zero, suc, ◌≤◌, ◌<◌, cond, List, [], ◌∷◌, Option, None, Some, ◌≡◌, refl, eqb, leb, ltb, length, get_or}
+use Rattle.std.proofs.Common.{suc-le-suc, ap, zero-lt-suc, not-suc-le-zero, le_of_suc-le-suc, arith, eq-eqb, ne_eqb, lt-ltb, leb→le, sym}
+use Rattle.std.proofs.lemmas.Bool.{ltb-true}
+use Rattle.std.proofs.lemmas.Option.{cond_some, none-some}
 use Rattle.std.proofs.Math.Decide.{ℕ_discrete}
 use Rattle.laws.specs.Table.{at}
 use Rattle.remainder.specs.Remainder.{Exponent}
@@ -19,6 +21,10 @@ place_in (y ∷ ys) x = cond (eqb y x) 0 (suc (place_in ys x))
 
 unfoldable pub place_of : ℕ → ℕ
 place_of num = place_in exponents num
+
+-- the place, where num is one of the exponents
+unfoldable pub place_among : ℕ → Option ℕ
+place_among num = cond (ltb (place_of num) 5) (Some (place_of num)) None
 
 -- THE PLACE IS THE FIRST
 
@@ -45,6 +51,16 @@ place_holds (y ∷ ys) x l = by_cases (ℕ_discrete y x) (place_holds ys x) l
 pub place_of_holds : (num : ℕ) → place_of num < 5 → exponent_at (place_of num) ≡ num
 unfolding place_of
 place_of_holds num h = place_holds exponents num h
+
+-- the place that is answered is the first, and none is answered only where there is none
+pub place_among_is : (num e : ℕ) → Some e ≡ place_among num → (e ≡ place_of num) × (place_of num < 5)
+unfolding place_among
+place_among_is num e is =
+    let p = cond_some (ltb (place_of num) 5) (place_of num) e (sym is) in (sym p.1, ltb-true (place_of num) 5 p.0)
+
+pub place_among_none : (num : ℕ) → None ≡ place_among num → place_of num < 5 → ⊥
+unfolding place_among
+place_among_none num is within = none-some (place_of num) (rw (lt-ltb (place_of num) 5 within) at is)
 
 -- EACH IS AT MOST 0.79
 

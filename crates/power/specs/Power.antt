@@ -1,12 +1,11 @@
 -- The bracket of A^(p/q), and the answer of the call that makes it. With A = n m + r it is stored(n) * stored(m) * ((n m + r)/(n m))^(p/q).
-use Rattle.std.specs.Prelude.{ℕ, ◌*◌, ◌≤◌, ◌<◌, Bool, ◌≡◌, leb, ltb, eqb}
+use Rattle.std.specs.Prelude.{Option, ℕ, ◌*◌, ◌≤◌, ◌<◌, Bool, ◌≡◌, leb, ltb, eqb}
 use Rattle.laws.specs.Table.{both}
 use Rattle.estimate.specs.Power.{power_under, power_over}
 use Rattle.wide.specs.Scaling.{floor, ceiling}
 use Rattle.bracket.specs.Bracket.{Stands, RelativeWidth, power_width}
 use Rattle.bracket.specs.Answer.{answer_where, AnswerPromised}
 use Rattle.bracket.specs.declared.Bracket.{Bracket}
-use Rattle.bracket.specs.declared.BracketAnswer.{BracketAnswer}
 use Rattle.remainder.specs.Split.{first_factor, second_factor, split_rest}
 use Rattle.remainder.specs.Remainder.{scale, remainder_low, remainder_high}
 use Rattle.power.specs.Exponents.{place_of}
@@ -41,7 +40,7 @@ unfoldable pub in_range : (base num den : ℕ) → Bool
 in_range base num den = both (leb 1 base) (both (leb base 20000) (both (eqb den 100) (ltb (place_of num) 5)))
 
 -- what the call answers
-unfoldable pub power_answer : (base num den : ℕ) → BracketAnswer
+unfoldable pub power_answer : (base num den : ℕ) → Option Bracket
 power_answer base num den = answer_where (in_range base num den) (power_bracket base num den)
 
 -- "brackets of the shared arithmetic, which stand to the estimates as a pair does and have a stated width"
@@ -50,5 +49,5 @@ pub record StandingPower (A p q : ℕ) (b : Bracket) : Type 0 where
   pub narrow : RelativeWidth power_width 1 b
 
 -- a bracket stands; no bracket is answered outside the range only
-abbrev pub PowerStands : (base num den : ℕ) → BracketAnswer → Type 0
+abbrev pub PowerStands : (base num den : ℕ) → Option Bracket → Type 0
 PowerStands base num den = AnswerPromised (StandingPower base num den) (PowerRange base num den → ⊥)

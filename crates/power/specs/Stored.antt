@@ -7,7 +7,7 @@ use Rattle.estimate.specs.WholePower.{mul_pow, pow_mul, pow_le_cancel}
 use Rattle.estimate.specs.Power.{power_largest, power_largest_is}
 use Rattle.estimate.proofs.PowerLaws.{above_power}
 use Rattle.remainder.specs.Remainder.{Exponent}
-use Rattle.remainder.specs.declared.Bounds.{Bounds}
+use Rattle.bracket.specs.declared.Bounds.{Bounds}
 use Rattle.power.specs.Exponents.{exponent_at}
 
 -- the bounds' denominator

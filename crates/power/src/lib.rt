@@ -8,12 +8,12 @@ ghost use Rattle.std.specs.Prelude.{◌≡◌, ◌≤◌, ◌<◌};
 ghost use Rattle.wide.specs.Scaling.{rounded};
 ghost use Rattle.remainder.specs.Remainder.{scale, NearOne};
 ghost use Rattle.power.specs.Exponents.{exponent_at};
-ghost use Rattle.power.specs.Stored.{StoredPowers, billion};
+ghost use Rattle.power.specs.Stored.{billion};
 ghost use Rattle.power.specs.Ends.{most_stored, most_product};
 ghost use Rattle.power.specs.Power.{power_bracket, power_answer, PowerStands};
 
-use crate::stored::{exponent_place, hundredths, stored_bounds, stored_powers};
-use bracket::{Bracket, BracketAnswer};
+use crate::stored::{Powers, exponent_place, hundredths, stored_bounds, stored_powers};
+use bracket::Bracket;
 use remainder::{SCALE, remainder_bounds, split};
 use wide::scale::scale_by_parts;
 
@@ -57,13 +57,13 @@ fn end_of(product: u64, remainder: u64, up: u64) -> u64
 
 // Both ends, for the exponent at a place below 5. The remainder takes longest: base - r is there before n * m, and the products stand
 // before it in the code (docs/DECISIONS.md#Arithmetic).
-pub fn power_with(stored: &[u64; 2560], base: u64, exponent: u64) -> Bracket
-    requires { StoredPowers stored.now × (1 ≤ base) × (base ≤ 20000) × (exponent < 5) }
+pub fn power_with(powers: &Powers, base: u64, exponent: u64) -> Bracket
+    requires { (1 ≤ base) × (base ≤ 20000) × (exponent < 5) }
     ensures { result ≡ power_bracket base (exponent_at exponent) 100 }
 {
     let s = split(base);
-    let first = stored_bounds(stored, exponent, s.n);
-    let second = stored_bounds(stored, exponent, s.m);
+    let first = stored_bounds(powers, exponent, s.n);
+    let second = stored_bounds(powers, exponent, s.m);
     let low = product_of(first.low, second.low, 0);
     let high = product_of(first.high, second.high, 1);
     let remainder = remainder_bounds(base - s.r, s.r, hundredths(exponent), 100);
@@ -76,23 +76,13 @@ pub fn power_with(stored: &[u64; 2560], base: u64, exponent: u64) -> Bracket
 }
 
 // A bracket of base^(num / den), or that the base or the exponent is out of range.
-pub fn power(base: u64, num: u64, den: u64) -> BracketAnswer
+pub fn power(base: u64, num: u64, den: u64) -> Option<Bracket>
     ensures value { result ≡ power_answer base num den }
     ensures stands { PowerStands base num den result }
 {
-    if base < 1 {
-        return BracketAnswer::OutOfRange;
+    if base < 1 || 20000 < base || den != 100 {
+        return None;
     }
-    if 20000 < base {
-        return BracketAnswer::OutOfRange;
-    }
-    if den != 100 {
-        return BracketAnswer::OutOfRange;
-    }
-    let exponent = exponent_place(num);
-    if 5 <= exponent {
-        return BracketAnswer::OutOfRange;
-    }
-    let stored = stored_powers();
-    BracketAnswer::Between(power_with(&stored, base, exponent))
+    let exponent = exponent_place(num)?;
+    Some(power_with(&stored_powers(), base, exponent))
 }

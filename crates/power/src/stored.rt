@@ -1,15 +1,21 @@
 // Stored bounds of the powers of 1 to 256 at five exponents, in billionths: made once, and lent to the calls that read them.
 ghost use Rattle.std.specs.Prelude.{◌≡◌, ◌≤◌, ◌<◌};
-ghost use Rattle.power.specs.Exponents.{exponent_at, place_of};
+ghost use Rattle.power.specs.Exponents.{exponent_at, place_among};
 ghost use Rattle.power.specs.Stored.{StoredPowers, stored_bounds};
 ghost use Rattle.power.specs.Ends.{most_stored};
 
-use remainder::Bounds;
+use bracket::Bounds;
 
 // The exponents, in hundredths.
 const HUNDREDTHS: [u64; 5] = [79, 49, 60, 61, 20];
 
-// For each exponent and each number k from 1 to 256, the lower and the upper bound of k's power, side by side.
+// For each exponent and each number k from 1 to 256, the lower and the upper bound of k's power, side by side: the estimates at depth 9.
+#[derive(Drop)]
+pub struct Powers {
+    pub numbers: [u64; 2560],
+    ghost stored: { StoredPowers numbers },
+}
+
 const POWERS: [u64; 2560] = [
     1000000000,
     1000000001,
@@ -2573,11 +2579,11 @@ const POWERS: [u64; 2560] = [
     3031433134,
 ];
 
-// The stored powers: the estimates at depth 9.
-pub fn stored_powers() -> [u64; 2560]
-    ensures { StoredPowers result }
+// The stored powers.
+pub fn stored_powers() -> Powers
+    ensures { StoredPowers result.numbers }
 {
-    POWERS
+    Powers { numbers: POWERS }
 }
 
 // The exponent at a place, in hundredths.
@@ -2589,29 +2595,23 @@ pub fn hundredths(exponent: u64) -> u64
     HUNDREDTHS[i]
 }
 
-// The place of num hundredths among the exponents, 5 where it is none of them.
-pub fn exponent_place(num: u64) -> u64
-    ensures { result ≡ place_of num }
+// The place of num hundredths among the exponents, if it is one of them.
+pub fn exponent_place(num: u64) -> Option<u64>
+    ensures { result ≡ place_among num }
 {
-    let mut e: u64 = 0;
-    while e < 5 {
-        if hundredths(e) == num {
-            return e;
-        }
-        e += 1;
-    }
-    e
+    let place = HUNDREDTHS.iter().position(|h| *h == num)?;
+    Some(place as u64)
 }
 
 // The bounds of k to the exponent at a place.
-pub fn stored_bounds(stored: &[u64; 2560], exponent: u64, k: u64) -> Bounds
-    requires { StoredPowers stored.now × (exponent < 5) × (1 ≤ k) × (k ≤ 256) }
+pub fn stored_bounds(powers: &Powers, exponent: u64, k: u64) -> Bounds
+    requires { (exponent < 5) × (1 ≤ k) × (k ≤ 256) }
     ensures value { result ≡ stored_bounds k (exponent_at exponent) 100 }
     ensures small { (result.low ≤ most_stored) × (result.high ≤ most_stored) }
 {
     let i = (2 * (exponent * 256 + (k - 1))) as usize;
     Bounds {
-        low: stored[i],
-        high: stored[i + 1],
+        low: powers.numbers[i],
+        high: powers.numbers[i + 1],
     }
 }

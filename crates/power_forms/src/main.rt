@@ -3,13 +3,13 @@
 // denominators of the bracket's ends, or that it is out of range. A rest of fewer bytes than three numbers is passed over.
 #![tactic(auto)]
 
-ghost use Rattle.std.specs.Prelude.{◌+◌, ◌<◌, ◌≤◌, length, IfOk};
+ghost use Rattle.std.specs.Prelude.{◌+◌, ◌<◌, ◌≤◌, length};
 
-use bracket::BracketAnswer;
+use bracket::Bracket;
+use input::fill_buffer;
 use power::power;
 use power_by_ends::power_by_ends;
 use std::io;
-use std::io::{Read, Stdin};
 
 // The upper four bytes of a number count so many times their value.
 const HALF: u64 = 4294967296;
@@ -42,45 +42,27 @@ fn number_at(input: &[u8], at: usize) -> u64
     half_at(input, at) * HALF + half_at(input, at + 4)
 }
 
-fn print_answer(rt: &impl Print, answer: BracketAnswer) -> io::Result<()> {
+fn print_answer(rt: &impl Print, answer: Option<Bracket>) -> io::Result<()> {
     match answer {
-        BracketAnswer::Between(b) => println!(rt;
-            "{} {} {} {}",
-            b.low_num, b.low_den, b.high_num, b.high_den
-        ),
-        BracketAnswer::OutOfRange => println!(rt; "out of range"),
+        Some(b) => println!(rt; "{} {} {} {}", b.low_num, b.low_den, b.high_num, b.high_den),
+        None => println!(rt; "out of range"),
     }
 }
 
 fn print_answers(rt: &impl Print, input: &[u8]) -> io::Result<()> {
-    for i in 0..input.len() / ARGUMENTS {
-        let at = ARGUMENTS * i;
-        let base = number_at(input, at);
-        let num = number_at(input, at + 8);
-        let den = number_at(input, at + 16);
+    let (calls, _) = input.as_chunks::<ARGUMENTS>();
+    for call in calls {
+        let base = number_at(call, 0);
+        let num = number_at(call, 8);
+        let den = number_at(call, 16);
         print_answer(rt, power(base, num, den))?;
         print_answer(rt, power_by_ends(base, num, den))?;
     }
     Ok(())
 }
 
-// Fills a buffer from standard input until it is full or the input ends, and returns how many bytes it put there.
-fn read_input(stdin: &mut Stdin, buffer: &mut [u8]) -> io::Result<usize>
-    ensures { IfOk result (λ n. n ≤ length buffer.new) }
-{
-    let mut done = 0;
-    while done < buffer.len() {
-        let n = stdin.read(&mut buffer[done..])?;
-        if n == 0 {
-            return Ok(done);
-        }
-        done += n;
-    }
-    Ok(done)
-}
-
 fn main(rt: HostRuntime) -> io::Result<()> {
     let mut input = [0u8; INPUT_ROOM];
-    let n = read_input(&mut rt.stdin(), &mut input)?;
+    let n = fill_buffer(&mut rt.stdin(), &mut input)?;
     print_answers(&rt, &input[..n])
 }

@@ -3,6 +3,7 @@ use Rattle.std.specs.Prelude.{ℕ, suc, ◌*◌, ◌≤◌, ◌≡◌, Bool, con
 use Rattle.std.proofs.Math.Path.{refl}
 use Rattle.std.proofs.Math.Bool.{true, false}
 use mathlib.Core.List.{List, [], ◌∷◌, ◌++◌, map, map-map}
+use Rattle.std.specs.Prelude.{Some}
 use Rattle.std.proofs.Common.{mul-le-mul, mul-le-mul_right, pos_of_ne-zero, arith, lit<, lit≤, eqb-true}
 use Rattle.std.proofs.Math.Dec.{eqb}
 use Rattle.std.proofs.lemmas.Bool.{eqb-false}
@@ -11,7 +12,6 @@ use Rattle.estimate.specs.FractionLaws.{≤ᶠ-trans, =ᶠ-≤ᶠ, =ᶠ-≥ᶠ, 
 use Rattle.wide.specs.Rounding.{ceiling-≤}
 use Rattle.bracket.specs.Bracket.{power_width, exponential_width, logarithm_width}
 use Rattle.bracket.specs.WidthLaws.{narrow_in}
-use Rattle.bracket.specs.declared.carry.CarryAnswer.TheVariants.{Carried}
 use Rattle.bracket.specs.Carry.{carried, relative_part}
 use Rattle.bracket.specs.Pieces.{unders, overs, shares, product}
 use Rattle.bracket.proofs.Pieces.{carried_ends}
@@ -36,7 +36,7 @@ use Rattle.prediction.specs.Pair.{unit, segment_units, crossing_units, pair_of, 
 use Rattle.prediction.specs.Pair.{term_pair, plus, sum_pair, predicted_pair, most_term, most_predicted}
 use Rattle.prediction.specs.Kept.{Rated, Roomy, AllSized, segment_most, crossing_most, all_kept, segment_sized, crossing_sized}
 use Rattle.prediction.specs.Terms.{TermSizes, AllTerms, terms_sized}
-use Rattle.prediction.specs.declared.Pair.{Pair}
+use Rattle.bracket.specs.declared.Bounds.{Bounds}
 use Rattle.prediction.specs.PredictedLaws.{PairStands, millionths_add}
 
 -- THE LISTS of a factor's readings, of any factors
@@ -63,7 +63,7 @@ module _ (k : Coefficients) (rated : Rated k) (start : Fraction) (units most : �
   carried_stands =
       let kept = all_kept k rated factors sized in
       let e = carried_ends parts 1000000 unit start (pieces_of k factors) units most (lit< tt) kept few roomy.fits exactly_start in
-      let is : carried units units (brackets_of k factors) ≡ Carried e.low_end e.high_end = rw map-map at e.is in
+      let is : carried units units (brackets_of k factors) ≡ Some (e.low_end, e.high_end) = rw map-map at e.is in
       rw is (record {
         low_right = record { at = λ d l. rw (overs_are k d factors) (record { cross = e.low_right d l }) };
         high_right = record { at = λ d l. rw (unders_are k d factors) (record { cross = e.high_right d l }) };
@@ -122,7 +122,7 @@ none_stands = record {
   small = lit≤ tt;
 }
 
-both_stand : {m : ℕ} {f g u v : ℕ → Fraction} {x y : Pair} → PairStands 1 f u x → PairStands m g v y
+both_stand : {m : ℕ} {f g u v : ℕ → Fraction} {x y : Bounds} → PairStands 1 f u x → PairStands m g v y
     → PairStands (suc m) (λ d. f d +ᶠ g d) (λ d. u d +ᶠ v d) (plus x y)
 both_stand {m} {f} {g} {u} {v} {x} {y} h k = record {
   low_right = record { at = λ d l. ≤ᶠ-trans (=ᶠ-≤ᶠ (millionths_add x.low y.low)) (+ᶠ-mono (h.low_right.at d l) (k.low_right.at d l)) };

@@ -1,11 +1,10 @@
 -- What the code takes from the factors: the place of each exponent, a start's products, the list of factors that it went through,
 -- and the sum over a site's terms.
+use Rattle.std.specs.Prelude.{Option, Some}
 use Rattle.std.specs.Prelude.{ℕ, ◌*◌, ◌≤◌, ◌<◌, ◌≡◌, refl, true, false, List}
 use Rattle.std.proofs.Common.{◌∙◌, mul-le-mul, lit<}
 use borrow.Author.Tests.{eq-eqb, ne_eqb}
 use Rattle.bracket.specs.declared.Bracket.{Bracket}
-use Rattle.bracket.specs.declared.carry.CarryAnswer.{CarryAnswer}
-use Rattle.bracket.specs.declared.carry.CarryAnswer.TheVariants.{Carried}
 use Rattle.bracket.specs.Carry.{carried, carried_on, one_by_one}
 use Rattle.bracket.specs.CarryLaws.{one_by_one_lem, carried_append}
 use Rattle.power.specs.Exponents.{exponent_at}
@@ -64,7 +63,7 @@ pub start_room : {years calibration traffic length : ℕ} → years ≤ most_yea
 start_room y c a l = record { first = mul-le-mul y c; second = mul-le-mul (mul-le-mul y c) a; third = mul-le-mul (mul-le-mul (mul-le-mul y c) a) l }
 
 -- ONE FACTOR AFTER ANOTHER is the list of them
-pub through_all : (k : Coefficients) (a : CarryAnswer) (factors : List Factor) {r : CarryAnswer} → r ≡ one_by_one a (brackets_of k factors)
+pub through_all : (k : Coefficients) (a : Option (ℕ × ℕ)) (factors : List Factor) {r : Option (ℕ × ℕ)} → r ≡ one_by_one a (brackets_of k factors)
     → r ≡ carried_on a (brackets_of k factors)
 through_all k a factors e = e ∙ one_by_one_lem (brackets_of k factors) a
 
@@ -80,7 +79,7 @@ module _ (k : Coefficients) (v : Segment) (start : ℕ) where
       ≡ carried start start (brackets_of k (segment_factors v))
   unfolding segment_factors straight_factors curve_factors
   curve_carried e =
-      rw e (carried_append (brackets_of k (straight_factors v)) (brackets_of k (curve_factors v)) (Carried start start))
+      rw e (carried_append (brackets_of k (straight_factors v)) (brackets_of k (curve_factors v)) (Some (start, start)))
 
 -- THE PAIR of a term is that of its kind's numbers
 module _ (k : Coefficients) (header : Header) (site : Site) (term : Term) where

@@ -6,10 +6,10 @@ use Rattle.estimate.specs.Standing.{LowRight, HighRight}
 use Rattle.wide.specs.Rounding.{Narrow}
 use Rattle.model.specs.StatedWidths.{width_parts, predicted_each}
 use Rattle.prediction.specs.Pair.{most_term}
-use Rattle.prediction.specs.declared.Pair.{Pair}
+use Rattle.bracket.specs.declared.Bounds.{Bounds}
 
 -- WHAT IS SHOWN of a pair that stands for estimates, of `count` terms
-pub record PairStands (count : ℕ) (under over : ℕ → Fraction) (p : Pair) : Type 0 where
+pub record PairStands (count : ℕ) (under over : ℕ → Fraction) (p : Bounds) : Type 0 where
   pub low_right : LowRight (millionths p.low) over
   pub high_right : HighRight (millionths p.high) under
   pub in_order : p.low ≤ p.high

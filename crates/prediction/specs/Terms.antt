@@ -1,10 +1,10 @@
 -- THE SIZES OF A SITE'S TERMS: where the site is valid, the traffic of each year is within its range.
+use Rattle.std.specs.Prelude.{None}
 use Prim.Native.Nat.{ℕ, zero, suc, ◌+◌, ◌-◌, ◌≤◌, ◌<◌}
 use Rattle.std.specs.Prelude.{◌≡◌, refl, true, cond, List, [], ◌∷◌, length, get_or}
 use Rattle.std.proofs.Common.{◌∙◌, arith, lit≤}
 use Rattle.site.specs.declared.values.Site.{Site}
 use Rattle.site.specs.Rules.{most_years}
-use Rattle.site.specs.declared.values.Slot.TheVariants.{Absent}
 use Rattle.site.specs.Yearly.{later_slots, yearly}
 use Rattle.site.specs.Writing.{Valid}
 use Rattle.site.specs.Numbers.{number, TrafficSizes, site_traffic, crossing_minor, later_traffic_sizes, later_minor_sizes}
@@ -61,10 +61,10 @@ abbrev pub no_term : Term
 no_term = term_at 0 0 0
 
 abbrev pub traffic_in : Site → ℕ → ℕ
-traffic_in site i = number (get_or (site.traffic ∷ later_slots site.later_traffic) i Absent)
+traffic_in site i = number (get_or (site.traffic ∷ later_slots site.later_traffic) i None)
 
 abbrev pub minor_in : Site → ℕ → ℕ
-minor_in site i = number (get_or (site.minor_traffic ∷ later_slots site.later_minor) i Absent)
+minor_in site i = number (get_or (site.minor_traffic ∷ later_slots site.later_minor) i None)
 
 later_at_lem : (site : Site) (from count i : ℕ) → i < count → get_or (later_terms site from count) i no_term ≡ year_term site (from + i)
 unfolding later_terms

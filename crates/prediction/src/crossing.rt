@@ -1,8 +1,6 @@
 // A crossing's start carried through the brackets of its factors.
 ghost use Rattle.std.specs.Prelude.{◌≡◌, ◌*◌, ◌≤◌};
 ghost use Rattle.exponential.specs.Exponential.{exp_bracket};
-ghost use Rattle.exponential.specs.Stored.{StoredExponentials};
-ghost use Rattle.power.specs.Stored.{StoredPowers};
 ghost use Rattle.bracket.specs.Carry.{carried};
 ghost use Rattle.site.specs.Rules.{most_years};
 ghost use Rattle.site.specs.Numbers.{CrossingSizes};
@@ -15,9 +13,11 @@ ghost use Rattle.prediction.specs.Pair.{crossing_units};
 ghost use Rattle.prediction.specs.Carrying.{major_place, minor_place};
 
 use crate::stored::base_factor;
+use crate::tables::Tables;
 use bracket::Bracket;
-use bracket::carry::{CarryAnswer, through, through_exact};
+use bracket::carry::{through, through_exact};
 use exponential::exponential_with;
+use exponential::stored::Exponentials;
 use factors::crossings::{left_turn, right_turn, sight};
 use power::power_with;
 use site::numbers::Crossing;
@@ -55,8 +55,8 @@ fn skew_exponent(kind: u8) -> u64
 }
 
 // The skew's factor.
-fn skew_factor(exponentials: &[u64; 15], v: Crossing) -> Bracket
-    requires { StoredExponentials exponentials.now × CrossingSizes v }
+fn skew_factor(exponentials: &Exponentials, v: Crossing) -> Bracket
+    requires { CrossingSizes v }
     ensures { result ≡ exp_bracket (skew_exponent v.kind * v.skew) }
 {
     exponential_with(exponentials, skew_exponent(v.kind) * v.skew)
@@ -64,25 +64,24 @@ fn skew_factor(exponentials: &[u64; 15], v: Crossing) -> Bracket
 
 // The start through the factors.
 pub fn carry_crossing(
-    powers: &[u64; 2560],
-    exponentials: &[u64; 15],
+    tables: &Tables,
     edition: u64,
     years: u64,
     calibration: u64,
     v: Crossing,
-) -> CarryAnswer
-    requires { StoredPowers powers.now × StoredExponentials exponentials.now × (years ≤ most_years) × (calibration ≤ most_calibration) × CrossingSizes v }
+) -> Option<(u64, u64)>
+    requires { (years ≤ most_years) × (calibration ≤ most_calibration) × CrossingSizes v }
     ensures { result ≡ carried (crossing_units years calibration) (crossing_units years calibration) (brackets_of (coefficients_of edition) (crossing_factors v)) }
 {
     let start = years * calibration * 200_000_000;
-    let ends = CarryAnswer::Carried(start, start);
-    let major = power_with(powers, v.traffic, major_place(v.kind));
+    let ends = Some((start, start));
+    let major = power_with(&tables.powers, v.traffic, major_place(v.kind));
     let after_major = through(ends, major);
-    let minor = power_with(powers, v.minor, minor_place(v.kind));
+    let minor = power_with(&tables.powers, v.minor, minor_place(v.kind));
     let after_minor = through(after_major, minor);
     let after_left = through_exact(after_minor, left_turn(edition, v.kind, v.left_lanes));
     let after_right = through_exact(after_left, right_turn(edition, v.kind, v.right_lanes));
     let after_sight = through_exact(after_right, sight(v.limited_sight));
-    let after_skew = through(after_sight, skew_factor(exponentials, v));
+    let after_skew = through(after_sight, skew_factor(&tables.exponentials, v));
     through(after_skew, base_factor(edition, v.kind))
 }

@@ -6,41 +6,27 @@ pub mod crossing;
 pub mod rounding;
 pub mod segment;
 pub mod stored;
+pub mod tables;
 pub mod term;
 pub mod yearly;
 
 ghost use Rattle.std.specs.Prelude.{◌≡◌};
-ghost use Rattle.exponential.specs.Stored.{StoredExponentials};
-ghost use Rattle.logarithm.specs.Stored.{StoredLogarithms};
-ghost use Rattle.power.specs.Stored.{StoredPowers};
 ghost use Rattle.site.specs.Writing.{Valid};
 ghost use Rattle.header.specs.HeaderLaws.{HeaderWithin};
 ghost use Rattle.model.specs.Coefficients.{coefficients_of};
 ghost use Rattle.prediction.specs.Pair.{predicted_pair};
 
+use crate::tables::Tables;
 use crate::term::term_pair;
 use crate::yearly::{add_pair, count_of, traffic_in, years_of};
+use bracket::Bounds;
 use header::Header;
 use site::values::{Site, is_yearly};
 
-// The two ends of a bracket of millionths.
-#[derive(Clone, Copy)]
-pub struct Pair {
-    pub low: u64,
-    pub high: u64,
-}
-
 // The pair of a valid site in a header's edition, over its years and calibrations: the sum over its terms, one of all the years or
 // one for each.
-pub fn predicted_with(
-    powers: &[u64; 2560],
-    logarithms: &[u64; 256],
-    exponentials: &[u64; 15],
-    header: Header,
-    site: Site,
-) -> Pair
-    requires { StoredPowers powers.now × StoredLogarithms logarithms.now × StoredExponentials exponentials.now × HeaderWithin header
-        × Valid header.edition header.years site }
+pub fn predicted_with(tables: &Tables, header: Header, site: Site) -> Bounds
+    requires { HeaderWithin header × Valid header.edition header.years site }
     ensures { result ≡ predicted_pair (coefficients_of header.edition) header site }
 {
     let traffic = site.traffic;
@@ -50,13 +36,10 @@ pub fn predicted_with(
     let yearly = is_yearly(site);
     let years = years_of(header.years, yearly);
     let count = count_of(header.years, yearly);
-    let mut sum = Pair { low: 0, high: 0 };
-    let mut year = 0;
-    while year < count {
+    let mut sum = Bounds { low: 0, high: 0 };
+    for year in 0..count {
         let next = term_pair(
-            powers,
-            logarithms,
-            exponentials,
+            tables,
             header,
             site,
             years,
@@ -64,7 +47,6 @@ pub fn predicted_with(
             traffic_in(minor, later_minor, year),
         );
         sum = add_pair(sum, next);
-        year += 1;
     }
     sum
 }

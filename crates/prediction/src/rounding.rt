@@ -1,41 +1,21 @@
 // A carried bracket in whole millionths.
 ghost use Rattle.std.specs.Prelude.{◌≡◌};
-ghost use Rattle.wide.specs.Scaling.{floor, ceiling};
-ghost use Rattle.prediction.specs.Pair.{unit, outward};
+ghost use Rattle.prediction.specs.Pair.{outward};
 
-use crate::Pair;
-use bracket::carry::CarryAnswer;
+use bracket::Bounds;
 
 // Units to a millionth.
 const UNIT: u64 = 200_000;
 
-// Units in millionths, rounded down.
-fn down(units: u64) -> u64
-    ensures { result ≡ floor units 1 unit }
-{
-    units / UNIT
-}
-
-// Units in millionths, rounded up.
-fn up(units: u64) -> u64
-    ensures { result ≡ ceiling units 1 unit }
-{
-    let whole = units / UNIT;
-    if whole * UNIT == units {
-        return whole;
-    }
-    whole + 1
-}
-
 // A carried bracket, rounded outward. A site that is in its range is never too large.
-pub fn round_outward(answer: CarryAnswer) -> Pair
+pub fn round_outward(answer: Option<(u64, u64)>) -> Bounds
     ensures { result ≡ outward answer }
 {
     match answer {
-        CarryAnswer::Carried(low, high) => Pair {
-            low: down(low),
-            high: up(high),
+        Some((low, high)) => Bounds {
+            low: low / UNIT,
+            high: high.div_ceil(UNIT),
         },
-        CarryAnswer::TooLarge => Pair { low: 0, high: 0 },
+        None => Bounds { low: 0, high: 0 },
     }
 }

@@ -1,6 +1,5 @@
 // A segment's start carried through the brackets of its factors.
 ghost use Rattle.std.specs.Prelude.{◌≡◌, ◌≤◌};
-ghost use Rattle.logarithm.specs.Stored.{StoredLogarithms};
 ghost use Rattle.bracket.specs.Carry.{carried, carried_on};
 ghost use Rattle.site.specs.Rules.{most_years};
 ghost use Rattle.site.specs.Numbers.{SegmentSizes, CurveSizes};
@@ -11,12 +10,13 @@ ghost use Rattle.prediction.specs.Factors.{brackets_of};
 ghost use Rattle.prediction.specs.Pair.{segment_units};
 
 use crate::stored::{base_factor, hazard_factor};
-use bracket::carry::{CarryAnswer, through, through_exact};
+use bracket::carry::{through, through_exact};
 use driveways::driveways_with;
 use factors::access::{passing, two_way_lane};
 use factors::alignment::{curve, grade, steep_grade, superelevation};
 use factors::coefficients::coefficients_of;
 use factors::widths::{lane, shoulder};
+use logarithm::stored::Logarithms;
 use site::numbers::Segment;
 
 // Y × calibration × A × L × 0.000365, in units.
@@ -28,12 +28,17 @@ fn segment_start(years: u64, calibration: u64, v: Segment) -> u64
 }
 
 // The start through the factors of every road.
-fn carry_straight(logarithms: &[u64; 256], edition: u64, start: u64, v: Segment) -> CarryAnswer
-    requires { StoredLogarithms logarithms.now × SegmentSizes v }
+fn carry_straight(
+    logarithms: &Logarithms,
+    edition: u64,
+    start: u64,
+    v: Segment,
+) -> Option<(u64, u64)>
+    requires { SegmentSizes v }
     ensures { result ≡ carried start start (brackets_of (coefficients_of edition) (straight_factors v)) }
 {
     let k = coefficients_of(edition);
-    let ends = CarryAnswer::Carried(start, start);
+    let ends = Some((start, start));
     let after_base = through(ends, base_factor(edition, 0));
     let lane_factor = lane(k.related_share, v.lane_width, v.traffic);
     let after_lane = through_exact(after_base, lane_factor);
@@ -60,7 +65,7 @@ fn carry_straight(logarithms: &[u64; 256], edition: u64, start: u64, v: Segment)
 }
 
 // A straight road's answer through the curve's two factors, which are the same in every edition.
-fn carry_curve(straight: CarryAnswer, v: Segment) -> CarryAnswer
+fn carry_curve(straight: Option<(u64, u64)>, v: Segment) -> Option<(u64, u64)>
     requires { CurveSizes v }
     ensures { (k : Coefficients) → result ≡ carried_on straight (brackets_of k (curve_factors v)) }
 {
@@ -70,13 +75,13 @@ fn carry_curve(straight: CarryAnswer, v: Segment) -> CarryAnswer
 
 // The start through the factors of every road and then the curve's.
 pub fn carry_segment(
-    logarithms: &[u64; 256],
+    logarithms: &Logarithms,
     edition: u64,
     years: u64,
     calibration: u64,
     v: Segment,
-) -> CarryAnswer
-    requires { StoredLogarithms logarithms.now × (years ≤ most_years) × (calibration ≤ most_calibration) × SegmentSizes v }
+) -> Option<(u64, u64)>
+    requires { (years ≤ most_years) × (calibration ≤ most_calibration) × SegmentSizes v }
     ensures { result ≡ carried (segment_units years calibration v) (segment_units years calibration v) (brackets_of (coefficients_of edition) (segment_factors v)) }
 {
     let start = segment_start(years, calibration, v);

@@ -1,12 +1,11 @@
 // The terms of a site, year by year or one of all the years.
-ghost use Rattle.std.specs.Prelude.{◌≡◌, cond, ◌∷◌, ◌≤◌, get_or};
-ghost use Rattle.site.specs.declared.values.Slot.TheVariants.{Absent};
+ghost use Rattle.std.specs.Prelude.{◌≡◌, cond, ◌∷◌, ◌≤◌, get_or, None};
 ghost use Rattle.site.specs.Rules.{later_years};
 ghost use Rattle.site.specs.Yearly.{later_slots};
 ghost use Rattle.site.specs.Numbers as numbers;
 ghost use Rattle.prediction.specs.Pair.{most_predicted, plus};
 
-use crate::Pair;
+use bracket::Bounds;
 use site::numbers::number;
 use site::values::{Later, Slot, later_slots};
 
@@ -27,7 +26,7 @@ pub fn count_of(years: u64, yearly: bool) -> u64
 // A traffic in a year, the first at place 0.
 pub fn traffic_in(first: Slot, later: Later, year: u64) -> u64
     requires { year ≤ later_years }
-    ensures { result ≡ numbers.number (get_or (first ∷ later_slots later) year Absent) }
+    ensures { result ≡ numbers.number (get_or (first ∷ later_slots later) year None) }
 {
     if year == 0 {
         return number(first);
@@ -37,11 +36,11 @@ pub fn traffic_in(first: Slot, later: Later, year: u64) -> u64
 }
 
 // The sum of two pairs.
-pub fn add_pair(sum: Pair, next: Pair) -> Pair
+pub fn add_pair(sum: Bounds, next: Bounds) -> Bounds
     requires { ((plus sum next).low ≤ most_predicted) × ((plus sum next).high ≤ most_predicted) }
     ensures { result ≡ plus sum next }
 {
-    Pair {
+    Bounds {
         low: sum.low + next.low,
         high: sum.high + next.high,
     }

@@ -1,4 +1,7 @@
 -- A file with its report is accepted exactly when none of document 01's causes is found in them, and otherwise has one first cause.
+use Rattle.std.specs.Prelude.{Result, Ok, Err}
+use Rattle.site.specs.Refusals.{number_of}
+use Rattle.project.specs.declared.Refused.{Refused}
 use Rattle.std.specs.Prelude.{◌≡◌, refl, Bool, true, false, List, ◌↔◌, ◌⊎◌, ℕ, ◌≤◌, length, drop, ltb}
 use Rattle.std.proofs.Common.{ap, sym, subst, ◌∙◌, inl, inr, arith, ltb-true, ltb-false}
 use Rattle.laws.specs.Truth.{not_both}
@@ -9,13 +12,11 @@ use Rattle.site.proofs.RecordCauses.{cause_number, cause_not_zero}
 use Rattle.header.specs.Header.{edition_in, count_in}
 use Rattle.header.specs.Causes.{HeaderCause, header_cut, header_edition, header_limits, HeaderAccepted}
 use Rattle.header.proofs.HeaderLaws.{accepted_edition}
-use Rattle.project.specs.declared.ScanAnswer.{ScanAnswer}
-use Rattle.project.specs.declared.ScanAnswer.TheVariants.{Accepted, Refused}
 use Rattle.project.specs.File.{years_in, scan_file}
 use Rattle.project.specs.Causes.{Starts, RecordNumber, RunsPast, header_past, record_past, report_length, NoCause}
 use Rattle.project.specs.Causes.{FirstInBytes, in_header, in_record, in_rest, Whole, FirstCause, in_bytes, in_report}
 use Rattle.project.specs.Scan.{years_known_lem}
-use Rattle.project.proofs.ScanLaws.{same_place, earlier, refused_exactly, accepted_exactly}
+use Rattle.project.proofs.ScanLaws.{same_place, earlier, refused_exactly, accepted_exactly, first_refused, same_refused, bytes_number}
 
 counted : (s : List ℕ) (n : ℕ) → Whole s n → Whole s (count_in s)
 counted s n w =
@@ -70,16 +71,16 @@ module _ (s : List ℕ) (room : ℕ) where
           report_suffices = λ p r. let m = r.short in omega arith;
         }
 
-  none_by : NoCause s room → (answer : ScanAnswer) → scan_file s ≡ answer → Whole s (count_in s)
-  none_by none (Accepted n) e = counted s n ((accepted_exactly s n).0 e)
-  none_by none (Refused number p) e = absurd (bytes_none none ((refused_exactly s number p).0 e))
+  none_by : NoCause s room → (answer : Result ℕ Refused) → scan_file s ≡ answer → Whole s (count_in s)
+  none_by none (Ok n) e = counted s n ((accepted_exactly s n).0 e)
+  none_by none (Err refused) e = absurd (bytes_none none ((refused_exactly s refused).0 e))
 
   room_by : NoCause s room → (b : Bool) → ltb room (report_length (count_in s)) ≡ b → report_length (count_in s) ≤ room
   room_by none true t = absurd (none.report_suffices 0 (record { place_is = refl; short = ltb-true room (report_length (count_in s)) t }))
   room_by none false t = ltb-false room (report_length (count_in s)) t
 
   pub no_cause_exactly : (n : ℕ)
-      → ((scan_file s ≡ Accepted n) × (report_length n ≤ room)) ↔ (NoCause s room × (n ≡ count_in s))
+      → ((scan_file s ≡ Ok n) × (report_length n ≤ room)) ↔ (NoCause s room × (n ≡ count_in s))
   no_cause_exactly n = (
     λ h.
         let w = (accepted_exactly s n).0 h.0 in
@@ -89,7 +90,7 @@ module _ (s : List ℕ) (room : ℕ) where
     λ h.
         let w = none_by h.0 (scan_file s) refl in
         let r = room_by h.0 (ltb room (report_length (count_in s))) refl in
-        ((accepted_exactly s (count_in s)).1 w ∙ ap Accepted (sym h.1), rw h.1 r),
+        ((accepted_exactly s (count_in s)).1 w ∙ ap Ok (sym h.1), rw h.1 r),
   )
 
   -- and every other file and report have one first cause
@@ -103,9 +104,9 @@ module _ (s : List ℕ) (room : ℕ) where
       inl (record { number = 10; place = 0; found = in_report w (record { place_is = refl; short = ltb-true room (report_length (count_in s)) t }) })
   found_in w false t = inr (whole_none w (ltb-false room (report_length (count_in s)) t))
 
-  found_by : (answer : ScanAnswer) → scan_file s ≡ answer → FirstFound ⊎ NoCause s room
-  found_by (Accepted n) e = found_in (counted s n ((accepted_exactly s n).0 e)) (ltb room (report_length (count_in s))) refl
-  found_by (Refused number p) e = inl (record { number = number; place = p; found = in_bytes ((refused_exactly s number p).0 e) })
+  found_by : (answer : Result ℕ Refused) → scan_file s ≡ answer → FirstFound ⊎ NoCause s room
+  found_by (Ok n) e = found_in (counted s n ((accepted_exactly s n).0 e)) (ltb room (report_length (count_in s))) refl
+  found_by (Err refused) e = inl (record { number = number_of refused.refusal; place = refused.place; found = in_bytes ((refused_exactly s refused).0 e) })
 
   pub first_or_none : FirstFound ⊎ NoCause s room
   first_or_none = found_by (scan_file s) refl
@@ -113,16 +114,15 @@ module _ (s : List ℕ) (room : ℕ) where
   -- 10 comes last, where the bytes show no cause
   not_both_found : {number p : ℕ} → FirstInBytes s number p → Whole s (count_in s) → ⊥
   not_both_found {number} {p} f w =
-      let a = (refused_exactly s number p).1 f in
+      let a = first_refused s f in
       let b = (accepted_exactly s (count_in s)).1 w in
       let z : ◌≡◌ {A = ℕ} 0 1 = cc in
       omega arith
 
   pub first_only : {m n p q : ℕ} → FirstCause s room m p → FirstCause s room n q → (m ≡ n) × (p ≡ q)
   first_only {m} {n} {p} {q} (in_bytes f) (in_bytes g) =
-      let a = (refused_exactly s m p).1 f in
-      let b = (refused_exactly s n q).1 g in
-      (cc, cc)
+      let same = same_refused (sym (first_refused s f) ∙ first_refused s g) in
+      (sym (bytes_number f) ∙ ap (λ (r : Refused). number_of r.refusal) same ∙ bytes_number g, ap (λ (r : Refused). r.place) same)
   first_only (in_bytes f) (in_report w h) = absurd (not_both_found f w)
   first_only (in_report w h) (in_bytes f) = absurd (not_both_found f w)
   first_only (in_report w h) (in_report v k) = (refl, refl)

@@ -1,4 +1,7 @@
 -- Laws of Prefix in specs/.
+use Rattle.std.specs.Prelude.{Result, Ok, Err}
+use Rattle.site.specs.declared.refusal.Refusal.{Refusal}
+use Rattle.site.specs.Refusals.{refusal}
 use Rattle.std.specs.Prelude.{◌≡◌, refl, Bool, true, false, List, ◌++◌, get_or, take, drop, leb, eqb}
 use Rattle.std.proofs.Common.{ap, sym, ◌∙◌, length-drop, take-append-drop, take_all, length-take-le}
 use Prim.Native.Nat.{ℕ, zero, suc, ◌+◌, ◌*◌, ◌<◌, ◌≤◌}
@@ -7,16 +10,13 @@ use Rattle.std.proofs.Math.ListN.{length, length-append, get_or-append}
 use Rattle.std.proofs.lemmas.List.{drop-append-le}
 use borrow.Author.Tests.{lt-ltb, le-ltb, leb-true, leb-false, eqb-true, eqb-false}
 use Rattle.site.specs.declared.values.Site.{Site}
-use Rattle.site.specs.declared.values.SiteAnswer.{SiteAnswer}
-use Rattle.site.specs.declared.values.SiteAnswer.TheVariants as site
 use Rattle.site.specs.Record.{word, read_site}
 use Rattle.site.specs.BytesRead.{bears, past_nothing}
 use Rattle.site.specs.Theorems.{longest, bears_most}
 use Rattle.site.proofs.Theorems.{read_length}
 use Rattle.header.specs.Header.{edition_in, header_length, count_in, most_sites, header_number}
 use Rattle.header.proofs.HeaderLaws.{header_accepted, accepted_admitted}
-use Rattle.project.specs.declared.ScanAnswer.TheVariants.{Refused}
-use Rattle.project.specs.File.{years_in, after_record, scan_records, scan_file}
+use Rattle.project.specs.File.{years_in, refused_at, after_record, scan_records, scan_file}
 use Rattle.project.specs.Scan.{scan_past_header, scan_header}
 use Rattle.project.specs.Prefix.{longest_file}
 
@@ -30,11 +30,11 @@ module _ (s t : List ℕ) (full : longest_file < length s) where
       let b : bears edition years (drop at s) ≤ length (drop at s) = omega (arith, bears_most edition years (drop at s)) in
       ap (read_site edition years) (drop-append-le at s t a) ∙ past_nothing edition years (drop at s) t b
 
-  same_step : (edition years sites left at : ℕ) (answer : SiteAnswer)
-      → ((value : Site) (n : ℕ) → answer ≡ site.Read value n → scan_records edition years sites left (at + n) (s ++ t) ≡ scan_records edition years sites left (at + n) s)
+  same_step : (edition years sites left at : ℕ) (answer : Result (Site × ℕ) Refusal)
+      → ((value : Site) (n : ℕ) → answer ≡ Ok (value, n) → scan_records edition years sites left (at + n) (s ++ t) ≡ scan_records edition years sites left (at + n) s)
       → after_record at answer (λ next. scan_records edition years sites left next (s ++ t)) ≡ after_record at answer (λ next. scan_records edition years sites left next s)
-  same_step edition years sites left at (site.Refused number) later = refl
-  same_step edition years sites left at (site.Read value n) later = later value n refl
+  same_step edition years sites left at (Err refusal) later = refl
+  same_step edition years sites left at (Ok (value, n)) later = later value n refl
 
   same_records : (edition years sites left i at : ℕ) → i + left ≤ most_sites → at ≤ header_length + i * longest
       → scan_records edition years sites left at (s ++ t) ≡ scan_records edition years sites left at s
@@ -93,7 +93,7 @@ module _ (s t : List ℕ) (full : longest_file < length s) where
       ∙ sym (scan_past_header s z)
   same_by false e =
       let ne = eqb-false (header_number s) 0 e in
-      scan_header (s ++ t) (λ z. ne (sym same_header ∙ z)) ∙ ap (λ (k : ℕ). Refused k 0) same_header ∙ sym (scan_header s ne)
+      scan_header (s ++ t) (λ z. ne (sym same_header ∙ z)) ∙ ap (λ (k : ℕ). refused_at (refusal k) 0) same_header ∙ sym (scan_header s ne)
 
   -- bytes past the longest file and one more bear on nothing
   pub scan_past_nothing : scan_file (s ++ t) ≡ scan_file s

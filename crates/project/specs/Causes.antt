@@ -1,7 +1,7 @@
 -- Document 01's causes to refuse a project, each found in the bytes apart from any scan, and their order.
+use Rattle.std.specs.Prelude.{Ok}
 use Rattle.std.specs.Prelude.{◌≡◌, List, ℕ, zero, suc, ◌+◌, ◌*◌, ◌<◌, length, drop}
 use Rattle.site.specs.declared.values.Site.{Site}
-use Rattle.site.specs.declared.values.SiteAnswer.TheVariants as site
 use Rattle.site.specs.Record.{read_site}
 use Rattle.site.specs.RecordCauses.{RecordCause}
 use Rattle.header.specs.Header.{edition_in, header_length, count_in}
@@ -11,7 +11,7 @@ use Rattle.project.specs.File.{years_in}
 -- the record with an index starts at a place: the first after the header, each other after a record that can be read
 pub data Starts (s : List ℕ) : ℕ → ℕ → Type 0 where
   first : Starts s zero header_length
-  next : {i p n : ℕ} {value : Site} → Starts s i p → read_site (edition_in s) (years_in s) (drop p s) ≡ site.Read value n → Starts s (suc i) (p + n)
+  next : {i p n : ℕ} {value : Site} → Starts s i p → read_site (edition_in s) (years_in s) (drop p s) ≡ Ok (value, n) → Starts s (suc i) (p + n)
 
 -- a record that the header counts starts at a place, and the number's cause is the first in the bytes from there
 pub record RecordNumber (s : List ℕ) (number p : ℕ) : Type 0 where

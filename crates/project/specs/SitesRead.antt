@@ -1,12 +1,12 @@
 -- The sites of an accepted file: as many as its header counts, each valid in a project of its edition and years.
+use Rattle.std.specs.Prelude.{Result, Ok, Err}
+use Rattle.site.specs.declared.refusal.Refusal.{Refusal}
 use Rattle.std.specs.Prelude.{◌≡◌, true, length, drop}
 use Rattle.std.proofs.Math.Path.{refl}
 use Rattle.std.proofs.Common.{arith}
 use mathlib.Core.List.{List, Memᴰ}
 use Prim.Native.Nat.{ℕ, zero, suc, ◌<◌, ◌≤◌}
 use Rattle.site.specs.declared.values.Site.{Site}
-use Rattle.site.specs.declared.values.SiteAnswer.{SiteAnswer}
-use Rattle.site.specs.declared.values.SiteAnswer.TheVariants as site
 use Rattle.site.specs.Rules.{edition_known, years_known}
 use Rattle.site.specs.Record.{read_site}
 use Rattle.site.specs.Writing.{Valid}
@@ -19,10 +19,10 @@ pub record ValidSites (edition years n : ℕ) (sites : List Site) : Type 0 where
   pub valid : (value : Site) → Memᴰ value sites → Valid edition years value
 
 -- a file that has a site has years that the site reader takes, accepted or not
-taken_years : (edition years at : ℕ) (s : List ℕ) (later : ℕ → List Site) (answer : SiteAnswer) → read_site edition years (drop at s) ≡ answer
+taken_years : (edition years at : ℕ) (s : List ℕ) (later : ℕ → List Site) (answer : Result (Site × ℕ) Refusal) → read_site edition years (drop at s) ≡ answer
     → 0 < length (taken at answer later) → years_known years ≡ true
-taken_years edition years at s later (site.Refused number) q h = absurd (omega arith)
-taken_years edition years at s later (site.Read value n) q h = (reading edition years (drop at s) value n q).accepts.passes.head.years_in
+taken_years edition years at s later (Err refusal) q h = absurd (omega arith)
+taken_years edition years at s later (Ok (value, n)) q h = (reading edition years (drop at s) value n q).accepts.passes.head.years_in
 
 from_years : (edition years left at : ℕ) (s : List ℕ) → 0 < length (sites_from edition years left at s) → years_known years ≡ true
 unfolding sites_from

@@ -6,51 +6,53 @@ ghost use Rattle.header.specs.Header.{header_length};
 ghost use Rattle.project.specs.File.{scan_records};
 ghost use Rattle.project.specs.Promise.{ScansFile};
 
-use header::{HEADER_LENGTH, count_in, header_in, header_number};
-use site::values::SiteAnswer;
+use header::{HEADER_LENGTH, check_header, count_in, header_in};
+use site::refusal::Refusal;
 use site_reader::read_site;
 
-// The count of sites, or document 01's number and place.
+// Why a project is refused, and the place of it: a byte of the file, or 0.
 #[derive(Clone, Copy)]
-pub enum ScanAnswer {
-    Accepted(usize),
-    Refused(u8, usize),
+pub struct Refused {
+    pub refusal: Refusal,
+    pub place: usize,
+}
+
+// What the header is refused for has place 0.
+impl From<Refusal> for Refused {
+    ghost from_gives = { λ refusal refused. refused ≡ record { refusal = refusal; place = 0 } };
+
+    fn from(refusal: Refusal) -> Refused {
+        Refused { refusal, place: 0 }
+    }
 }
 
 // The records in turn, each by the part that starts at its kind byte, in a project of an edition and of so many years, then the
 // bytes after the last.
-fn scan_records(file: &[u8], edition: u64, years: u64, sites: usize) -> ScanAnswer
+fn scan_records(file: &[u8], edition: u64, years: u64, sites: usize) -> Result<usize, Refused>
     requires { header_length ≤ length file.now }
     ensures { result ≡ scan_records edition years sites sites header_length file.now }
 {
     let mut at = HEADER_LENGTH;
-    let mut i = 0;
-    while i < sites {
-        let answer = read_site(edition, years, &file[at..]);
-        match answer {
-            SiteAnswer::Refused(number) => {
-                return ScanAnswer::Refused(number, at);
-            }
-            SiteAnswer::Read(_, n) => {
-                at += n;
-            }
+    for _ in 0..sites {
+        match read_site(edition, years, &file[at..]) {
+            Ok((_, n)) => at += n,
+            Err(refusal) => return Err(Refused { refusal, place: at }),
         }
-        i += 1;
     }
     if at < file.len() {
-        return ScanAnswer::Refused(2, at);
+        return Err(Refused {
+            refusal: Refusal::BytesAfter,
+            place: at,
+        });
     }
-    ScanAnswer::Accepted(sites)
+    Ok(sites)
 }
 
 // The first cause to refuse a file that its bytes show, and its place, or the count of its sites.
-pub fn scan(file: &[u8]) -> ScanAnswer
+pub fn scan(file: &[u8]) -> Result<usize, Refused>
     ensures { ScansFile file.now result }
 {
-    let number = header_number(file);
-    if number != 0 {
-        return ScanAnswer::Refused(number, 0);
-    }
+    check_header(file)?;
     let header = header_in(file);
     scan_records(file, header.edition, header.years, count_in(file))
 }

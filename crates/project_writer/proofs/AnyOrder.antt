@@ -1,4 +1,5 @@
 -- EVERY ORDER IS A PROJECT: the sites of an accepted file are written in any order, and what is written is accepted.
+use Rattle.std.specs.Prelude.{Ok}
 use Rattle.std.specs.Prelude.{ℕ, ◌≤◌, ◌≡◌, refl, List, length, get_or}
 use Rattle.std.proofs.Common.{sym, ap, ◌∙◌, arith}
 use Rattle.laws.specs.Reordering.{Reordering}
@@ -6,9 +7,7 @@ use Rattle.laws.proofs.ReorderingLaws.{each_is_image}
 use Rattle.site.specs.declared.values.Site.{Site}
 use Rattle.header.specs.declared.Header.{Header}
 use Rattle.header.specs.Header.{header_in}
-use Rattle.project.specs.declared.ScanAnswer.TheVariants.{Accepted}
 use Rattle.project.specs.File.{scan_file, sites_in}
-use Rattle.project_writer.specs.declared.course.FileAnswer.TheVariants.{Written}
 use Rattle.project_writer.specs.ProjectFile.{file_of, file_answer}
 use Rattle.project_writer.specs.Causes.{ValidBelow, Writable}
 use Rattle.project_writer.proofs.Exactly.{answer_exactly}
@@ -30,7 +29,7 @@ module _ {sites others : List Site} {image : ℕ → ℕ} (r : Reordering sites 
     valid = valid_in_any_order header.edition header.years w.valid;
   }
 
-module _ (bytes : List ℕ) (n : ℕ) (accepted : scan_file bytes ≡ Accepted n)
+module _ (bytes : List ℕ) (n : ℕ) (accepted : scan_file bytes ≡ Ok n)
     (sites : List Site) (image : ℕ → ℕ) (r : Reordering (sites_in bytes) sites image) where
   writable : Writable (header_in bytes) sites
   writable = writable_in_any_order r (accepted_writable bytes n accepted)
@@ -40,6 +39,6 @@ module _ (bytes : List ℕ) (n : ℕ) (accepted : scan_file bytes ≡ Accepted n
 
   -- in every buffer that has space for it
   pub any_order_written : (room : ℕ) → length (file_of (header_in bytes) sites) ≤ room
-      → file_answer (header_in bytes) sites room ≡ Written (length (file_of (header_in bytes) sites))
+      → file_answer (header_in bytes) sites room ≡ Ok (length (file_of (header_in bytes) sites))
   any_order_written room space =
-      (answer_exactly (header_in bytes) sites room (Written (length (file_of (header_in bytes) sites)))).1 (writable, space, refl)
+      (answer_exactly (header_in bytes) sites room (Ok (length (file_of (header_in bytes) sites)))).1 (writable, space, refl)

@@ -1,4 +1,5 @@
 -- Laws of Exactly in specs/.
+use Rattle.std.specs.Prelude.{Result, Ok, Err}
 use Rattle.std.specs.Prelude.{◌≡◌, Bool, cond, List, ◌↔◌, ℕ, ◌+◌, length}
 use Rattle.std.proofs.Math.Path.{refl}
 use Rattle.std.proofs.Common.{ap, sym, subst}
@@ -13,8 +14,8 @@ use Rattle.site.proofs.Tested.{unknown_neither, neither_unknown}
 use Rattle.header.specs.declared.Header.{Header}
 use Rattle.header.specs.Header.{admits, header_length}
 use Rattle.header.proofs.HeaderLaws.{admitted, admits_both}
-use Rattle.project_writer.specs.declared.course.FileAnswer.{FileAnswer}
-use Rattle.project_writer.specs.declared.course.FileAnswer.TheVariants.{Written, EditionUnknown, OutsideLimits, OutsideRange, TooShort}
+use Rattle.project_writer.specs.declared.course.FileRefusal.{FileRefusal}
+use Rattle.project_writer.specs.declared.course.FileRefusal.TheVariants.{EditionUnknown, OutsideLimits, OutsideRange, TooShort}
 use Rattle.project_writer.specs.ProjectFile.{records_of, file_of, sound_sites, file_answer, file_number, file_value}
 use Rattle.project_writer.specs.Causes.{LimitsKept, Writable, FileCause, edition_neither, limits_broken, site_outside}
 use Rattle.project_writer.specs.Causes.{space_short, file_fits}
@@ -52,7 +53,7 @@ module _ (header : Header) (sites : List Site) where
       where
         by : (x a b c : Bool) → edition_known header.edition ≡ x → admits header (length sites) ≡ a → ltb counted (length sites) ≡ b
             → leb (length (file_of header sites)) room ≡ c → FileTells header sites room
-            (cond x (cond a (cond b (OutsideRange counted) (cond c (Written (length (file_of header sites))) TooShort)) OutsideLimits) EditionUnknown)
+            (cond x (cond a (cond b (Err (OutsideRange counted)) (cond c (Ok (length (file_of header sites))) (Err TooShort))) (Err OutsideLimits)) (Err EditionUnknown))
         by true true true c x p q r =
             (x, limits_kept p, first_outside header.edition header.years sites (ltb-true counted (length sites) q))
         by true true false true x p q r = (writable x p (none_outside header.edition header.years sites q), leb-true _ room r, refl)
@@ -60,44 +61,44 @@ module _ (header : Header) (sites : List Site) where
         by true false b c x p q r = (x, λ kept. not_both _ (admits_both header (length sites) kept) p)
         by false a b c x p q r = x
 
-    tells_answer : (answer : FileAnswer) → FileTells header sites room answer → file_answer header sites room ≡ answer
+    tells_answer : (answer : Result ℕ FileRefusal) → FileTells header sites room answer → file_answer header sites room ≡ answer
     unfolding file_answer
-    tells_answer (Written n) t =
+    tells_answer (Ok n) t =
         let w = t.0 in
         let all = writable_sound w in
-        rw (w.edition, writable_admitted w, le-ltb counted (length sites) (omega arith), le-leb (length (file_of header sites)) room t.1) (ap Written (sym t.2))
-    tells_answer EditionUnknown t = rw t
-    tells_answer OutsideLimits t = rw (t.0, never_so (admits header (length sites)) (λ e. t.1 (limits_kept e)))
-    tells_answer (OutsideRange index) t =
+        rw (w.edition, writable_admitted w, le-ltb counted (length sites) (omega arith), le-leb (length (file_of header sites)) room t.1) (ap Ok (sym t.2))
+    tells_answer (Err EditionUnknown) t = rw t
+    tells_answer (Err OutsideLimits) t = rw (t.0, never_so (admits header (length sites)) (λ e. t.1 (limits_kept e)))
+    tells_answer (Err (OutsideRange index)) t =
         let is = outside_sound header.edition header.years sites index t.2 in
         let within = t.2.within in
-        rw (t.0, admits_both header (length sites) t.1, lt-ltb counted (length sites) (omega arith)) (ap OutsideRange is)
-    tells_answer TooShort t =
+        rw (t.0, admits_both header (length sites) t.1, lt-ltb counted (length sites) (omega arith)) (ap (λ (i : ℕ). Err (OutsideRange i)) is)
+    tells_answer (Err TooShort) t =
         let w = t.0 in
         let all = writable_sound w in
         rw (w.edition, writable_admitted w, le-ltb counted (length sites) (omega arith), lt-leb (length (file_of header sites)) room t.1)
 
     -- EXACTLY WHERE
-    pub answer_exactly : (answer : FileAnswer) → (file_answer header sites room ≡ answer) ↔ FileTells header sites room answer
+    pub answer_exactly : (answer : Result ℕ FileRefusal) → (file_answer header sites room ≡ answer) ↔ FileTells header sites room answer
     answer_exactly answer = (λ e. subst (FileTells header sites room) e answer_tells, tells_answer answer)
 
-    cause_told : (answer : FileAnswer) → FileTells header sites room answer → FileCause header sites room (file_number answer) (file_value answer)
-    cause_told (Written n) t = rw t.2 (file_fits t.0 t.1)
-    cause_told EditionUnknown t = let neither = unknown_neither header.edition t in edition_neither neither.0 neither.1
-    cause_told OutsideLimits t = limits_broken t.0 t.1
-    cause_told (OutsideRange index) t = site_outside t.0 t.1 t.2
-    cause_told TooShort t = space_short t.0 t.1
+    cause_told : (answer : Result ℕ FileRefusal) → FileTells header sites room answer → FileCause header sites room (file_number answer) (file_value answer)
+    cause_told (Ok n) t = rw t.2 (file_fits t.0 t.1)
+    cause_told (Err EditionUnknown) t = let neither = unknown_neither header.edition t in edition_neither neither.0 neither.1
+    cause_told (Err OutsideLimits) t = limits_broken t.0 t.1
+    cause_told (Err (OutsideRange index)) t = site_outside t.0 t.1 t.2
+    cause_told (Err TooShort) t = space_short t.0 t.1
 
     pub cause_of : FileCause header sites room (file_number (file_answer header sites room)) (file_value (file_answer header sites room))
     cause_of = cause_told (file_answer header sites room) answer_tells
 
     numbers_of : {number value : ℕ} → FileCause header sites room number value
         → (file_number (file_answer header sites room) ≡ number) × (file_value (file_answer header sites room) ≡ value)
-    numbers_of (edition_neither one two) = rw (tells_answer EditionUnknown (neither_unknown header.edition one two)) (refl, refl)
-    numbers_of (limits_broken x h) = rw (tells_answer OutsideLimits (x, h)) (refl, refl)
-    numbers_of (site_outside {index} x l f) = rw (tells_answer (OutsideRange index) (x, l, f)) (refl, refl)
-    numbers_of (space_short w h) = rw (tells_answer TooShort (w, h)) (refl, refl)
-    numbers_of (file_fits w h) = rw (tells_answer (Written (length (file_of header sites))) (w, h, refl)) (refl, refl)
+    numbers_of (edition_neither one two) = rw (tells_answer (Err EditionUnknown) (neither_unknown header.edition one two)) (refl, refl)
+    numbers_of (limits_broken x h) = rw (tells_answer (Err OutsideLimits) (x, h)) (refl, refl)
+    numbers_of (site_outside {index} x l f) = rw (tells_answer (Err (OutsideRange index)) (x, l, f)) (refl, refl)
+    numbers_of (space_short w h) = rw (tells_answer (Err TooShort) (w, h)) (refl, refl)
+    numbers_of (file_fits w h) = rw (tells_answer (Ok (length (file_of header sites))) (w, h, refl)) (refl, refl)
 
     -- and so each number and value
     pub cause_exactly : (number value : ℕ)

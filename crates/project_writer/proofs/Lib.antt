@@ -1,5 +1,4 @@
 -- What the proofs share.
-pub mod NoSite
 pub mod AnyOrder
 pub mod Exactly
 pub mod Promise

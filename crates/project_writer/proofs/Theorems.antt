@@ -1,4 +1,7 @@
 -- Laws of Theorems in specs/.
+use Rattle.std.specs.Prelude.{Result, Ok, Err}
+use Rattle.site.specs.declared.refusal.Refusal.{Refusal}
+use Rattle.project.specs.declared.Refused.{Refused}
 use Rattle.std.proofs.Math.Path.{◌≡◌, refl, ap, sym}
 use Rattle.std.proofs.Common.{◌∙◌, arith, length-append, drop_of_length-le, take_at, ltb-false, le-ltb}
 use Rattle.std.specs.Prelude.{Bool}
@@ -9,8 +12,6 @@ use Rattle.std.proofs.Math.ListN.{length, take, drop, take-append-drop}
 use Rattle.std.proofs.Math.Seq.{drop-append_seam, drop-drop, get_or-drop}
 use Rattle.std.proofs.Math.Dec.{ltb}
 use Rattle.site.specs.declared.values.Site.{Site}
-use Rattle.site.specs.declared.values.SiteAnswer.{SiteAnswer}
-use Rattle.site.specs.declared.values.SiteAnswer.TheVariants as site
 use Rattle.site.specs.Record.{read_site}
 use Rattle.site.specs.Writing.{record_of}
 use Rattle.site.specs.Digits.{Bytes}
@@ -23,13 +24,13 @@ use Rattle.header.specs.Header.{header_length, edition_in, header_in, count_in, 
 use Rattle.header.proofs.HeaderLaws.{accepted_header, limits_of}
 use Rattle.header.proofs.HeaderBytes.{written_header, header_bytes_lem}
 use Rattle.header.specs.HeaderBytes.{header_again}
-use Rattle.project.specs.declared.ScanAnswer.TheVariants.{Accepted, Refused}
-use Rattle.project.specs.File.{years_in, after_record, taken, scan_records, scan_file, sites_from, sites_in}
+use Rattle.site.specs.declared.refusal.Refusal.TheVariants as refused
+use Rattle.project.specs.File.{refused_at, years_in, after_record, taken, scan_records, scan_file, sites_from, sites_in}
 use Rattle.project.specs.Scan.{scan_past_header}
 use Rattle.project.proofs.ScanLaws.{accepted_exactly}
 use Rattle.project.proofs.SitesRead.{accepted_sites}
-use Rattle.project_writer.specs.declared.course.FileAnswer.{FileAnswer}
-use Rattle.project_writer.specs.declared.course.FileAnswer.TheVariants.{Written, EditionUnknown, OutsideLimits, OutsideRange, TooShort}
+use Rattle.project_writer.specs.declared.course.FileRefusal.{FileRefusal}
+use Rattle.project_writer.specs.declared.course.FileRefusal.TheVariants.{EditionUnknown, OutsideLimits, OutsideRange, TooShort}
 use Rattle.project_writer.specs.ProjectFile.{records_of, file_of, sound_sites, file_answer, leaves, buffer_after}
 use Rattle.project_writer.specs.Causes.{Writable}
 use Rattle.project_writer.specs.Sound.{all_sound, sites_sound}
@@ -39,7 +40,7 @@ use Rattle.project_writer.specs.Theorems.{ReadsBack}
 
 -- the records of valid sites, after whatever stands before them
 record RecordsRead (edition years count : ℕ) (front : List ℕ) (sites : List Site) : Type 0 where
-  pub scanned : scan_records edition years count (length sites) (length front) (front ++ records_of edition sites) ≡ Accepted count
+  pub scanned : scan_records edition years count (length sites) (length front) (front ++ records_of edition sites) ≡ Ok count
   pub sites_are : sites_from edition years (length sites) (length front) (front ++ records_of edition sites) ≡ sites
 
 records_read : (edition years count : ℕ) (front : List ℕ) (sites : List Site) → sound_sites edition years sites ≡ length sites
@@ -86,30 +87,30 @@ module _ (header : Header) (sites : List Site) where
 
   -- so is what the writer leaves where it answers a count of bytes: these are the file
   module _ (before : List ℕ) where
-    pub written_file : (n : ℕ) → file_answer header sites (length before) ≡ Written n → take n (buffer_after header sites before) ≡ file_of header sites
+    pub written_file : (n : ℕ) → file_answer header sites (length before) ≡ Ok n → take n (buffer_after header sites before) ≡ file_of header sites
     unfolding buffer_after
     written_file n e =
-        let t = (answer_exactly header sites (length before) (Written n)).0 e in
+        let t = (answer_exactly header sites (length before) (Ok n)).0 e in
         rw e (take_at (file_of header sites) (drop (length (file_of header sites)) before) n (sym t.2))
 
-    pub buffer_accepted : (n : ℕ) → file_answer header sites (length before) ≡ Written n → ReadsBack header sites (take n (buffer_after header sites before))
+    pub buffer_accepted : (n : ℕ) → file_answer header sites (length before) ≡ Ok n → ReadsBack header sites (take n (buffer_after header sites before))
     buffer_accepted n e =
-        rw (written_file n e) (written_accepted ((answer_exactly header sites (length before) (Written n)).0 e).0)
+        rw (written_file n e) (written_accepted ((answer_exactly header sites (length before) (Ok n)).0 e).0)
 
     -- "or nothing is written"
-    pub nothing_written : ((n : ℕ) → file_answer header sites (length before) ≡ Written n → ⊥) → buffer_after header sites before ≡ before
+    pub nothing_written : ((n : ℕ) → file_answer header sites (length before) ≡ Ok n → ⊥) → buffer_after header sites before ≡ before
     unfolding buffer_after
     nothing_written never = by (file_answer header sites (length before)) refl
       where
-        by : (answer : FileAnswer) → file_answer header sites (length before) ≡ answer → leaves answer (file_of header sites) before ≡ before
-        by (Written n) e = absurd (never n e)
-        by EditionUnknown e = refl
-        by OutsideLimits e = refl
-        by (OutsideRange index) e = refl
-        by TooShort e = refl
+        by : (answer : Result ℕ FileRefusal) → file_answer header sites (length before) ≡ answer → leaves answer (file_of header sites) before ≡ before
+        by (Ok n) e = absurd (never n e)
+        by (Err EditionUnknown) e = refl
+        by (Err OutsideLimits) e = refl
+        by (Err (OutsideRange index)) e = refl
+        by (Err TooShort) e = refl
 
 -- neither edition nor limits nor a site forbid to write what was accepted
-pub accepted_writable : (s : List ℕ) (n : ℕ) → scan_file s ≡ Accepted n → Writable (header_in s) (sites_in s)
+pub accepted_writable : (s : List ℕ) (n : ℕ) → scan_file s ≡ Ok n → Writable (header_in s) (sites_in s)
 accepted_writable s n e =
     let file = accepted_sites s n e in
     let few : length (sites_in s) ≤ most_sites = omega (arith, file.sites.count_is, file.few) in
@@ -122,28 +123,28 @@ accepted_writable s n e =
 module _ (s : List ℕ) (bytes : Bytes s) where
   -- the records of a file from a place on, written again
   again_step : (edition years count left at n : ℕ)
-      → ((next : ℕ) → scan_records edition years count left next s ≡ Accepted n → records_of edition (sites_from edition years left next s) ≡ drop next s)
-      → (answer : SiteAnswer) → read_site edition years (drop at s) ≡ answer
-      → after_record at answer (λ next. scan_records edition years count left next s) ≡ Accepted n
+      → ((next : ℕ) → scan_records edition years count left next s ≡ Ok n → records_of edition (sites_from edition years left next s) ≡ drop next s)
+      → (answer : Result (Site × ℕ) Refusal) → read_site edition years (drop at s) ≡ answer
+      → after_record at answer (λ next. scan_records edition years count left next s) ≡ Ok n
       → records_of edition (taken at answer (λ next. sites_from edition years left next s)) ≡ drop at s
   unfolding records_of
-  again_step edition years count left at n later (site.Refused number) q e = let z : ◌≡◌ {A = ℕ} 0 1 = cc in absurd (omega arith)
-  again_step edition years count left at n later (site.Read value k) q e =
+  again_step edition years count left at n later (Err refusal) q e = let z : ◌≡◌ {A = ℕ} 0 1 = cc in absurd (omega arith)
+  again_step edition years count left at n later (Ok (value, k)) q e =
       rw (read_write edition years (drop at s) value k (λ i. rw get_or-drop (bytes (at + i))) q, later (at + k) e, ← drop-drop k at s) (take-append-drop k (drop at s))
 
-  again_from : (edition years count left at n : ℕ) → scan_records edition years count left at s ≡ Accepted n
+  again_from : (edition years count left at n : ℕ) → scan_records edition years count left at s ≡ Ok n
       → records_of edition (sites_from edition years left at s) ≡ drop at s
   unfolding scan_records sites_from records_of
   again_from edition years count zero at n e = by (ltb at (length s)) refl e
     where
-      by : (b : Bool) → ltb at (length s) ≡ b → cond b (Refused 2 at) (Accepted count) ≡ Accepted n → [] ≡ drop at s
+      by : (b : Bool) → ltb at (length s) ≡ b → cond b (refused_at refused.BytesAfter at) (Ok count) ≡ Ok n → [] ≡ drop at s
       by true t q = let z : ◌≡◌ {A = ℕ} 0 1 = cc in absurd (omega arith)
       by false t q = sym (drop_of_length-le s (ltb-false at (length s) t))
   again_from edition years count (suc left) at n e =
       again_step edition years count left at n (λ next q. again_from edition years count left next n q) (read_site edition years (drop at s)) refl e
 
   -- "EACH ACCEPTED FILE IS REPRODUCED from its header and sites"
-  pub accepted_again : (n : ℕ) → scan_file s ≡ Accepted n → file_of (header_in s) (sites_in s) ≡ s
+  pub accepted_again : (n : ℕ) → scan_file s ≡ Ok n → file_of (header_in s) (sites_in s) ≡ s
   unfolding file_of sites_in
   accepted_again n e =
       let header = ((accepted_exactly s n).0 e).header in
@@ -157,12 +158,12 @@ module _ (s : List ℕ) (bytes : Bytes s) where
       ∙ take-append-drop header_length s
 
   -- as the writer answers and leaves it in every buffer that has space for it, one that just suffices among them
-  pub accepted_written : (n : ℕ) (before : List ℕ) → scan_file s ≡ Accepted n → length s ≤ length before
-      → (file_answer (header_in s) (sites_in s) (length before) ≡ Written (length s)) × (buffer_after (header_in s) (sites_in s) before ≡ s ++ drop (length s) before)
+  pub accepted_written : (n : ℕ) (before : List ℕ) → scan_file s ≡ Ok n → length s ≤ length before
+      → (file_answer (header_in s) (sites_in s) (length before) ≡ Ok (length s)) × (buffer_after (header_in s) (sites_in s) before ≡ s ++ drop (length s) before)
   unfolding buffer_after
   accepted_written n before e room =
       let same = accepted_again n e in
       let fits : length (file_of (header_in s) (sites_in s)) ≤ length before = rw same room in
-      let exactly = answer_exactly (header_in s) (sites_in s) (length before) (Written (length s)) in
+      let exactly = answer_exactly (header_in s) (sites_in s) (length before) (Ok (length s)) in
       let answer = exactly.1 (accepted_writable s n e, fits, ap length (sym same)) in
       (answer, rw (answer, same))

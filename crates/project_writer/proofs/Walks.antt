@@ -1,12 +1,12 @@
 -- Laws of Walks in specs/.
-use Rattle.std.specs.Prelude.{◌≡◌, refl, Bool, true, false, List, [], ◌∷◌, ◌++◌, ℕ, ◌+◌, ◌<◌, ◌≤◌, length, get_or, take, drop}
-use Rattle.std.proofs.Common.{ap, sym, ◌∙◌, append-nil, append_assoc, zero-add, length-drop, drop-drop}
+use Rattle.std.specs.Prelude.{Ok}
+use Rattle.std.specs.Prelude.{Result}
+use Rattle.site.specs.declared.refusal.Refusal.{Refusal}
+use Rattle.std.specs.Prelude.{◌≡◌, refl, Bool, true, false, List, [], ◌∷◌, ◌++◌, ℕ, ◌+◌, ◌≤◌, length, take, drop}
+use Rattle.std.proofs.Common.{◌∙◌, append-nil, append_assoc, zero-add, length-drop, drop-drop}
 use native.Mathlib.Omega.{arith}
 use Rattle.std.proofs.lemmas.List.Edits.{sets-eq}
-use Rattle.laws.specs.Walk.{next, at_end}
 use Rattle.site.specs.declared.values.Site.{Site}
-use Rattle.site.specs.declared.values.WriteAnswer.{WriteAnswer}
-use Rattle.site.specs.declared.values.WriteAnswer.TheVariants.{Written}
 use Rattle.site.specs.Writing.{record_of, sound, Valid}
 use Rattle.site.proofs.Theorems.{record_length}
 use Rattle.site.proofs.Written.{length_answered, record_written}
@@ -43,9 +43,9 @@ module _ (edition years : ℕ) (site : Site) (sites : List Site) where
 
 -- AS THE SITE WRITER: where a site is written, the step leaves what `write_site` would, called for the part of the buffer from the
 -- place reached, and goes on by the length that it would answer
-pub as_site_writer : (edition years : ℕ) (site : Site) (at : ℕ) (buffer afterwards : List ℕ) (answer : WriteAnswer)
+pub as_site_writer : (edition years : ℕ) (site : Site) (at : ℕ) (buffer afterwards : List ℕ) (answer : Result ℕ Refusal)
     → Walks edition years (site ∷ []) (Placed at) (length buffer) → WritesSite edition years site (drop at buffer) afterwards answer
-    → (answer ≡ Written (length (record_of edition site))) × (step_buffer edition site (Placed at) buffer ≡ take at buffer ++ afterwards)
+    → (answer ≡ Ok (length (record_of edition site))) × (step_buffer edition site (Placed at) buffer ≡ take at buffer ++ afterwards)
 as_site_writer edition years site at buffer afterwards answer w s =
     let p = walks_valid edition years site [] at (length buffer) w in
     let fits : length (record_of edition site) ≤ length (drop at buffer) = omega (arith, p.1, length-drop at buffer) in (
@@ -61,28 +61,25 @@ as_site_writer edition years site at buffer afterwards answer w s =
       ) refl,
     )
 
-module _ {edition years : ℕ} {sites : List Site} {start : Course} {before : List ℕ} {i : ℕ} {course : Course} {buffer : List ℕ}
-    (w : Walked edition years sites start before i course buffer) where
-  module _ (d site : Site) (more : i < length sites) (site_is : site ≡ get_or sites i d) where
-    from_site : drop i sites ≡ site ∷ drop (i + 1) sites
-    from_site = next sites i d more ∙ ap (λ (first : Site). first ∷ drop (i + 1) sites) (sym site_is)
-
+module _ {edition years : ℕ} {sites : List Site} {start : Course} {before : List ℕ} {left : List Site} {course : Course} {buffer : List ℕ}
+    (w : Walked edition years sites start before left course buffer) where
+  module _ {site : Site} {later : List Site} (next : left ≡ site ∷ later) where
     pub walked_needs : Walks edition years (site ∷ []) course (length buffer)
-    walked_needs = walks_first edition years site (drop (i + 1) sites) course (length buffer) (rw from_site at w.walks)
+    walked_needs = walks_first edition years site later course (length buffer) (rw next at w.walks)
 
     pub walked_more : (course' : Course) (buffer' : List ℕ)
         → (course' ≡ step_course edition years site course) × (buffer' ≡ step_buffer edition site course buffer)
-        → Walked edition years sites start before (i + 1) course' buffer'
+        → Walked edition years sites start before later course' buffer'
     unfolding walk_course walk_buffer
     walked_more course' buffer' step =
         record {
-          course_is = rw step.0 (rw from_site at w.course_is);
-          buffer_is = rw (step.0, step.1) (rw from_site at w.buffer_is);
+          course_is = rw step.0 (rw next at w.course_is);
+          buffer_is = rw (step.0, step.1) (rw next at w.buffer_is);
           walks =
               rw (step.0, step.1, step_length edition site course buffer)
-              (walks_rest edition years site (drop (i + 1) sites) course (length buffer) (rw from_site at w.walks));
+              (walks_rest edition years site later course (length buffer) (rw next at w.walks));
         }
 
-  pub walked_all : length sites ≤ i → (course ≡ walk_course edition years sites start) × (buffer ≡ walk_buffer edition years sites start before)
+  pub walked_all : left ≡ [] → (course ≡ walk_course edition years sites start) × (buffer ≡ walk_buffer edition years sites start before)
   unfolding walk_course walk_buffer
-  walked_all h = (rw (at_end sites i h) at w.course_is, rw (at_end sites i h) at w.buffer_is)
+  walked_all none = (rw none at w.course_is, rw none at w.buffer_is)

@@ -1,4 +1,5 @@
 -- The whole course, from the first site measured to the last written, comes to the file, the answer and the buffer of ProjectFile.
+use Rattle.std.specs.Prelude.{Result, Ok, Err}
 use Rattle.std.specs.Prelude.{◌≡◌, refl, Bool, true, false, cond, List, ◌++◌, ℕ, ◌+◌, ◌<◌, ◌≤◌, length, leb, ltb}
 use Rattle.std.proofs.Common.{sym, ◌∙◌, zero-add, arith, ltb-true, leb-true, leb-false}
 use Rattle.std.proofs.lemmas.List.Edits.{sets}
@@ -11,8 +12,8 @@ use Rattle.site.specs.Rules.{edition_known}
 use Rattle.header.specs.declared.Header.{Header}
 use Rattle.header.specs.Header.{header_length, header_bytes, admits}
 use Rattle.header.proofs.HeaderLaws.{admits_both}
-use Rattle.project_writer.specs.declared.course.FileAnswer.{FileAnswer}
-use Rattle.project_writer.specs.declared.course.FileAnswer.TheVariants.{Written, EditionUnknown, OutsideLimits, OutsideRange, TooShort}
+use Rattle.project_writer.specs.declared.course.FileRefusal.{FileRefusal}
+use Rattle.project_writer.specs.declared.course.FileRefusal.TheVariants.{EditionUnknown, OutsideLimits, OutsideRange, TooShort}
 use Rattle.project_writer.specs.declared.course.Course.{Course}
 use Rattle.project_writer.specs.declared.course.Course.TheVariants.{Measured, Placed, Stopped}
 use Rattle.project_writer.specs.ProjectFile.{records_of, file_of, sound_sites, leaves, buffer_after}
@@ -28,7 +29,7 @@ use Rattle.project_writer.proofs.Promise.{writes_project}
 
 -- where the sites are measured: at the first outside its range, or after them all with the length of the file
 data MeasuredTo (edition years : ℕ) (sites : List Site) : Course → Type 0 where
-  at_outside : sound_sites edition years sites < length sites → MeasuredTo edition years sites (Stopped (OutsideRange (sound_sites edition years sites)))
+  at_outside : sound_sites edition years sites < length sites → MeasuredTo edition years sites (Stopped (Err (OutsideRange (sound_sites edition years sites))))
   after_all : sound_sites edition years sites ≡ length sites
       → MeasuredTo edition years sites (Measured (length sites) (header_length + length (records_of edition sites)))
 
@@ -51,7 +52,7 @@ laid_over_lem front back before fits =
     (rw zero-add at (sets_more before 0 front back)) ∙ sets_laid (front ++ back) before fits
 
 module _ (header : Header) (sites : List Site) (before : List ℕ) where
-  told : (afterwards : List ℕ) (answer : FileAnswer) → FileTells header sites (length before) answer
+  told : (afterwards : List ℕ) (answer : Result ℕ FileRefusal) → FileTells header sites (length before) answer
       → afterwards ≡ leaves answer (file_of header sites) before → WritesProject header sites before afterwards answer
   unfolding buffer_after
   told afterwards answer tells left =
@@ -60,9 +61,9 @@ module _ (header : Header) (sites : List Site) (before : List ℕ) where
 
   -- where the space is tried: the course has stopped, or the file has its space and the header is written
   data BegunTo : Course → List ℕ → Type 0 where
-    stopped_with : (answer : FileAnswer) → FileTells header sites (length before) answer → before ≡ leaves answer (file_of header sites) before
+    stopped_with : (answer : Result ℕ FileRefusal) → FileTells header sites (length before) answer → before ≡ leaves answer (file_of header sites) before
         → BegunTo (Stopped answer) before
-    with_space : FileTells header sites (length before) (Written (length (file_of header sites)))
+    with_space : FileTells header sites (length before) (Ok (length (file_of header sites)))
         → BegunTo (Placed header_length) (sets before 0 (header_bytes header (length sites)))
 
   walks_begun : {course : Course} {buffer : List ℕ} → BegunTo course buffer → Walks header.edition header.years sites course (length buffer)
@@ -84,12 +85,12 @@ module _ (header : Header) (sites : List Site) (before : List ℕ) where
       rw (course_is, ← file_length header sites, buffer_is, laid_over_lem front (records_of header.edition sites) before tells.1) (told _ _ tells refl)
 
   -- "3 .., which the project writer tries first"
-  pub edition_refused : edition_known header.edition ≡ false → WritesProject header sites before before EditionUnknown
-  edition_refused x = told before EditionUnknown x refl
+  pub edition_refused : edition_known header.edition ≡ false → WritesProject header sites before before (Err EditionUnknown)
+  edition_refused x = told before (Err EditionUnknown) x refl
 
   -- "Header limits are tried first", of all that document 02 has for request 1
-  pub limits_refused : edition_known header.edition ≡ true → admits header (length sites) ≡ false → WritesProject header sites before before OutsideLimits
-  limits_refused x e = told before OutsideLimits (x, λ kept. not_both _ (admits_both header (length sites) kept) e) refl
+  pub limits_refused : edition_known header.edition ≡ true → admits header (length sites) ≡ false → WritesProject header sites before before (Err OutsideLimits)
+  limits_refused x e = told before (Err OutsideLimits) (x, λ kept. not_both _ (admits_both header (length sites) kept) e) refl
 
   module _ (x : edition_known header.edition ≡ true) (e : admits header (length sites) ≡ true) where
     begins : {course : Course} → MeasuredTo header.edition header.years sites course → Begins header (length sites) course
@@ -99,14 +100,14 @@ module _ (header : Header) (sites : List Site) (before : List ℕ) where
     begun_to : {course : Course} → MeasuredTo header.edition header.years sites course
         → BegunTo (begun_course course (length before)) (begun_buffer header (length sites) course before)
     begun_to (at_outside h) =
-        stopped_with (OutsideRange (sound_sites header.edition header.years sites))
+        stopped_with (Err (OutsideRange (sound_sites header.edition header.years sites)))
         (x, limits_kept header sites e, first_outside header.edition header.years sites h) refl
     begun_to (after_all all) = by (leb (header_length + length (records_of header.edition sites)) (length before)) refl
       where
         by : (b : Bool) → leb (header_length + length (records_of header.edition sites)) (length before) ≡ b
-            → BegunTo (cond b (Placed header_length) (Stopped TooShort)) (cond b (sets before 0 (header_bytes header (length sites))) before)
+            → BegunTo (cond b (Placed header_length) (Stopped (Err TooShort))) (cond b (sets before 0 (header_bytes header (length sites))) before)
         by true q = with_space (writable header sites x e all, rw (file_length header sites) (leb-true _ (length before) q), refl)
-        by false q = stopped_with TooShort (writable header sites x e all, rw (file_length header sites) (leb-false _ (length before) q)) refl
+        by false q = stopped_with (Err TooShort) (writable header sites x e all, rw (file_length header sites) (leb-false _ (length before) q)) refl
 
     -- "then each site": they are measured
     pub measuring : Walks header.edition header.years sites (Measured 0 header_length) (length before)
@@ -130,7 +131,7 @@ module _ (header : Header) (sites : List Site) (before : List ℕ) where
         pub writing : Walks header.edition header.years sites begun (length buffer)
         writing = walks_begun begun_is
 
-        pub whole_course : (last : Course) (afterwards : List ℕ) (answer : FileAnswer)
+        pub whole_course : (last : Course) (afterwards : List ℕ) (answer : Result ℕ FileRefusal)
             → (last ≡ walk_course header.edition header.years sites begun)
             × (afterwards ≡ walk_buffer header.edition header.years sites begun buffer) → answer ≡ course_answer last
             → WritesProject header sites before afterwards answer

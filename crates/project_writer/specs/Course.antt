@@ -1,4 +1,5 @@
 -- The steps of the code: what a walk over the sites makes of its course and of the buffer.
+use Rattle.std.specs.Prelude.{Result, Ok, Err}
 use Rattle.std.specs.Prelude.{ℕ, ◌+◌, ◌*◌, ◌≤◌, ◌≡◌, true, cond, List, [], ◌∷◌, length, leb}
 use Rattle.std.proofs.lemmas.List.Edits.{sets}
 use Rattle.site.specs.declared.values.Site.{Site}
@@ -7,8 +8,8 @@ use Rattle.site.specs.Writing.{record_of, sound}
 use Rattle.site.specs.Theorems.{longest}
 use Rattle.header.specs.declared.Header.{Header}
 use Rattle.header.specs.Header.{header_length, header_bytes, admits, most_sites}
-use Rattle.project_writer.specs.declared.course.FileAnswer.{FileAnswer}
-use Rattle.project_writer.specs.declared.course.FileAnswer.TheVariants.{Written, OutsideRange, TooShort}
+use Rattle.project_writer.specs.declared.course.FileRefusal.{FileRefusal}
+use Rattle.project_writer.specs.declared.course.FileRefusal.TheVariants.{OutsideRange, TooShort}
 use Rattle.project_writer.specs.declared.course.Course.{Course}
 use Rattle.project_writer.specs.declared.course.Course.TheVariants.{Measured, Placed, Stopped}
 use Rattle.project_writer.specs.ProjectFile.{records_of, sound_sites}
@@ -16,7 +17,7 @@ use Rattle.project_writer.specs.ProjectFile.{records_of, sound_sites}
 -- one site more of a project of an edition and of so many years
 abbrev pub step_course : (edition years : ℕ) → Site → Course → Course
 step_course edition years site (Measured sites n) =
-    cond (sound edition years site) (Measured (sites + 1) (n + length (record_of edition site))) (Stopped (OutsideRange sites))
+    cond (sound edition years site) (Measured (sites + 1) (n + length (record_of edition site))) (Stopped (Err (OutsideRange sites)))
 step_course edition years site (Placed at) = Placed (at + length (record_of edition site))
 step_course edition years site (Stopped answer) = Stopped answer
 
@@ -37,7 +38,7 @@ walk_buffer edition years (site ∷ sites) course buffer =
 
 -- the space test, and the header
 abbrev pub begun_course : Course → (room : ℕ) → Course
-begun_course (Measured sites n) room = cond (leb n room) (Placed header_length) (Stopped TooShort)
+begun_course (Measured sites n) room = cond (leb n room) (Placed header_length) (Stopped (Err TooShort))
 begun_course (Placed at) room = Placed at
 begun_course (Stopped answer) room = Stopped answer
 
@@ -46,9 +47,9 @@ begun_buffer header count (Measured sites n) buffer = cond (leb n (length buffer
 begun_buffer header count (Placed at) buffer = buffer
 begun_buffer header count (Stopped answer) buffer = buffer
 
-abbrev pub course_answer : Course → FileAnswer
-course_answer (Measured sites n) = TooShort
-course_answer (Placed n) = Written n
+abbrev pub course_answer : Course → Result ℕ FileRefusal
+course_answer (Measured sites n) = (Err TooShort)
+course_answer (Placed n) = Ok n
 course_answer (Stopped answer) = answer
 
 -- what a walk over so many sites needs: a file within the limits of length where it is measured, and valid sites whose records

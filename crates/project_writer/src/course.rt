@@ -3,14 +3,13 @@ ghost use Rattle.std.specs.Prelude.{◌≡◌, [], ◌∷◌, length};
 ghost use Rattle.project_writer.specs.Course.{step_course, step_buffer, begun_course, begun_buffer, course_answer, Walks, Begins};
 
 use header::{HEADER_LENGTH, Header, put_header};
-use site::values::{Measure, Site};
+use site::values::Site;
 use site_writer::{measure_site, put_record};
 
-// The count of bytes written, or why nothing is: an edition that is not known, a header value or the count of sites outside its
-// limits, the index of the first site outside its range, or a buffer shorter than the file.
-#[derive(Clone, Copy)]
-pub enum FileAnswer {
-    Written(usize),
+// Why nothing is written: an edition that is not known, a header value or the count of sites outside its limits, the index of the
+// first site outside its range, or a buffer shorter than the file.
+#[derive(Clone, Copy, PartialEq, Eq)]
+pub enum FileRefusal {
     EditionUnknown,
     OutsideLimits,
     OutsideRange(usize),
@@ -23,7 +22,7 @@ pub enum FileAnswer {
 pub enum Course {
     Measured(usize, usize),
     Placed(usize),
-    Stopped(FileAnswer),
+    Stopped(Result<usize, FileRefusal>),
 }
 
 // One site more of a project of an edition and of so many years: its record is measured, or written at the place reached.
@@ -36,8 +35,8 @@ pub fn step(edition: u64, years: u64, site: Site, buffer: &mut [u8], course: Cou
         Course::Measured(sites, n) => {
             let measure = measure_site(edition, years, site);
             match measure {
-                Measure::OutsideRange => Course::Stopped(FileAnswer::OutsideRange(sites)),
-                Measure::Length(more) => Course::Measured(sites + 1, n + more),
+                None => Course::Stopped(Err(FileRefusal::OutsideRange(sites))),
+                Some(more) => Course::Measured(sites + 1, n + more),
             }
         }
         Course::Placed(at) => {
@@ -57,7 +56,7 @@ pub fn begin_writing(header: Header, sites: usize, buffer: &mut [u8], course: Co
         Course::Placed(at) => Course::Placed(at),
         Course::Measured(_, n) => {
             if buffer.len() < n {
-                return Course::Stopped(FileAnswer::TooShort);
+                return Course::Stopped(Err(FileRefusal::TooShort));
             }
             put_header(header, sites, buffer);
             Course::Placed(HEADER_LENGTH)
@@ -66,12 +65,12 @@ pub fn begin_writing(header: Header, sites: usize, buffer: &mut [u8], course: Co
 }
 
 // The answer at the end of the course. A file that was measured and not written lacked the space.
-pub fn answer_of(course: Course) -> FileAnswer
+pub fn answer_of(course: Course) -> Result<usize, FileRefusal>
     ensures { result ≡ course_answer course }
 {
     match course {
         Course::Stopped(answer) => answer,
-        Course::Placed(n) => FileAnswer::Written(n),
-        Course::Measured(_, _) => FileAnswer::TooShort,
+        Course::Placed(n) => Ok(n),
+        Course::Measured(_, _) => Err(FileRefusal::TooShort),
     }
 }

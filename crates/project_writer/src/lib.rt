@@ -8,7 +8,7 @@ ghost use Rattle.header.specs.Header.{header_of};
 ghost use Rattle.project_writer.specs.Course.{walk_course, walk_buffer, Walks};
 ghost use Rattle.project_writer.specs.Promise.{WritesProject};
 
-use crate::course::{Course, FileAnswer, answer_of, begin_writing, step};
+use crate::course::{Course, FileRefusal, answer_of, begin_writing, step};
 use header::{HEADER_LENGTH, Header, does_admit};
 use site::rules::is_edition_known;
 use site::values::Site;
@@ -19,11 +19,8 @@ fn walk(edition: u64, years: u64, sites: &[Site], buffer: &mut [u8], start: Cour
     ensures { (result ≡ walk_course edition years sites.now start) × (buffer.new ≡ walk_buffer edition years sites.now start buffer.old) }
 {
     let mut course = start;
-    let mut i = 0;
-    while i < sites.len() {
-        let site = sites[i];
+    for &site in sites {
         course = step(edition, years, site, buffer, course);
-        i += 1;
     }
     course
 }
@@ -37,7 +34,7 @@ pub fn write_project(
     crossings: u64,
     sites: &[Site],
     buffer: &mut [u8],
-) -> FileAnswer
+) -> Result<usize, FileRefusal>
     ensures { WritesProject (header_of edition years segments crossings) sites.now buffer.old buffer.new result }
 {
     let header = Header {
@@ -47,10 +44,10 @@ pub fn write_project(
         crossings,
     };
     if !is_edition_known(edition) {
-        return FileAnswer::EditionUnknown;
+        return Err(FileRefusal::EditionUnknown);
     }
     if !does_admit(header, sites.len()) {
-        return FileAnswer::OutsideLimits;
+        return Err(FileRefusal::OutsideLimits);
     }
     let measured = walk(
         edition,

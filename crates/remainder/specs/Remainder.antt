@@ -2,7 +2,7 @@
 -- and e^x is between 1 + x + x^2/2 + x^3/6 and that + 2x^4/24.
 use Rattle.std.specs.Prelude.{ℕ, ◌+◌, ◌*◌, ◌^◌, ◌≤◌, ◌<◌}
 use Rattle.laws.specs.Quotient.{quotient_down, quotient_up}
-use Rattle.remainder.specs.declared.Bounds.{Bounds}
+use Rattle.bracket.specs.declared.Bounds.{Bounds}
 
 -- a rest r that is small beside N, so that z is at most 1/511
 pub record SmallRest (N r : ℕ) : Type 0 where

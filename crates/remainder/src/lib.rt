@@ -8,6 +8,8 @@ ghost use Rattle.remainder.specs.Split.{split_of, Splits};
 ghost use Rattle.remainder.specs.Remainder.{SmallRest, Exponent, NearOne, most_denominator, most_log, with_cube};
 ghost use Rattle.remainder.specs.Remainder.{log_bounds_of, exponential_low, exponential_high, remainder_bounds_of};
 
+use bracket::Bounds;
+
 // The bounds' denominator.
 pub const SCALE: u64 = 1_000_000_000_000;
 
@@ -17,13 +19,6 @@ pub struct Parts {
     pub n: u64,
     pub m: u64,
     pub r: u64,
-}
-
-// Two numbers between which a value is.
-#[derive(Clone, Copy)]
-pub struct Bounds {
-    pub low: u64,
-    pub high: u64,
 }
 
 // a / d, rounded up.

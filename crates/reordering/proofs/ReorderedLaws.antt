@@ -1,4 +1,5 @@
 -- Laws of ReorderedLaws in specs/.
+use Rattle.std.specs.Prelude.{Ok}
 use Rattle.std.specs.Prelude.{ℕ, zero, suc, ◌+◌, ◌*◌, ◌<◌, ◌≡◌, length, get_or}
 use Rattle.std.proofs.Math.Path.{refl}
 use Rattle.std.proofs.Common.{sym, ap, ◌∙◌, add-zero, arith}
@@ -13,7 +14,6 @@ use Rattle.line.specs.declared.Line.{Line}
 use Rattle.line.specs.Line.{site_line}
 use Rattle.project.specs.File.{sites_in}
 use Rattle.project.specs.Causes.{report_length}
-use Rattle.report.specs.declared.ProjectAnswer.TheVariants.{Reported}
 use Rattle.report.specs.Report.{add_line, total_of, coefficients_in}
 use Rattle.report.specs.Demand.{line_at, site_at, ReportsProject}
 use Rattle.report.specs.LinesLeft.{ReportLeft, reader_leaves, count_left, line_left, totals_left}
@@ -80,8 +80,8 @@ module _ {bytes other : List ℕ} {image : ℕ → ℕ} (r : ReorderedProject by
 
 -- as the project reader promises its answer and its report
 pub reports_reordered : {bytes other : List ℕ} {image : ℕ → ℕ} → ReorderedProject bytes other image
-    → {before report : List ℕ} {count : ℕ} → ReportsProject bytes before report (Reported count)
-    → {other_before other_report : List ℕ} {other_count : ℕ} → ReportsProject other other_before other_report (Reported other_count)
+    → {before report : List ℕ} {count : ℕ} → ReportsProject bytes before report (Ok count)
+    → {other_before other_report : List ℕ} {other_count : ℕ} → ReportsProject other other_before other_report (Ok other_count)
     → (other_count ≡ count) × ReorderedReport (length (sites_in bytes)) image report other_report
 reports_reordered r p q = (
   q.meets.2 ∙ as_long r (reader_leaves p) (reader_leaves q) ∙ sym p.meets.2,

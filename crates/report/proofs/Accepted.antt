@@ -1,4 +1,5 @@
 -- Laws of Accepted in specs/.
+use Rattle.std.specs.Prelude.{Ok}
 use Rattle.std.specs.Prelude.{ℕ, ◌≤◌, ◌≡◌, length, drop}
 use Rattle.std.proofs.Common.{sym, ap, ◌∙◌, arith}
 use mathlib.Core.List.{List, ◌++◌, append_assoc}
@@ -11,7 +12,6 @@ use Rattle.model.specs.Coefficients.{coefficients_of}
 use Rattle.prediction.specs.Editions.{edition_rated}
 use Rattle.line.proofs.LineLaws.{edition_line, edition_counted}
 use Rattle.line.specs.Weighing.{line_small}
-use Rattle.project.specs.declared.ScanAnswer.TheVariants.{Accepted}
 use Rattle.project.specs.File.{years_in, scan_records, scan_file, sites_in}
 use Rattle.project.specs.Scan.{scan_past_header}
 use Rattle.project.proofs.ScanLaws.{accepted_exactly}
@@ -26,12 +26,12 @@ use Rattle.report.proofs.DemandLaws.{report_each, report_totals}
 use Rattle.report.specs.Fill.{fill_from, fill_report, Fillable}
 use Rattle.report.specs.Accepted.{all_valid, length_report}
 
-module _ (s : List ℕ) (n : ℕ) (accepted : scan_file s ≡ Accepted n) where
+module _ (s : List ℕ) (n : ℕ) (accepted : scan_file s ≡ Ok n) where
   facts : AcceptedFile s n
   facts = accepted_sites s n accepted
 
-  scanned : scan_records (edition_in s) (years_in s) (count_in s) (count_in s) header_length s ≡ Accepted (count_in s)
-  scanned = sym (scan_past_header s (accepted_header s ((accepted_exactly s n).0 accepted).header)) ∙ accepted ∙ ap Accepted facts.count_is
+  scanned : scan_records (edition_in s) (years_in s) (count_in s) (count_in s) header_length s ≡ Ok (count_in s)
+  scanned = sym (scan_past_header s (accepted_header s ((accepted_exactly s n).0 accepted).header)) ∙ accepted ∙ ap Ok facts.count_is
 
   pub count_lines : length (lines_in s) ≡ n
   count_lines = length_lines (coefficients_in s) (header_in s) (sites_in s) ∙ facts.sites.count_is

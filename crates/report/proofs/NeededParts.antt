@@ -1,11 +1,11 @@
 -- Laws of NeededParts in specs/.
+use Rattle.std.specs.Prelude.{Some}
 use Rattle.std.specs.Prelude.{ℕ, ◌+◌, ◌*◌, ◌≤◌, ◌<◌, ◌≡◌, true, false, cond, ◌⊎◌, List, length, get_or}
 use Rattle.std.proofs.Common.{arith}
 use Rattle.wide.specs.Scaling.{ceiling}
 use Rattle.estimate.specs.Fraction.{fraction, ◌÷◌, whole, millionths, ◌≤ᶠ◌, ◌<ᶠ◌}
 use Rattle.estimate.specs.FractionLaws.{not-≤ᶠ-and-<ᶠ, <ᶠ-≤ᶠ-trans, ≤ᶠ-<ᶠ-trans}
 use Rattle.site.specs.declared.values.Site.{Site}
-use Rattle.site.specs.declared.values.Slot.TheVariants.{Number}
 use Rattle.header.specs.Header.{edition_in, header_in}
 use Rattle.site.specs.Yearly.{yearly}
 use Rattle.site.specs.Numbers.{number}
@@ -86,7 +86,7 @@ module _ (bytes report : List ℕ) (i : ℕ) (h : i < length (sites_in bytes)) w
         + expected_high < 1000000 * expected_high → Fails
     yearly_segment_expected_too_wide each l m = line.yearly_segment_expected_too_wide _ _ _ _ later segment long each l (m.each i h)
 
-  module _ (observed : ℕ) (history : site.observed ≡ Number observed) where
+  module _ (observed : ℕ) (history : site.observed ≡ Some observed) where
     pub site_expected_low_below_both : expected_low < predicted_low → expected_low < observed * 1000000 → Fails
     site_expected_low_below_both l k m = line.expected_low_below_both _ _ _ _ observed history l k (m.each i h)
 

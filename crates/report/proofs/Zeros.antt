@@ -1,5 +1,6 @@
 -- A REPORT OF ZEROS: the under-estimate of a valid site is above 0 at every depth (`predicted_positive`), so no site of an accepted
 -- project has a predicted high of 0.
+use Rattle.std.specs.Prelude.{Ok}
 use Rattle.std.specs.Prelude.{ℕ, zero, suc, ◌+◌, ◌*◌, ◌<◌, ◌≡◌, List, [], ◌∷◌, length, get_or}
 use Rattle.std.proofs.Common.{lit≤, arith}
 use Rattle.estimate.specs.Fraction.{Fraction, fraction, ◌÷◌, millionths, ◌<ᶠ◌}
@@ -9,7 +10,6 @@ use Rattle.header.specs.Header.{edition_in, header_in}
 use Rattle.header.proofs.HeaderLaws.{limits_of}
 use Rattle.prediction.specs.Editions.{edition_rated}
 use Rattle.prediction.specs.Positive.{predicted_positive}
-use Rattle.project.specs.declared.ScanAnswer.TheVariants.{Accepted}
 use Rattle.project.specs.File.{years_in, scan_file, sites_in}
 use Rattle.project.proofs.SitesRead.{accepted_sites}
 use Rattle.report.specs.Report.{coefficients_in}
@@ -27,7 +27,7 @@ below_positive : (x : ℕ) (y : Fraction) → x ≡ 0 → 0 < y.num → milliont
 unfolding millionths ◌÷◌ fraction
 below_positive x y e h = rw e (record { cross = omega arith })
 
-module _ (bytes report : List ℕ) (n : ℕ) (accepted : scan_file bytes ≡ Accepted n) where
+module _ (bytes report : List ℕ) (n : ℕ) (accepted : scan_file bytes ≡ Ok n) where
   pub high_of_zero : (i : ℕ) → i < n → get_or report (4 * i + 1) 0 ≡ 0 → Demand bytes report → ⊥
   high_of_zero i h e =
       let facts = accepted_sites bytes n accepted in

@@ -1,6 +1,8 @@
 -- DEMAND 3, one claim about a project's bytes and a report: each site's line and the totals are right at every depth, in order
 -- and narrow. `Demand` names the estimates and the numbers of the report, and nothing that makes them. Last, what the project
 -- reader promises.
+use Rattle.std.specs.Prelude.{Result, Ok, Err}
+use Rattle.project.specs.declared.Refused.{Refused}
 use Rattle.std.specs.Prelude.{ℕ, ◌+◌, ◌*◌, ◌≤◌, ◌<◌, ◌≡◌, List, [], length, get_or}
 use Rattle.estimate.specs.Fraction.{Fraction, millionths}
 use Rattle.estimate.specs.Standing.{Between}
@@ -19,8 +21,6 @@ use Rattle.line.specs.Stands.{LineStands}
 use Rattle.project.specs.File.{sites_in}
 use Rattle.project.specs.Causes.{report_length, NoCause, FirstCause}
 use Rattle.report.specs.Report.{coefficients_in, project_answer, answer_number, answer_value, report_after}
-use Rattle.report.specs.declared.ProjectAnswer.{ProjectAnswer}
-use Rattle.report.specs.declared.ProjectAnswer.TheVariants.{Reported, Refused}
 
 -- the numbers of a report by index
 abbrev pub line_at : List ℕ → ℕ → Line
@@ -59,17 +59,17 @@ pub record Demand (bytes report : List ℕ) : Type 0 where
 
 -- what an answer says: a report is made where no cause is found in the file or its report, as long as document 01 has it, and
 -- it meets the demand; a refusal is the first cause in document 01's order, and the report stays as it was
-abbrev pub AnswerMeets : (bytes before report : List ℕ) → ProjectAnswer → Type 0
-AnswerMeets bytes before report (Reported count) =
+abbrev pub AnswerMeets : (bytes before report : List ℕ) → Result ℕ Refused → Type 0
+AnswerMeets bytes before report (Ok count) =
     NoCause bytes (length before)
-    × (answer_number (Reported count) ≡ 0)
-    × (answer_value (Reported count) ≡ report_length (count_in bytes))
+    × (answer_number (Ok count) ≡ 0)
+    × (answer_value (Ok count) ≡ report_length (count_in bytes))
     × Demand bytes report
-AnswerMeets bytes before report (Refused number place) =
-    FirstCause bytes (length before) (answer_number (Refused number place)) (answer_value (Refused number place)) × (report ≡ before)
+AnswerMeets bytes before report (Err refused) =
+    FirstCause bytes (length before) (answer_number (Err refused)) (answer_value (Err refused)) × (report ≡ before)
 
 -- the project reader's promise: its answer, the report afterwards number for number, and what both say
-pub record ReportsProject (bytes before report : List ℕ) (answer : ProjectAnswer) : Type 0 where
+pub record ReportsProject (bytes before report : List ℕ) (answer : Result ℕ Refused) : Type 0 where
   pub answer_is : answer ≡ project_answer bytes (length before)
   pub report_is : report ≡ report_after bytes before
   pub meets : AnswerMeets bytes before report answer

@@ -1,5 +1,9 @@
 -- A report as it is filled: the lines of the records that are left, then the totals that have been added up; and one turn of the
 -- fill, in which a record that a scan has passed is read again, its line stored and added to the totals.
+use Rattle.std.specs.Prelude.{Some, Result, Ok, Err}
+use Rattle.std.proofs.lemmas.Option.{some_pair_parts}
+use Rattle.site.specs.declared.refusal.Refusal.{Refusal}
+use Rattle.std.specs.Prelude.{Option, None}
 use Prim.Native.Nat.{ℕ, zero, suc, ◌+◌, ◌-◌, ◌*◌, ◌≤◌, ◌<◌}
 use Rattle.std.specs.Prelude.{◌≡◌, List, [], ◌++◌, map, drop, length, take}
 use Rattle.std.proofs.Math.Path.{refl, sym}
@@ -10,8 +14,6 @@ use Rattle.std.proofs.Math.Seq.{length-sets}
 use Rattle.laws.specs.Stores.{sets_more}
 use Rattle.laws.specs.Walk.{part_from}
 use Rattle.site.specs.declared.values.Site.{Site}
-use Rattle.site.specs.declared.values.SiteAnswer.{SiteAnswer}
-use Rattle.site.specs.declared.values.SiteAnswer.TheVariants as reading
 use Rattle.site.specs.Record.{read_site}
 use Rattle.site.specs.Promises.{ReadsSite}
 use Rattle.site.specs.Writing.{Valid}
@@ -26,17 +28,14 @@ use Rattle.prediction.specs.Pair.{most_predicted}
 use Rattle.line.specs.declared.Line.{Line}
 use Rattle.line.specs.Line.{site_line}
 use Rattle.line.specs.Weighing.{LineAtMost, at_most_wider}
-use Rattle.project.specs.declared.ScanAnswer.TheVariants.{Accepted}
 use Rattle.project.specs.File.{years_in, after_record, scan_records, sites_from, sites_in, scan_file}
 use Rattle.project.specs.Causes.{report_length}
-use Rattle.report.specs.declared.fill.RecordLine.{RecordLine}
-use Rattle.report.specs.declared.fill.RecordLine.TheVariants.{Next, Unread}
 use Rattle.report.specs.Report.{coefficients_in, numbers_of, all_numbers, no_line, add_line, total_of, report_numbers, lines_in}
 
 -- the numbers after a record is read
-abbrev pub filled : SiteAnswer → (Site → ℕ → List ℕ) → List ℕ
-filled (reading.Refused number) k = []
-filled (reading.Read x n) k = k x n
+abbrev pub filled : Result (Site × ℕ) Refusal → (Site → ℕ → List ℕ) → List ℕ
+filled (Err refusal) k = []
+filled (Ok (x, n)) k = k x n
 
 unfoldable pub fill_from : (c : Coefficients) (header : Header) (left at : ℕ) (total : Line) → List ℕ → List ℕ
 fill_from c header zero at total s = numbers_of total
@@ -63,25 +62,25 @@ add_to_no_line x = rw (zero-add x.predicted_low, zero-add x.predicted_high, zero
 pub record Passed (edition years sites left at : ℕ) (s : List ℕ) : Type 0 where
   pub site : Site
   pub bytes : ℕ
-  pub is : read_site edition years (drop at s) ≡ reading.Read site bytes
-  pub rest : scan_records edition years sites left (at + bytes) s ≡ Accepted sites
+  pub is : read_site edition years (drop at s) ≡ Ok (site, bytes)
+  pub rest : scan_records edition years sites left (at + bytes) s ≡ Ok sites
 
-pub passed : (edition years sites left at : ℕ) (s : List ℕ) → scan_records edition years sites (suc left) at s ≡ Accepted sites
+pub passed : (edition years sites left at : ℕ) (s : List ℕ) → scan_records edition years sites (suc left) at s ≡ Ok sites
     → Passed edition years sites left at s
 unfolding scan_records
 passed edition years sites left at s e = by (read_site edition years (drop at s)) refl e
   where
-    by : (a : SiteAnswer) → read_site edition years (drop at s) ≡ a → after_record at a (λ next. scan_records edition years sites left next s) ≡ Accepted sites
+    by : (a : Result (Site × ℕ) Refusal) → read_site edition years (drop at s) ≡ a → after_record at a (λ next. scan_records edition years sites left next s) ≡ Ok sites
         → Passed edition years sites left at s
-    by (reading.Refused number) p q = let z : ◌≡◌ {A = ℕ} 0 1 = cc in absurd (omega arith)
-    by (reading.Read x n) p q = record { site = x; bytes = n; is = p; rest = q }
+    by (Err refusal) p q = let z : ◌≡◌ {A = ℕ} 0 1 = cc in absurd (omega arith)
+    by (Ok (x, n)) p q = record { site = x; bytes = n; is = p; rest = q }
 
 -- THE LAW: a file that a scan accepts is filled with its report
 module _ (c : Coefficients) (header : Header) (s : List ℕ) where
   abbrev lines : List Site → List Line
   lines sites = map (site_line c header) sites
 
-  fill_is : (sites left at : ℕ) (total : Line) → scan_records header.edition header.years sites left at s ≡ Accepted sites
+  fill_is : (sites left at : ℕ) (total : Line) → scan_records header.edition header.years sites left at s ≡ Ok sites
       → fill_from c header left at total s
       ≡ all_numbers (lines (sites_from header.edition header.years left at s))
       ++ numbers_of (add_line total (total_of (lines (sites_from header.edition header.years left at s))))
@@ -94,7 +93,7 @@ module _ (c : Coefficients) (header : Header) (s : List ℕ) where
       let later = lines (sites_from header.edition header.years left (at + p.bytes) s) in
       rw (p.is, r) (ap (λ (z : Line). numbers_of x ++ (all_numbers later ++ numbers_of z)) (add_line_assoc total x (total_of later)))
 
-pub fill_report : (s : List ℕ) → scan_records (edition_in s) (years_in s) (count_in s) (count_in s) header_length s ≡ Accepted (count_in s)
+pub fill_report : (s : List ℕ) → scan_records (edition_in s) (years_in s) (count_in s) (count_in s) header_length s ≡ Ok (count_in s)
     → fill_from (coefficients_in s) (header_in s) (count_in s) header_length no_line s ≡ report_numbers (lines_in s)
 unfolding sites_in
 fill_report s e =
@@ -102,22 +101,22 @@ fill_report s e =
     ∙ ap (λ (z : Line). all_numbers (lines_in s) ++ numbers_of z) (add_to_no_line (total_of (lines_in s)))
 
 -- the line of a record that was read
-abbrev pub record_line : Coefficients → Header → SiteAnswer → RecordLine
-record_line c header (reading.Refused number) = Unread
-record_line c header (reading.Read x n) = Next (site_line c header x) n
+abbrev pub record_line : Coefficients → Header → Result (Site × ℕ) Refusal → Option (Line × ℕ)
+record_line c header (Err refusal) = None
+record_line c header (Ok (x, n)) = Some (site_line c header x, n)
 
 -- the line of a record read through the part of the file that starts at it
-module _ (s : List ℕ) (at : ℕ) (answer : SiteAnswer) (c : Coefficients) (header : Header)
+module _ (s : List ℕ) (at : ℕ) (answer : Result (Site × ℕ) Refusal) (c : Coefficients) (header : Header)
     (reads : ReadsSite header.edition header.years (take (length s - at) (drop at s)) answer) where
   answer_of : answer ≡ read_site header.edition header.years (drop at s)
   answer_of = rw (part_from s at) at reads.answer_is
 
-  pub no_line_lem : (number : ℕ) → answer ≡ reading.Refused number → Unread ≡ record_line c header (read_site header.edition header.years (drop at s))
-  no_line_lem number e = ap (record_line c header) (sym e ∙ answer_of)
+  pub no_line_lem : (refusal : Refusal) → answer ≡ Err refusal → None ≡ record_line c header (read_site header.edition header.years (drop at s))
+  no_line_lem refusal e = ap (record_line c header) (sym e ∙ answer_of)
 
-  pub a_line : (site : Site) (n : ℕ) (line : Line) → answer ≡ reading.Read site n → line ≡ site_line c header site
-      → Next line n ≡ record_line c header (read_site header.edition header.years (drop at s))
-  a_line site n line e l = ap (λ (x : Line). Next x n) l ∙ ap (record_line c header) (sym e ∙ answer_of)
+  pub a_line : (site : Site) (n : ℕ) (line : Line) → answer ≡ Ok (site, n) → line ≡ site_line c header site
+      → Some (line, n) ≡ record_line c header (read_site header.edition header.years (drop at s))
+  a_line site n line e l = ap (λ (x : Line). Some (x, n)) l ∙ ap (record_line c header) (sym e ∙ answer_of)
 
 -- no total is above the largest line times the most sites
 abbrev pub most_total : ℕ
@@ -126,7 +125,7 @@ most_total = most_sites * most_predicted
 -- a file that a scan accepts, and room for its report
 pub record Acceptable (s : List ℕ) (room : ℕ) : Type 0 where
   pub sites : ℕ
-  pub scanned : scan_file s ≡ Accepted sites
+  pub scanned : scan_file s ≡ Ok sites
   pub room_for : report_length sites ≤ room
 
 -- WHAT A FILL ASKS: a header within its limits, lines that fit, records that a scan has passed, and room for the report
@@ -135,44 +134,25 @@ pub record Fillable (c : Coefficients) (s : List ℕ) (header : Header) (sites r
   pub lines_fit : (site : Site) → Valid header.edition header.years site → LineAtMost most_predicted (site_line c header site)
   pub most : sites ≤ most_sites
   pub long : header_length ≤ length s
-  pub scanned : scan_records header.edition header.years sites sites header_length s ≡ Accepted sites
+  pub scanned : scan_records header.edition header.years sites sites header_length s ≡ Ok sites
   pub room_for : report_length sites ≤ room
 
 -- what the loop keeps before record i of n, at its place, with the totals so far
 pub record Filling (c : Coefficients) (s : List ℕ) (header : Header) (n : ℕ) (before : List ℕ) (i at : ℕ) (total : Line) (report : List ℕ) : Type 0 where
   pub asked : Fillable c s header n (length before)
   pub same : length report ≡ length before
-  pub few : i ≤ n
   pub inside : at ≤ length s
   pub near : at ≤ header_length + i * longest
   pub small : LineAtMost (i * most_predicted) total
-  pub scanned : scan_records header.edition header.years n (n - i) at s ≡ Accepted n
+  pub scanned : scan_records header.edition header.years n (n - i) at s ≡ Ok n
   pub filled : sets report (4 * i) (fill_from c header (n - i) at total s) ≡ sets before 0 (fill_from c header n header_length no_line s)
 
--- stores change no length
-pub put_same : (now : List ℕ) {after : List ℕ} {room : ℕ} (i : ℕ) (line : Line) → after ≡ sets now i (numbers_of line) → length now ≡ room → length after ≡ room
-put_same now i line e h = ap length e ∙ length-sets now i (numbers_of line) ∙ h
-
 module _ {c : Coefficients} {s : List ℕ} {header : Header} {n : ℕ} {before : List ℕ} where
-  -- the loop's start and its end
-  pub filling_start : Fillable c s header n (length before) → Filling c s header n before 0 header_length no_line before
-  filling_start f =
-      let e : n - 0 ≡ n = omega arith in
-      record {
-        asked = f;
-        same = refl;
-        few = omega arith;
-        inside = f.long;
-        near = omega arith;
-        small = record { predicted_low = omega arith; predicted_high = omega arith; expected_low = omega arith; expected_high = omega arith };
-        scanned = rw e f.scanned;
-        filled = rw e refl;
-      }
-
   module _ {i at : ℕ} {total : Line} {report : List ℕ} (k : Filling c s header n before i at total report) where
-    pub filling_end : n ≤ i → sets report (4 * i) (numbers_of total) ≡ sets before 0 (fill_from c header n header_length no_line s)
+    -- the loop's end
+    pub filling_end : i ≡ n → sets report (4 * n) (numbers_of total) ≡ sets before 0 (fill_from c header n header_length no_line s)
     unfolding fill_from
-    filling_end h = let e : n - i ≡ 0 = omega arith in rw e at k.filled
+    filling_end e = let none : n - i ≡ 0 = omega arith in rw (none, e) at k.filled
 
     module _ (more : i < n) where
       left : n - i ≡ suc (n - (i + 1))
@@ -185,25 +165,25 @@ module _ {c : Coefficients} {s : List ℕ} {header : Header} {n : ℕ} {before :
       length_of = read_length header.edition header.years (drop at s) this.site this.bytes this.is
 
       -- a record is always read
-      pub always_read : {answer : RecordLine} → answer ≡ record_line c header (read_site header.edition header.years (drop at s)) → answer ≡ Unread → ⊥
+      pub always_read : {answer : Option (Line × ℕ)} → answer ≡ record_line c header (read_site header.edition header.years (drop at s)) → answer ≡ None → ⊥
       always_read e u =
-          let z : ◌≡◌ {A = RecordLine} Unread (Next (site_line c header this.site) this.bytes) = sym u ∙ e ∙ ap (record_line c header) this.is in
+          let z : ◌≡◌ {A = Option (Line × ℕ)} None (Some (site_line c header this.site, this.bytes)) = sym u ∙ e ∙ ap (record_line c header) this.is in
           let y : ◌≡◌ {A = ℕ} 0 1 = cc in
           omega arith
 
       pub total_at_most : LineAtMost most_total total
       total_at_most = at_most_wider (omega (arith, k.asked.most)) k.small
 
-      module _ {answer : RecordLine} {line : Line} {bytes : ℕ} (read : answer ≡ record_line c header (read_site header.edition header.years (drop at s)))
-          (is : answer ≡ Next line bytes) where
-        same_record : Next line bytes ≡ Next (site_line c header this.site) this.bytes
-        same_record = sym is ∙ read ∙ ap (record_line c header) this.is
+      module _ {answer : Option (Line × ℕ)} {line : Line} {bytes : ℕ} (read : answer ≡ record_line c header (read_site header.edition header.years (drop at s)))
+          (is : answer ≡ Some (line, bytes)) where
+        same_record : (line ≡ site_line c header this.site) × (bytes ≡ this.bytes)
+        same_record = some_pair_parts _ _ _ _ (sym is ∙ read ∙ ap (record_line c header) this.is)
 
         line_is : line ≡ site_line c header this.site
-        line_is = let e = same_record in cc
+        line_is = same_record.0
 
         bytes_is : bytes ≡ this.bytes
-        bytes_is = let e = same_record in cc
+        bytes_is = same_record.1
 
         line_at_most : LineAtMost most_predicted line
         line_at_most =
@@ -222,8 +202,7 @@ module _ {c : Coefficients} {s : List ℕ} {header : Header} {n : ℕ} {before :
             let w = k.small in
             record {
               asked = k.asked;
-              same = put_same report (4 * i) line refl k.same;
-              few = omega arith;
+              same = length-sets report (4 * i) (numbers_of line) ∙ k.same;
               inside = omega (arith, bytes_is, length_of.within, length-drop at s, k.inside);
               near = place_near;
               small = record {

@@ -1,4 +1,5 @@
 -- A LINE IS A FUNCTION OF HEADER AND SITE, and the totals are the sums of the lines, in the report that is left for an accepted project.
+use Rattle.std.specs.Prelude.{Ok}
 use Rattle.std.specs.Prelude.{ℕ, zero, suc, ◌<◌, ◌≡◌, refl, List, [], ◌∷◌, ◌++◌, map, length, get_or, drop}
 use Rattle.std.proofs.Common.{◌∙◌, append_assoc, arith}
 use Rattle.site.specs.declared.values.Site.{Site}
@@ -9,7 +10,6 @@ use Rattle.project.specs.File.{sites_in}
 use Rattle.project.specs.Causes.{report_length, NoCause}
 use Rattle.project.proofs.SitesRead.{accepted_sites}
 use Rattle.project.proofs.Acceptance.{no_cause_exactly}
-use Rattle.report.specs.declared.ProjectAnswer.TheVariants.{Reported}
 use Rattle.report.specs.Report.{numbers_of, all_numbers, no_line, total_of, report_numbers, coefficients_in, lines_in, report_after}
 use Rattle.report.specs.Demand.{line_at, site_at, ReportsProject}
 use Rattle.report.specs.DemandLaws.{line_of_report, total_of_report, length_lines}
@@ -21,7 +21,7 @@ pub record ReportLeft (bytes before report : List ℕ) : Type 0 where
   pub report_is : report ≡ report_after bytes before
 
 -- as the project reader promises it
-pub reader_leaves : {bytes before report : List ℕ} {count : ℕ} → ReportsProject bytes before report (Reported count) → ReportLeft bytes before report
+pub reader_leaves : {bytes before report : List ℕ} {count : ℕ} → ReportsProject bytes before report (Ok count) → ReportLeft bytes before report
 reader_leaves p = record { accepted = p.meets.0; report_is = p.report_is }
 
 line_of_site : (line_of : Site → Line) (sites : List Site) (i : ℕ) (d : Site) → i < length sites → get_or (map line_of sites) i no_line ≡ line_of (get_or sites i d)

@@ -1,17 +1,17 @@
 -- The report of a project: "a lent run of 64-bit numbers: four for each site, then four totals, the exact sums; what follows them
 -- is untouched".
+use Rattle.site.specs.declared.refusal.Refusal.TheVariants as refused
+use Rattle.site.specs.Refusals.{number_of}
+use Rattle.std.specs.Prelude.{Result, Ok, Err}
+use Rattle.project.specs.declared.Refused.{Refused}
 use Rattle.std.specs.Prelude.{ℕ, ◌+◌, cond, List, [], ◌∷◌, ◌++◌, map, length, leb}
 use Rattle.laws.specs.Lent.{laid_over}
 use Rattle.header.specs.Header.{edition_in, header_in}
 use Rattle.model.specs.Coefficients.{Coefficients, coefficients_of}
 use Rattle.line.specs.declared.Line.{Line}
 use Rattle.line.specs.Line.{site_line}
-use Rattle.project.specs.declared.ScanAnswer.{ScanAnswer}
-use Rattle.project.specs.declared.ScanAnswer.TheVariants as scan
-use Rattle.project.specs.File.{sites_in, scan_file}
+use Rattle.project.specs.File.{refused_at, sites_in, scan_file}
 use Rattle.project.specs.Causes.{report_length}
-use Rattle.report.specs.declared.ProjectAnswer.{ProjectAnswer}
-use Rattle.report.specs.declared.ProjectAnswer.TheVariants.{Reported, Refused}
 
 -- "predicted low, predicted high, expected low, expected high"
 abbrev pub numbers_of : Line → List ℕ
@@ -50,27 +50,27 @@ abbrev pub lines_in : List ℕ → List Line
 lines_in s = map (site_line (coefficients_in s) (header_in s)) (sites_in s)
 
 -- "last 2, then 10. Success returns 0 and 4(sites + 1)"
-abbrev pub spaced : ScanAnswer → (room : ℕ) → ProjectAnswer
-spaced (scan.Refused number place) room = Refused number place
-spaced (scan.Accepted sites) room = cond (leb (report_length sites) room) (Reported (report_length sites)) (Refused 10 0)
+abbrev pub spaced : Result ℕ Refused → (room : ℕ) → Result ℕ Refused
+spaced (Err refused) room = Err refused
+spaced (Ok sites) room = cond (leb (report_length sites) room) (Ok (report_length sites)) (refused_at refused.NoSpace 0)
 
 -- what the project reader answers
-unfoldable pub project_answer : List ℕ → (room : ℕ) → ProjectAnswer
+unfoldable pub project_answer : List ℕ → (room : ℕ) → Result ℕ Refused
 project_answer s room = spaced (scan_file s) room
 
 -- document 01's number for an answer, its place, and the count that comes back with 0
-abbrev pub answer_number : ProjectAnswer → ℕ
-answer_number (Reported count) = 0
-answer_number (Refused number place) = number
+abbrev pub answer_number : Result ℕ Refused → ℕ
+answer_number (Ok count) = 0
+answer_number (Err refused) = number_of refused.refusal
 
-abbrev pub answer_value : ProjectAnswer → ℕ
-answer_value (Reported count) = count
-answer_value (Refused number place) = place
+abbrev pub answer_value : Result ℕ Refused → ℕ
+answer_value (Ok count) = count
+answer_value (Err refused) = refused.place
 
 -- the report afterwards, number for number: "Left as it was: report"
-abbrev pub written : ProjectAnswer → (numbers before : List ℕ) → List ℕ
-written (Reported count) numbers before = laid_over numbers before
-written (Refused number place) numbers before = before
+abbrev pub written : Result ℕ Refused → (numbers before : List ℕ) → List ℕ
+written (Ok count) numbers before = laid_over numbers before
+written (Err refused) numbers before = before
 
 unfoldable pub report_after : List ℕ → (before : List ℕ) → List ℕ
 report_after s before = written (project_answer s (length before)) (report_numbers (lines_in s)) before

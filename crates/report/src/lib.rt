@@ -3,51 +3,37 @@
 
 pub mod fill;
 
-ghost use Rattle.std.specs.Prelude.{◌≡◌, ◌≤◌};
+ghost use Rattle.std.specs.Prelude.{◌≡◌, ◌≤◌, Ok};
 ghost use Rattle.header.specs.Header.{most_sites};
-ghost use Rattle.project.specs.declared.ScanAnswer.TheVariants.{Accepted};
 ghost use Rattle.report.specs.Report.{spaced};
 ghost use Rattle.report.specs.Demand.{ReportsProject};
 
 use crate::fill::fill;
-use project::{ScanAnswer, scan};
+use project::{Refused, scan};
+use site::refusal::Refusal;
 
-// The count of numbers written, or document 01's number and place.
-#[derive(Clone, Copy)]
-pub enum ProjectAnswer {
-    Reported(usize),
-    Refused(u8, usize),
-}
-
-// The space test: the count of a report's numbers, four for each site and four totals, or 10 where the run is shorter.
-fn space(sites: usize, room: usize) -> ProjectAnswer
+// The space test: the count of a report's numbers, four for each site and four totals, where the run has room for them.
+fn space(sites: usize, room: usize) -> Result<usize, Refused>
     requires { sites ≤ most_sites }
-    ensures { result ≡ spaced (Accepted sites) room }
+    ensures { result ≡ spaced (Ok sites) room }
 {
     let count = 4 * (sites + 1);
     if room < count {
-        return ProjectAnswer::Refused(10, 0);
+        return Err(Refused {
+            refusal: Refusal::NoSpace,
+            place: 0,
+        });
     }
-    ProjectAnswer::Reported(count)
+    Ok(count)
 }
 
-// Reads a project and makes its report from the start of a lent run. The rest of the run, and all of it where the project is
+// Reads a project and makes its report from the start of a lent run: the count of numbers written. The rest of the run, and all of it where the project is
 // refused, stays as it was.
-pub fn read_project(file: &[u8], report: &mut [u64]) -> ProjectAnswer
+pub fn read_project(file: &[u8], report: &mut [u64]) -> Result<usize, Refused>
     ensures { ReportsProject file.now report.old report.new result }
 {
-    let found = scan(file);
-    match found {
-        ScanAnswer::Refused(number, place) => ProjectAnswer::Refused(number, place),
-        ScanAnswer::Accepted(sites) => {
-            let answer = space(sites, report.len());
-            match answer {
-                ProjectAnswer::Refused(number, place) => ProjectAnswer::Refused(number, place),
-                ProjectAnswer::Reported(count) => {
-                    fill(file, report);
-                    ProjectAnswer::Reported(count)
-                }
-            }
-        }
-    }
+    let sites = scan(file)?;
+    let count = space(sites, report.len())?;
+    fill(file, report);
+    Ok(count)
 }

@@ -1,6 +1,8 @@
 -- The stores by which lines are written.
-use Rattle.std.specs.Prelude.{ℕ, suc, ◌+◌, ◌*◌, ◌-◌, ◌/◌, ◌%◌, ◌^◌, ◌<◌, ◌≤◌, ◌≡◌, refl, List, [], ◌∷◌, ◌++◌, length, get_or, drop, set}
-use Rattle.std.proofs.Common.{sym, ap, ◌∙◌, arith, add-zero, length-append, length-drop, length-set, drop_of_length-le, drop-cons}
+use Rattle.std.specs.Prelude.{ℕ, zero, suc, ◌+◌, ◌*◌, ◌-◌, ◌/◌, ◌%◌, ◌^◌, ◌<◌, ◌≤◌, ◌≡◌, refl, List, [], ◌∷◌, ◌++◌, length, get_or, take, drop, set}
+use Rattle.std.proofs.Common.{sym, ap, ◌∙◌, arith, length-append, length-drop, drop-drop}
+use Rattle.std.proofs.Math.Nat.{mul-div-le}
+use Rattle.std.specs.Simd.{first_chunks}
 use Rattle.std.proofs.lemmas.List.Edits.{sets}
 use Rattle.std.proofs.Math.Seq.{length-sets}
 use Rattle.report_text.specs.Text.{digit, decimal_text, ended_text, line_text, report_text}
@@ -31,47 +33,44 @@ ended_stored before after at n end last h e w = (
 
 -- the lines that are left when some are written
 pub record LinesLeft (numbers before : List ℕ) (i at : ℕ) (now : List ℕ) : Type 0 where
-  pub inside : i ≤ length numbers
-  pub near : at ≤ 21 * i
+  pub near : at ≤ 84 * i
   pub same : length now ≡ length before
-  pub ends : at + length (report_text (drop i numbers)) ≡ length (report_text numbers)
-  pub left : sets now at (report_text (drop i numbers)) ≡ sets before 0 (report_text numbers)
+  pub ends : at + length (report_text (drop (i * 4) numbers)) ≡ length (report_text numbers)
+  pub left : sets now at (report_text (drop (i * 4) numbers)) ≡ sets before 0 (report_text numbers)
 
-four_on : (numbers : List ℕ) (i : ℕ) → i + 4 ≤ length numbers
-    → report_text (drop i numbers)
-    ≡ line_text (get_or numbers i 0) (get_or numbers (i + 1) 0) (get_or numbers (i + 2) 0) (get_or numbers (i + 3) 0) ++ report_text (drop (i + 4) numbers)
+-- the i-th line's numbers are the first four that are left
+line_at : (k : ℕ) (numbers : List ℕ) (i : ℕ) → i < k → get_or (first_chunks 4 k numbers) i [] ≡ take 4 (drop (i * 4) numbers)
+line_at zero numbers i h = absurd (omega arith)
+line_at (suc k) numbers zero h = refl
+line_at (suc k) numbers (suc i) h = line_at k (drop 4 numbers) i (omega arith) ∙ ap (take 4) (drop-drop (i * 4) 4 numbers ∙ ap (λ (n : ℕ). drop n numbers) (omega arith))
+
+abbrev line_of : List ℕ → List ℕ
+line_of line = line_text (get_or line 0 0) (get_or line 1 0) (get_or line 2 0) (get_or line 3 0)
+
+four_on : (numbers : List ℕ) → 4 ≤ length numbers → report_text numbers ≡ line_of (take 4 numbers) ++ report_text (drop 4 numbers)
 unfolding report_text
-four_on numbers i h =
-    let one : i + 1 ≡ suc i = omega arith in
-    let two : i + 2 ≡ suc (suc i) = omega arith in
-    let three : i + 3 ≡ suc (suc (suc i)) = omega arith in
-    let four : i + 4 ≡ suc (suc (suc (suc i))) = omega arith in
-    rw (
-      one,
-      two,
-      three,
-      four,
-      drop-cons numbers i 0 (omega arith),
-      drop-cons numbers (suc i) 0 (omega arith),
-      drop-cons numbers (suc (suc i)) 0 (omega arith),
-      drop-cons numbers (suc (suc (suc i))) 0 (omega arith),
-    ) refl
+four_on [] h = absurd (omega arith)
+four_on (a ∷ []) h = absurd (omega arith)
+four_on (a ∷ b ∷ []) h = absurd (omega arith)
+four_on (a ∷ b ∷ c ∷ []) h = absurd (omega arith)
+four_on (a ∷ b ∷ c ∷ d ∷ numbers) h = refl
 
-pub lines_start : (numbers before : List ℕ) → LinesLeft numbers before 0 0 before
-lines_start numbers before = record { inside = omega arith; near = omega arith; same = refl; ends = omega arith; left = refl }
-
-pub lines_on : (numbers before now after : List ℕ) (i at place : ℕ) → LinesLeft numbers before i at now → i + 4 ≤ length numbers
-    → Puts now at (line_text (get_or numbers i 0) (get_or numbers (i + 1) 0) (get_or numbers (i + 2) 0) (get_or numbers (i + 3) 0)) place after × (place ≤ at + 84)
-    → LinesLeft numbers before (i + 4) place after
-lines_on numbers before now after i at place k h p =
-    let line = line_text (get_or numbers i 0) (get_or numbers (i + 1) 0) (get_or numbers (i + 2) 0) (get_or numbers (i + 3) 0) in
-    let rest = report_text (drop (i + 4) numbers) in
+pub lines_on : (numbers before now after : List ℕ) (lines : List (List ℕ)) (i at place : ℕ) → LinesLeft numbers before i at now
+    → lines ≡ first_chunks 4 (length numbers / 4) numbers → i < length numbers / 4
+    → Puts now at (line_of (get_or lines i [])) place after × (place ≤ at + 84) → LinesLeft numbers before (i + 1) place after
+lines_on numbers before now after lines i at place k e h p =
+    let line = line_of (take 4 (drop (i * 4) numbers)) in
+    let rest = report_text (drop ((i + 1) * 4) numbers) in
+    let found : get_or lines i [] ≡ take 4 (drop (i * 4) numbers) = rw e (line_at (length numbers / 4) numbers i h) in
+    let put : Puts now at line place after = rw found at p.0 in
+    let four : 4 ≤ length (drop (i * 4) numbers) = omega (arith, length-drop (i * 4) numbers, mul-div-le (length numbers) 4) in
+    let later : drop 4 (drop (i * 4) numbers) ≡ drop ((i + 1) * 4) numbers = drop-drop 4 (i * 4) numbers ∙ ap (λ (n : ℕ). drop n numbers) (omega arith) in
+    let opened : report_text (drop (i * 4) numbers) ≡ line ++ rest = rw later at (four_on (drop (i * 4) numbers) four) in
     record {
-      inside = h;
       near = omega (arith, k.near, p.1);
-      same = rw p.0.stored (length-sets now at line ∙ k.same);
-      ends = omega (arith, p.0.place_is, ap length (four_on numbers i h), length-append line rest, k.ends);
-      left = rw (p.0.stored, p.0.place_is) (sets_more now at line rest ∙ ap (sets now at) (sym (four_on numbers i h)) ∙ k.left);
+      same = rw put.stored (length-sets now at line ∙ k.same);
+      ends = omega (arith, put.place_is, ap length opened, length-append line rest, k.ends);
+      left = rw (put.stored, put.place_is) (sets_more now at line rest ∙ ap (sets now at) (sym opened) ∙ k.left);
     }
 
 -- fewer than four numbers are no line
@@ -83,37 +82,11 @@ few_left (a ∷ b ∷ []) h = refl
 few_left (a ∷ b ∷ c ∷ []) h = refl
 few_left (a ∷ b ∷ c ∷ d ∷ numbers) h = absurd (omega arith)
 
-pub lines_end : (numbers before now : List ℕ) (i at : ℕ) → LinesLeft numbers before i at now → length numbers < i + 4
+pub lines_end : (numbers before now : List ℕ) (i at : ℕ) → LinesLeft numbers before i at now → length numbers / 4 ≤ i
     → Puts before 0 (report_text numbers) at now
 lines_end numbers before now i at k h =
-    let e = few_left (drop i numbers) (omega (arith, length-drop i numbers, k.inside)) in
+    let e = few_left (drop (i * 4) numbers) (omega (arith, length-drop (i * 4) numbers)) in
     record {
       place_is = omega (arith, k.ends, ap length e);
       stored = sym (ap (sets now at) e) ∙ k.left;
     }
-
--- the bytes that are left when some are copied
-pub record BytesLeft (bytes before : List ℕ) (at i : ℕ) (now : List ℕ) : Type 0 where
-  pub inside : i ≤ length bytes
-  pub same : length now ≡ length before
-  pub left : sets now (at + i) (drop i bytes) ≡ sets before at bytes
-
-pub bytes_start : (bytes before : List ℕ) (at : ℕ) → BytesLeft bytes before at 0 before
-bytes_start bytes before at = record { inside = omega arith; same = refl; left = rw (add-zero at) refl }
-
-pub bytes_on : (bytes before now : List ℕ) (at i : ℕ) → BytesLeft bytes before at i now → i < length bytes
-    → BytesLeft bytes before at (i + 1) (set now (at + i) (get_or bytes i 0))
-bytes_on bytes before now at i k h =
-    let one : i + 1 ≡ suc i = omega arith in
-    let on : at + suc i ≡ suc (at + i) = omega arith in
-    record {
-      inside = omega arith;
-      same = length-set now (at + i) (get_or bytes i 0) ∙ k.same;
-      left = rw (one, on) (ap (sets now (at + i)) (sym (drop-cons bytes i 0 h)) ∙ k.left);
-    }
-
-pub bytes_end : (bytes before now : List ℕ) (at i : ℕ) → BytesLeft bytes before at i now → length bytes ≤ i → Puts before at bytes (at + i) now
-bytes_end bytes before now at i k h = record {
-  place_is = omega (arith, k.inside);
-  stored = sym (ap (sets now (at + i)) (drop_of_length-le bytes h)) ∙ k.left;
-}

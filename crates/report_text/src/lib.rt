@@ -10,13 +10,7 @@ ghost use Rattle.laws.specs.Stores.{Puts};
 fn digit_count(n: u64) -> usize
     ensures { result ≡ length (decimal_text n) }
 {
-    let mut rest = n;
-    let mut count = 1;
-    while 10 <= rest {
-        rest /= 10;
-        count += 1;
-    }
-    count
+    n.checked_ilog10().unwrap_or(0) as usize + 1
 }
 
 // Stores the digits of a number before a place, the last first.
@@ -25,9 +19,7 @@ fn put_digits(n: u64, out: &mut [u8], at: usize, end: usize)
     ensures { out.new ≡ sets out.old at (decimal_text n) }
 {
     let mut rest = n;
-    let mut i = end;
-    while 10 <= rest {
-        i -= 1;
+    for i in (at + 1..end).rev() {
         out[i] = 48 + (rest % 10) as u8;
         rest /= 10;
     }
@@ -61,18 +53,10 @@ pub fn put_report(numbers: &[u64], out: &mut [u8]) -> usize
     requires { 21 * length numbers.now ≤ length out.old }
     ensures { Puts out.old 0 (report_text numbers.now) result out.new × (result ≤ length out.old) }
 {
+    let (lines, _) = numbers.as_chunks::<4>();
     let mut at = 0;
-    let mut i = 0;
-    while i + 4 <= numbers.len() {
-        at = put_line(
-            numbers[i],
-            numbers[i + 1],
-            numbers[i + 2],
-            numbers[i + 3],
-            out,
-            at,
-        );
-        i += 4;
+    for &[a, b, c, d] in lines {
+        at = put_line(a, b, c, d, out, at);
     }
     at
 }
@@ -82,21 +66,18 @@ fn put_bytes(bytes: &[u8], out: &mut [u8], at: usize) -> usize
     requires { at + length bytes.now ≤ length out.old }
     ensures { Puts out.old at bytes.now result out.new }
 {
-    let mut i = 0;
-    while i < bytes.len() {
-        out[at + i] = bytes[i];
-        i += 1;
-    }
-    at + i
+    let end = at + bytes.len();
+    out[at..end].copy_from_slice(bytes);
+    end
 }
 
 // The line of a refusal from the start of a buffer.
-pub fn put_refusal(number: u8, place: usize, out: &mut [u8]) -> usize
+pub fn put_refusal(number: u64, place: usize, out: &mut [u8]) -> usize
     requires { 64 ≤ length out.old }
     ensures { Puts out.old 0 (refusal_text number place) result out.new × (result ≤ length out.old) }
 {
     let first = put_bytes(b"refused ", out, 0);
-    let second = put_ended(number as u64, b' ', out, first);
+    let second = put_ended(number, b' ', out, first);
     let third = put_bytes(b"at ", out, second);
     put_ended(place as u64, b'\n', out, third)
 }

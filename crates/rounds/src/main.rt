@@ -5,28 +5,26 @@
 // and the kinds of what was only read, so that none is left out.
 #![tactic(auto)]
 
-ghost use Rattle.std.specs.Prelude.{◌≤◌, ◌<◌, length, IfOk};
-ghost use Rattle.exponential.specs.Stored.{StoredExponentials};
-ghost use Rattle.logarithm.specs.Stored.{StoredLogarithms};
-ghost use Rattle.power.specs.Stored.{StoredPowers};
+ghost use Rattle.std.specs.Prelude.{◌≤◌, ◌<◌, length};
 ghost use Rattle.site.specs.Writing.{Valid};
 
 use bracket::Bracket;
 use exponential::exponential_with;
-use exponential::stored::stored_exponentials;
+use exponential::stored::Exponentials;
 use header::{Header, MOST_SITES};
+use input::fill_buffer;
 use line::line_with;
 use logarithm::logarithm_with;
-use logarithm::stored::stored_logarithms;
+use logarithm::stored::Logarithms;
 use power::power_with;
-use power::stored::stored_powers;
+use power::stored::Powers;
 use power_by_ends::power_by_ends_with;
+use prediction::tables::{Tables, stored_tables};
 use site::rules::LONGEST_RECORD;
-use site::values::{Site, SiteAnswer};
+use site::values::Site;
 use site::words::word_at;
 use site_reader::read_site;
 use std::io;
-use std::io::{Read, Stdin};
 
 const MODULUS: u64 = 4294967296;
 
@@ -52,8 +50,8 @@ fn added(sum: u64, low: u64, high: u64) -> u64 {
 }
 
 // A power by one walk, or with each end by a walk of its own.
-fn power_by(stored: &[u64; 2560], base: u64, exponent: u64, by_ends: bool) -> Bracket
-    requires { StoredPowers stored.now × (1 ≤ base) × (base ≤ 20000) × (exponent < 5) }
+fn power_by(stored: &Powers, base: u64, exponent: u64, by_ends: bool) -> Bracket
+    requires { (1 ≤ base) × (base ≤ 20000) × (exponent < 5) }
 {
     if by_ends {
         power_by_ends_with(stored, base, exponent)
@@ -63,8 +61,8 @@ fn power_by(stored: &[u64; 2560], base: u64, exponent: u64, by_ends: bool) -> Br
 }
 
 // Every base at the exponent of a place.
-fn powers_at(stored: &[u64; 2560], exponent: u64, by_ends: bool, start: u64) -> u64
-    requires { StoredPowers stored.now × (exponent < 5) }
+fn powers_at(stored: &Powers, exponent: u64, by_ends: bool, start: u64) -> u64
+    requires { exponent < 5 }
 {
     let mut sum = start;
     for base in 1..20001 {
@@ -74,9 +72,7 @@ fn powers_at(stored: &[u64; 2560], exponent: u64, by_ends: bool, start: u64) -> 
     sum
 }
 
-fn powers(stored: &[u64; 2560], by_ends: bool, start: u64) -> u64
-    requires { StoredPowers stored.now }
-{
+fn powers(stored: &Powers, by_ends: bool, start: u64) -> u64 {
     let first = powers_at(stored, 0, by_ends, start);
     let second = powers_at(stored, 1, by_ends, first);
     let third = powers_at(stored, 2, by_ends, second);
@@ -84,9 +80,7 @@ fn powers(stored: &[u64; 2560], by_ends: bool, start: u64) -> u64
     powers_at(stored, 4, by_ends, fourth)
 }
 
-fn logarithms(stored: &[u64; 256], start: u64) -> u64
-    requires { StoredLogarithms stored.now }
-{
+fn logarithms(stored: &Logarithms, start: u64) -> u64 {
     let mut sum = start;
     for a in 1..20001 {
         let b = logarithm_with(stored, a);
@@ -95,9 +89,7 @@ fn logarithms(stored: &[u64; 256], start: u64) -> u64
     sum
 }
 
-fn exponentials(stored: &[u64; 15], start: u64) -> u64
-    requires { StoredExponentials stored.now }
-{
+fn exponentials(stored: &Exponentials, start: u64) -> u64 {
     let mut sum = start;
     for x in 0..140001 {
         let b = exponential_with(stored, x);
@@ -107,19 +99,11 @@ fn exponentials(stored: &[u64; 15], start: u64) -> u64
 }
 
 // A site's line, or the kind alone.
-fn site_added(
-    powers: &[u64; 2560],
-    logarithms: &[u64; 256],
-    exponentials: &[u64; 15],
-    lines: bool,
-    edition: u64,
-    site: Site,
-    sum: u64,
-) -> u64
-    requires { StoredPowers powers.now × StoredLogarithms logarithms.now × StoredExponentials exponentials.now × Valid edition 5 site }
+fn site_added(tables: &Tables, lines: bool, edition: u64, site: Site, sum: u64) -> u64
+    requires { Valid edition 5 site }
 {
     if !lines {
-        return added(sum, site.kind as u64, 0);
+        return added(sum, u64::from(site.kind), 0);
     }
     let header = Header {
         edition,
@@ -127,61 +111,29 @@ fn site_added(
         segments: SEGMENTS,
         crossings: CROSSINGS,
     };
-    let line = line_with(powers, logarithms, exponentials, header, site);
+    let line = line_with(tables, header, site);
     let predicted = added(sum, line.predicted_low, line.predicted_high);
     added(predicted, line.expected_low, line.expected_high)
 }
 
 // Every record, read and added.
-fn records(
-    powers: &[u64; 2560],
-    logarithms: &[u64; 256],
-    exponentials: &[u64; 15],
-    lines: bool,
-    edition: u64,
-    records: &[u8],
-    start: u64,
-) -> u64
-    requires { StoredPowers powers.now × StoredLogarithms logarithms.now × StoredExponentials exponentials.now }
-{
+fn records(tables: &Tables, lines: bool, edition: u64, records: &[u8], start: u64) -> u64 {
     let mut sum = start;
-    let mut at = 0;
-    while at < records.len() {
-        let answer = read_site(edition, YEARS, &records[at..]);
-        let SiteAnswer::Read(site, n) = answer else {
-            return sum;
-        };
-        sum = site_added(powers, logarithms, exponentials, lines, edition, site, sum);
-        at += n;
+    let mut rest = records;
+    while let Ok((site, n)) = read_site(edition, YEARS, rest) {
+        sum = site_added(tables, lines, edition, site, sum);
+        rest = &rest[n..];
     }
     sum
 }
 
-// The rounds that a number of the input asks for.
-fn rounds(input: &[u8], job: usize, start: u64) -> u64
-    requires { (job < 6) × (14 ≤ length input.now) }
+// The rounds that a number of the input asks for, each from the sum so far.
+fn rounds<F: Fn(u64) -> u64>(input: &[u8], job: usize, start: u64, round: F) -> u64
+    requires { (job < 6) × (14 ≤ length input.now) × F.IsAlwaysCallable round }
 {
-    let stored_powers = stored_powers();
-    let stored_logarithms = stored_logarithms();
-    let stored_exponentials = stored_exponentials();
-    let edition = word_at(input, EDITION_AT) as u64;
     let mut sum = start;
     for _ in 0..word_at(input, 2 * job) {
-        sum = match job {
-            0 => powers(&stored_powers, false, sum),
-            1 => powers(&stored_powers, true, sum),
-            2 => logarithms(&stored_logarithms, sum),
-            3 => exponentials(&stored_exponentials, sum),
-            _ => records(
-                &stored_powers,
-                &stored_logarithms,
-                &stored_exponentials,
-                job == 4,
-                edition,
-                &input[HEAD..],
-                sum,
-            ),
-        };
+        sum = round(sum);
     }
     sum
 }
@@ -194,28 +146,33 @@ fn print_sums(rt: &impl Print, input: &[u8]) -> io::Result<()> {
     if input.len() < HEAD {
         return Ok(());
     }
-    let sum = rounds(input, 1, rounds(input, 0, 0));
-    print_sum(rt, rounds(input, 3, rounds(input, 2, sum)))?;
-    print_sum(rt, rounds(input, 5, rounds(input, 4, 0)))
-}
-
-// Fills a buffer from standard input until it is full or the input ends, and returns how many bytes it put there.
-fn read_input(stdin: &mut Stdin, buffer: &mut [u8]) -> io::Result<usize>
-    ensures { IfOk result (λ n. n ≤ length buffer.new) }
-{
-    let mut done = 0;
-    while done < buffer.len() {
-        let n = stdin.read(&mut buffer[done..])?;
-        if n == 0 {
-            return Ok(done);
-        }
-        done += n;
-    }
-    Ok(done)
+    let tables = stored_tables();
+    let edition = u64::from(word_at(input, EDITION_AT));
+    let sites = &input[HEAD..];
+    let sum = rounds(input, 0, 0, |sum| powers(&tables.powers, false, sum));
+    let sum = rounds(input, 1, sum, |sum| powers(&tables.powers, true, sum));
+    let sum = rounds(input, 2, sum, |sum| logarithms(&tables.logarithms, sum));
+    let sum = rounds(input, 3, sum, |sum| exponentials(&tables.exponentials, sum));
+    print_sum(rt, sum)?;
+    let sum = rounds(
+        input,
+        4,
+        0,
+        |sum| records(&tables, true, edition, sites, sum),
+    );
+    print_sum(
+        rt,
+        rounds(
+            input,
+            5,
+            sum,
+            |sum| records(&tables, false, edition, sites, sum),
+        ),
+    )
 }
 
 fn main(rt: HostRuntime) -> io::Result<()> {
     let mut input = [0u8; INPUT_ROOM];
-    let n = read_input(&mut rt.stdin(), &mut input)?;
+    let n = fill_buffer(&mut rt.stdin(), &mut input)?;
     print_sums(&rt, &input[..n])
 }

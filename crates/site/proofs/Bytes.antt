@@ -1,9 +1,8 @@
 -- Laws of Bytes in specs/.
+use Rattle.std.specs.Prelude.{Option, None, Some}
 use Rattle.std.specs.Prelude.{◌≡◌, refl, Bool, true, false, cond, List, [], ◌∷◌, ◌++◌, ℕ, zero, suc, ◌+◌, ◌<◌, get_or, ltb, eqb}
 use Rattle.std.proofs.Common.{sym, true≢false, append-nil, arith, ltb-true}
 use Rattle.site.specs.declared.rules.Rule.{Rule}
-use Rattle.site.specs.declared.values.Slot.{Slot}
-use Rattle.site.specs.declared.values.Slot.TheVariants.{Absent, Number}
 use Rattle.site.specs.declared.values.Site.{Site}
 use Rattle.site.specs.Rules.{entries_of, traffic}
 use Rattle.site.specs.Yearly.{later_slots, yearly}
@@ -18,19 +17,19 @@ use Rattle.site.specs.WriteRead.{map_small}
 use Rattle.site.proofs.WriteRead.{first_field, second_field, other_fields, spread_parts, bytes_parts}
 use Rattle.site.specs.Bytes.{bytes_cons, bytes_nil, two_bytes_of}
 
-fits_bytes : (rule : Rule) (slot : Slot) → fits rule slot ≡ true → top rule < 65535 → Bytes (slot_bytes slot)
-fits_bytes rule Absent f h = bytes_nil
-fits_bytes rule (Number value) f h = two_bytes_of value (omega (arith, allows_top rule value f))
+fits_bytes : (rule : Rule) (slot : Option ℕ) → fits rule slot ≡ true → top rule < 65535 → Bytes (slot_bytes slot)
+fits_bytes rule None f h = bytes_nil
+fits_bytes rule (Some value) f h = two_bytes_of value (omega (arith, allows_top rule value f))
 
-field_bytes_lem : (rule : Rule) (slot : Slot) → fits rule slot ≡ true → top rule < 65535 → Bytes (field_bytes rule slot)
-field_bytes_lem rule Absent f h = bytes_nil
-field_bytes_lem rule (Number value) f h = by (eqb (slot_bit rule (Number value)) 1) (fits_bytes rule (Number value) f h)
+field_bytes_lem : (rule : Rule) (slot : Option ℕ) → fits rule slot ≡ true → top rule < 65535 → Bytes (field_bytes rule slot)
+field_bytes_lem rule None f h = bytes_nil
+field_bytes_lem rule (Some value) f h = by (eqb (slot_bit rule (Some value)) 1) (fits_bytes rule (Some value) f h)
   where
-    by : (b : Bool) → Bytes (slot_bytes (Number value)) → Bytes (cond b (slot_bytes (Number value)) [])
+    by : (b : Bool) → Bytes (slot_bytes (Some value)) → Bytes (cond b (slot_bytes (Some value)) [])
     by true bytes = bytes
     by false bytes = bytes_nil
 
-fields_bytes : (rules : List Rule) (slots : List Slot) → all_fit rules slots ≡ true → every top_low rules ≡ true → Bytes (bytes_of rules slots)
+fields_bytes : (rules : List Rule) (slots : List (Option ℕ)) → all_fit rules slots ≡ true → every top_low rules ≡ true → Bytes (bytes_of rules slots)
 unfolding all_fit every bytes_of
 fields_bytes [] slots f h = bytes_nil
 fields_bytes (rule ∷ rules) [] f h = bytes_nil
@@ -40,11 +39,11 @@ fields_bytes (rule ∷ rules) (slot ∷ slots) f h =
     (fields_bytes rules slots (and_right (fits rule slot) _ f) (and_right (ltb (top rule) 65535) _ h))
 
 -- later values fit their bytes
-later_bytes_lem : (later : ℕ) (slots : List Slot) → later_fits later slots ≡ true → Bytes (later_bytes slots)
+later_bytes_lem : (later : ℕ) (slots : List (Option ℕ)) → later_fits later slots ≡ true → Bytes (later_bytes slots)
 unfolding later_bytes later_fits
 later_bytes_lem later [] f = bytes_nil
-later_bytes_lem zero (Absent ∷ slots) f = later_bytes_lem zero slots f
-later_bytes_lem zero (Number value ∷ slots) f = absurd (true≢false (sym f))
+later_bytes_lem zero (None ∷ slots) f = later_bytes_lem zero slots f
+later_bytes_lem zero (Some value ∷ slots) f = absurd (true≢false (sym f))
 later_bytes_lem (suc later) (slot ∷ slots) f =
     bytes_append (slot_bytes slot) (later_bytes slots) (fits_bytes traffic slot (and_left (fits traffic slot) _ f) (omega arith))
     (later_bytes_lem later slots (and_right (fits traffic slot) _ f))

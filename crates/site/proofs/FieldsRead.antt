@@ -1,4 +1,6 @@
 -- Laws of FieldsRead in specs/.
+use Rattle.std.specs.Prelude.{Ok}
+use Rattle.std.specs.Prelude.{Option, None, Some}
 use Rattle.std.specs.Prelude.{◌≡◌, refl, Bool, true, false, cond, List, [], ◌∷◌, ◌↔◌, ℕ, zero, suc, ◌*◌, ◌%◌, ◌<◌, ◌≤◌, get_or, drop, leb, eqb}
 use Rattle.std.proofs.Common.{ap, sym, ◌∙◌, inl, inr, arith, leb-true, eqb-true}
 use Rattle.std.proofs.Math.Nat.{mod-one}
@@ -6,10 +8,7 @@ use Rattle.site.specs.declared.rules.Rule.{Rule}
 use Rattle.site.specs.declared.rules.Rule.TheVariants.{Foreign, Lacking, Needed, Optional, Default}
 use Rattle.site.specs.declared.rules.Entry.{Entry}
 use Rattle.site.specs.declared.rules.Entry.TheVariants.{Always, OnCurve}
-use Rattle.site.specs.declared.values.Slot.{Slot}
-use Rattle.site.specs.declared.values.Slot.TheVariants.{Absent, Number}
 use Rattle.site.specs.declared.values.Site.{Site}
-use Rattle.site.specs.declared.values.SiteAnswer.TheVariants.{Read}
 use Rattle.site.specs.Rules.{segment, entries_by, entries_of, last_kind, later_years, inside, absent_of, needed, lacking}
 use Rattle.site.specs.Rules.{settled, settle}
 use Rattle.site.specs.Record.{any_field, lacked_bit_stands, lacks, misses, curved, rules_read, word, words, value_number}
@@ -48,15 +47,15 @@ rules_by_bit edition kind h false =
     (λ sight. refl) refl refl refl refl (λ sight. refl) edition kind h
 
 -- each row names the slot of its bit: the slots by name, and by number
-unfoldable by_name : List Row → Site → List Slot
+unfoldable by_name : List Row → Site → List (Option ℕ)
 by_name [] site = []
 by_name (bit n lacked ∷ rows) site = by_name rows site
 by_name (bit n (field value low high absence) ∷ rows) site = value site ∷ by_name rows site
 
-unfoldable by_number : List Row → List Slot → List Slot
+unfoldable by_number : List Row → List (Option ℕ) → List (Option ℕ)
 by_number [] slots = []
 by_number (bit n lacked ∷ rows) slots = by_number rows slots
-by_number (bit n (field value low high absence) ∷ rows) slots = get_or slots n Absent ∷ by_number rows slots
+by_number (bit n (field value low high absence) ∷ rows) slots = get_or slots n None ∷ by_number rows slots
 
 named : (edition kind : ℕ) → kind ≤ last_kind → (curve : Bool) (site : Site)
     → by_name (rows_of edition kind) site ≡ by_number (rows_of edition kind) (bit_slots (settle curve (entries_of edition kind)) (slots_of site))
@@ -69,11 +68,11 @@ named edition kind h curve site =
     by true = refl
     by false = refl
 
-abbrev NamedAt : List Slot → Site → ℕ → Field → Type 0
+abbrev NamedAt : List (Option ℕ) → Site → ℕ → Field → Type 0
 NamedAt slots site b lacked = Unit
-NamedAt slots site b (field value low high absence) = value site ≡ get_or slots b Absent
+NamedAt slots site b (field value low high absence) = value site ≡ get_or slots b None
 
-named_at : (rows : List Row) (slots : List Slot) (site : Site) → by_name rows site ≡ by_number rows slots → (b : ℕ) → NamedAt slots site b (field_at rows b)
+named_at : (rows : List Row) (slots : List (Option ℕ)) (site : Site) → by_name rows site ≡ by_number rows slots → (b : ℕ) → NamedAt slots site b (field_at rows b)
 unfolding field_at by_name by_number
 named_at [] slots site e b = tt
 named_at (bit n lacked ∷ rows) slots site e b = by (eqb b n) (named_at rows slots site e b)
@@ -84,7 +83,7 @@ named_at (bit n lacked ∷ rows) slots site e b = by (eqb b n) (named_at rows sl
 named_at (bit n (field value low high absence) ∷ rows) slots site e b = by (eqb b n) refl (named_at rows slots site (cc) b)
   where
     by : (t : Bool) → eqb b n ≡ t → NamedAt slots site b (field_at rows b) → NamedAt slots site b (cond t (field value low high absence) (field_at rows b))
-    by true t later = let p : value site ≡ get_or slots n Absent = cc in rw (eqb-true b n t) p
+    by true t later = let p : value site ≡ get_or slots n None = cc in rw (eqb-true b n t) p
     by false t later = later
 
 pub by_bits : (edition kind map : ℕ) (s : List ℕ) → kind ≤ last_kind → ByBits edition kind map s
@@ -147,7 +146,7 @@ is_other (Always (Optional low high)) = false
 is_other (Always (Default low high d)) = false
 is_other (OnCurve rule) = false
 
-unfoldable other_slots : List Entry → List Slot → List Slot
+unfoldable other_slots : List Entry → List (Option ℕ) → List (Option ℕ)
 other_slots [] slots = []
 other_slots (entry ∷ entries) [] = []
 other_slots (entry ∷ entries) (slot ∷ slots) = cond (is_other entry) (slot ∷ other_slots entries slots) (other_slots entries slots)
@@ -184,15 +183,15 @@ absent_for low high (on_curve absence) false ne = refl
 
 module _ (edition years : ℕ) (s : List ℕ) (a : Accepted edition years s) where
   slot_at : (b : ℕ) → b < bits_held (kind_in s)
-      → get_or (bit_slots (rules_in edition s) (slots_of (site_in edition years s))) b Absent
-      ≡ cond (bit_at b (field_map_in s)) (Number (number_at years b s)) (absent_of (rules_at edition (kind_in s) (curved (entries_of edition (kind_in s)) (field_map_in s)) b))
+      → get_or (bit_slots (rules_in edition s) (slots_of (site_in edition years s))) b None
+      ≡ cond (bit_at b (field_map_in s)) (Some (number_at years b s)) (absent_of (rules_at edition (kind_in s) (curved (entries_of edition (kind_in s)) (field_map_in s)) b))
   slot_at b h =
       let c = curved (entries_of edition (kind_in s)) (field_map_in s) in
       let w = with_bits (rules_in edition s) (field_map_in s) (fields_in years s) in
-      ap (λ (l : List Slot). get_or (bit_slots (rules_in edition s) l) b Absent) (slots_again edition years s a)
-      ∙ ap (λ (l : List Slot). get_or l b Absent) (w.values ∙ ap (λ (l : List Rule). fields_values l (field_map_in s) (fields_in years s)) (rules_by_bit edition (kind_in s) a.passes.head.known c))
+      ap (λ (l : List (Option ℕ)). get_or (bit_slots (rules_in edition s) l) b None) (slots_again edition years s a)
+      ∙ ap (λ (l : List (Option ℕ)). get_or l b None) (w.values ∙ ap (λ (l : List Rule). fields_values l (field_map_in s) (fields_in years s)) (rules_by_bit edition (kind_in s) a.passes.head.known c))
       ∙ value_at_lem (bits_held (kind_in s)) (rules_at edition (kind_in s) c) (field_map_in s) (fields_in years s) (each_has_bit edition (kind_in s) c) b h
-      ∙ ap (λ (k : ℕ). cond (bit_at b (field_map_in s)) (Number k) (absent_of (rules_at edition (kind_in s) c b)))
+      ∙ ap (λ (k : ℕ). cond (bit_at b (field_map_in s)) (Some k) (absent_of (rules_at edition (kind_in s) c b)))
       (number_of years s (passes_both edition years s a.passes) (between edition years s a) b)
 
   number_at_lem : (b : ℕ) → b < bits_held (kind_in s) → bit_at b (field_map_in s) ≡ true → wrong_number (field_in edition s b) (number_at years b s) ≡ 0
@@ -242,7 +241,7 @@ module _ (edition years : ℕ) (s : List ℕ) (a : Accepted edition years s) whe
       → ((i : ℕ) → word (drop (2 * i) values) ≡ value_at years b (suc i) s) → LaterYears years s b later (later_read later_years later values)
   later_years_lem b later values few right at =
       record {
-        value_is = λ i h. later_given_lem later_years later values few i h ∙ ap Number (at i);
+        value_is = λ i h. later_given_lem later_years later values few i h ∙ ap Some (at i);
         at_least = λ i h. rw (← at i) (leb-true 1 (word (drop (2 * i) values)) (and_left _ _ (allowed_at later values right i h)));
         at_most = λ i h.
             rw (← at i) (leb-true (word (drop (2 * i) values)) 20000 (and_right (leb 1 (word (drop (2 * i) values))) _ (allowed_at later values right i h)));
@@ -273,23 +272,23 @@ module _ (edition years : ℕ) (s : List ℕ) (a : Accepted edition years s) whe
       }
 
 -- A RECORD THAT IS READ HAS THE FIELDS OF DOCUMENT 01, bit by bit
-pub fields_read : (edition years : ℕ) (s : List ℕ) (site : Site) (n : ℕ) → read_site edition years s ≡ Read site n → FieldsRead edition years s site n
+pub fields_read : (edition years : ℕ) (s : List ℕ) (site : Site) (n : ℕ) → read_site edition years s ≡ Ok (site, n) → FieldsRead edition years s site n
 fields_read edition years s site n e =
     let r = reading edition years s site n e in rw (← r.site_is, ← r.length_is) (fields_in_lem edition years s r.accepts)
 
 -- "Without bit 2 there is no history; a standing 0 is a history of none", of every kind
-pub history_read : (edition years : ℕ) (s : List ℕ) (site : Site) (n : ℕ) → read_site edition years s ≡ Read site n
-    → site.observed ≡ cond (bit_at 2 (field_map_in s)) (Number (number_at years 2 s)) Absent
+pub history_read : (edition years : ℕ) (s : List ℕ) (site : Site) (n : ℕ) → read_site edition years s ≡ Ok (site, n)
+    → site.observed ≡ cond (bit_at 2 (field_map_in s)) (Some (number_at years 2 s)) None
 unfolding field_at
 history_read edition years s site n e = by (kind_in s) ((fields_read edition years s site n e).bits 2)
   where
     told : FieldRead years s site 2 (λ x. x.observed) 0 500 no_number → (b : Bool) → bit_at 2 (field_map_in s) ≡ b
-        → site.observed ≡ cond b (Number (number_at years 2 s)) Absent
+        → site.observed ≡ cond b (Some (number_at years 2 s)) None
     told r true t = r.standing_is t
     told r false t = r.absent_as t
 
     by : (kind : ℕ) → BitRead years s site 2 (field_at (rows_of edition kind) 2)
-        → site.observed ≡ cond (bit_at 2 (field_map_in s)) (Number (number_at years 2 s)) Absent
+        → site.observed ≡ cond (bit_at 2 (field_map_in s)) (Some (number_at years 2 s)) None
     by zero r = told r _ refl
     by (suc zero) r = told r _ refl
     by (suc (suc zero)) r = told r _ refl

@@ -1,15 +1,19 @@
 -- One field after the other: what each definition of `specs/Record` says of the rules from place i on.
+use Rattle.std.specs.Prelude.{Option}
+use Rattle.std.specs.Array.{MapsFrom, IsMapOf}
+use denote.Param.Members.{Mut, Called}
 use mathlib.Core.Path.{◌≡◌, refl, ap, sym, ◌∙◌}
-use mathlib.Core.Bool.{Bool, true, false, cond, ◌||◌}
+use mathlib.Core.Bool.{Bool, true, false, cond, ◌||◌, or_assoc, or-false}
 use mathlib.Core.List.{List, [], ◌∷◌, map}
-use Prim.Native.Nat.{ℕ, suc, ◌+◌, ◌*◌, ◌<◌, ◌≤◌}
+use Prim.Native.Nat.{ℕ, zero, suc, ◌+◌, ◌*◌, ◌<◌, ◌≤◌}
 use native.Mathlib.Omega.{arith}
 use lib.ListN.{length, get_or, drop, set, length-map}
 use lib.Dec.{eqb}
-use borrow.Author.Tests.{ne_eqb}
+use borrow.Author.Tests.{ne_eqb, eqb-true}
+use Rattle.std.proofs.lemmas.Bool.{eqb-false}
+use Rattle.std.proofs.lemmas.List.{get_or-map, ext_get_or}
 use lib.Seq.{drop-drop, sets}
 use Rattle.site.specs.declared.rules.Rule.{Rule}
-use Rattle.site.specs.declared.values.Slot.{Slot}
 use Rattle.site.specs.Rules.{slot_count}
 use Rattle.site.specs.Record.{rest_of, any_field, field_words, words, field_number, field_value, after, fields_number, fields_values}
 use Rattle.laws.specs.Walk.{next, at_end, fill_start, fill_more}
@@ -33,26 +37,20 @@ module _ {A : Type 0} (rule : A → Rule) (test : A → ℕ → Bool) (last : �
   unfolding any_field
   any_end h = let w : length xs ≤ i = omega arith in rw (at_end xs i w) at inv
 
-either : (test later : Bool) (told before : ℕ) → cond (test || later) told before ≡ cond later told (cond test told before)
-either true true told before = refl
-either true false told before = refl
-either false later told before = refl
-
--- a loop that keeps a number from the field on that passes a test
-module _ {A : Type 0} (rule : A → Rule) (test : A → ℕ → Bool) (xs : List A) (i map told : ℕ) (count : length xs ≡ slot_count)
-    (number : ℕ) {whole : ℕ} (inv : cond (any_field rule test (λ (left : ℕ). false) (drop i xs) map) told number ≡ whole) where
-  pub kept_more : (d : A) (n rest : ℕ) → i < slot_count → n ≡ cond (test (get_or xs i d) map) told number
+-- a loop that keeps whether a field before passed a test
+module _ {A : Type 0} (rule : A → Rule) (test : A → ℕ → Bool) (xs : List A) (i map : ℕ) (count : length xs ≡ slot_count)
+    (kept : Bool) {whole : Bool} (inv : (kept || any_field rule test (λ (left : ℕ). false) (drop i xs) map) ≡ whole) where
+  pub kept_more : (d : A) (b : Bool) (rest : ℕ) → i < slot_count → b ≡ (kept || test (get_or xs i d) map)
       → rest ≡ rest_of (rule (get_or xs i d)) map
-      → cond (any_field rule test (λ (left : ℕ). false) (drop (i + 1) xs) rest) told n ≡ whole
+      → (b || any_field rule test (λ (left : ℕ). false) (drop (i + 1) xs) rest) ≡ whole
   unfolding any_field
-  kept_more d n rest h en er =
+  kept_more d b rest h eb er =
       let w : i < length xs = omega arith in
-      let later = any_field rule test (λ (left : ℕ). false) (drop (i + 1) xs) (rest_of (rule (get_or xs i d)) map) in
-      rw (en, er) (sym (either (test (get_or xs i d) map) later told number) ∙ rw (next xs i d w) at inv)
+      rw (eb, er) (or_assoc kept (test (get_or xs i d) map) _ ∙ rw (next xs i d w) at inv)
 
-  pub kept_end : slot_count ≤ i → number ≡ whole
+  pub kept_end : slot_count ≤ i → kept ≡ whole
   unfolding any_field
-  kept_end h = let w : length xs ≤ i = omega arith in rw (at_end xs i w) at inv
+  kept_end h = let w : length xs ≤ i = omega arith in sym (or-false kept) ∙ rw (at_end xs i w) at inv
 
 module _ (rules : List Rule) (i map : ℕ) (count : length rules ≡ slot_count) where
   pub words_step : (d : Rule) → i < slot_count
@@ -60,7 +58,7 @@ module _ (rules : List Rule) (i map : ℕ) (count : length rules ≡ slot_count)
   unfolding words
   words_step d h = let w : i < length rules = omega arith in rw (next rules i d w)
 
-  pub words_end : slot_count ≤ i → words (drop i rules) map ≡ 0
+  words_end : slot_count ≤ i → words (drop i rules) map ≡ 0
   unfolding words
   words_end h = let w : length rules ≤ i = omega arith in rw (at_end rules i w)
 
@@ -72,18 +70,6 @@ module _ (rules : List Rule) (i map : ℕ) (count : length rules ≡ slot_count)
 
   pub words_done : (total whole : ℕ) → slot_count ≤ i → total + words (drop i rules) map ≡ whole → total ≡ whole
   words_done total whole h inv = omega (arith, words_end h)
-
-  -- a loop that goes from field to field, and ends where the last does: there is room for the next field where there is for all
-  module _ (at whole : ℕ) (inv : at + 2 * words (drop i rules) map ≡ whole) where
-    pub room_next : (d : Rule) (room : ℕ) → i < slot_count → whole ≤ room → at + 2 * field_words (get_or rules i d) map ≤ room
-    room_next d room h w = omega (arith, words_step d h)
-
-    pub room_turn : (d : Rule) (n rest : ℕ) → i < slot_count → n ≡ field_words (get_or rules i d) map → rest ≡ rest_of (get_or rules i d) map
-        → at + 2 * n + 2 * words (drop (i + 1) rules) rest ≡ whole
-    room_turn d n rest h en er = rw (en, er) (omega (arith, words_step d h))
-
-    pub room_end : slot_count ≤ i → at ≡ whole
-    room_end h = omega (arith, words_end h)
 
   module _ (s : List ℕ) (at whole : ℕ) (inv : fields_number (drop i rules) map (drop at s) ≡ whole) where
     number_step : (d : Rule) → i < slot_count
@@ -108,7 +94,7 @@ module _ (rules : List Rule) (i map : ℕ) (count : length rules ≡ slot_count)
     unfolding fields_number
     number_end h = let w : length rules ≤ i = omega arith in rw (at_end rules i w) at inv
 
-  module _ (s : List ℕ) (at : ℕ) (v whole : List Slot) (inv : sets v i (fields_values (drop i rules) map (drop at s)) ≡ whole) where
+  module _ (s : List ℕ) (at : ℕ) (v whole : List (Option ℕ)) (inv : sets v i (fields_values (drop i rules) map (drop at s)) ≡ whole) where
     values_next : (d : Rule) → i < slot_count
         → fields_values (drop i rules) map (drop at s)
         ≡ field_value (get_or rules i d) map (drop at s)
@@ -116,7 +102,7 @@ module _ (rules : List Rule) (i map : ℕ) (count : length rules ≡ slot_count)
     unfolding fields_values
     values_next d h = let w : i < length rules = omega arith in rw (next rules i d w) (simp drop-drop)
 
-    pub values_more : (d : Rule) (x : Slot) (words rest : ℕ) → i < slot_count
+    pub values_more : (d : Rule) (x : Option ℕ) (words rest : ℕ) → i < slot_count
         → x ≡ field_value (get_or rules i d) map (drop at s) → words ≡ field_words (get_or rules i d) map
         → rest ≡ rest_of (get_or rules i d) map
         → sets (set v i x) (i + 1) (fields_values (drop (i + 1) rules) rest (drop (at + 2 * words) s)) ≡ whole
@@ -132,21 +118,26 @@ unfolding fields_values
 length_values [] map s = refl
 length_values (rule ∷ rules) map s = ap suc (length_values rules (rest_of rule map) (after rule map s))
 
-pub values_start : (rules : List Rule) (map : ℕ) (s : List ℕ) (v : List Slot) → length rules ≡ slot_count
+pub values_start : (rules : List Rule) (map : ℕ) (s : List ℕ) (v : List (Option ℕ)) → length rules ≡ slot_count
     → length v ≡ slot_count → sets v 0 (fields_values rules map s) ≡ fields_values rules map s
 values_start rules map s v count lv = fill_start v (fields_values rules map s) (lv ∙ sym (length_values rules map s ∙ count))
 
--- the rules of a road, filled in one by one
-module _ {A B : Type 0} (f : A → B) (xs : List A) (i : ℕ) (v whole : List B) (count : length xs ≡ slot_count) (inv : sets v i (map f (drop i xs)) ≡ whole) where
-  pub map_more : (d : A) (x : B) → i < slot_count → x ≡ f (get_or xs i d)
-      → sets (set v i x) (i + 1) (map f (drop (i + 1) xs)) ≡ whole
-  map_more d x h ex =
-      let w : i < length xs = omega arith in
-      rw ex (fill_more v i (f (get_or xs i d)) _ _ whole inv (ap (map f) (next xs i d w)))
+-- an array's `map`, by calls that give f and keep what they need of the closure
+module _ {F A B : Type 0} {g : Mut F (A × Unit {0}) B} (f : A → B) (Keeps : F → Type 0)
+    (gives : (p : F) (x : A) (y : B) (q : F) → Keeps p → Called g p (x, tt) y q → Keeps q × (y ≡ f x)) where
+  mapped : (p : F) (xs : List A) (ys : List B) (i n : ℕ) → Keeps p → MapsFrom g p xs ys i n
+      → (k : ℕ) (d : A) (e : B) → i ≤ k → k < i + n → get_or ys k e ≡ f (get_or xs k d)
+  mapped p xs ys i zero keeps m k d e h l = absurd (omega arith)
+  mapped p xs ys i (suc n) keeps (q, x, y, at_x, at_y, called, m) k d e h l =
+      let one = gives p x y q keeps called in
+      by (eqb i k) refl one.1 (mapped q xs ys (i + 1) n one.0 m k d e)
+    where
+      by : (b : Bool) → eqb i k ≡ b → y ≡ f x → (i + 1 ≤ k → k < i + 1 + n → get_or ys k e ≡ f (get_or xs k d)) → get_or ys k e ≡ f (get_or xs k d)
+      by true t given more = rw (← eqb-true i k t, at_x.1 d, at_y.1 e) given
+      by false t given more = let ne = eqb-false i k t in more (omega arith) (omega arith)
 
-  pub map_end : slot_count ≤ i → v ≡ whole
-  map_end h = let w : length xs ≤ i = omega arith in rw (at_end xs i w) at inv
-
-pub map_start : {A B : Type 0} (f : A → B) (xs : List A) (v : List B) → length xs ≡ slot_count → length v ≡ slot_count
-    → sets v 0 (map f xs) ≡ map f xs
-map_start f xs v count lv = fill_start v (map f xs) (lv ∙ sym (length-map xs f ∙ count))
+  pub map_is : (p : F) (xs : List A) (ys : List B) (n : ℕ) (d : A) (e : B) → Keeps p → length xs ≡ n → IsMapOf g p xs ys n → ys ≡ map f xs
+  map_is p xs ys n d e keeps count m =
+      ext_get_or e ys (map f xs) (m.long ∙ sym (length-map xs f ∙ count))
+      (λ k h. let l : k < n = omega (arith, m.long) in mapped p xs ys 0 n keeps m.each k d e (omega arith) (omega arith)
+      ∙ sym (get_or-map f xs k d e (omega arith)))

@@ -1,4 +1,6 @@
 -- Laws of ReadWrite in specs/.
+use Rattle.std.specs.Prelude.{Ok}
+use Rattle.std.specs.Prelude.{Option, None, Some}
 use Rattle.std.specs.Prelude.{◌≡◌, refl, Bool, true, false, cond, ◌&&◌, ◌||◌, not, ℕ, zero, suc, ◌+◌, ◌-◌, ◌*◌, ◌/◌, ◌%◌, ◌<◌, ◌≤◌, length, drop, eqb}
 use Rattle.std.proofs.Math.Path.{ap, sym}
 use Rattle.std.proofs.Common.{◌∙◌, arith, length-drop, take-add, drop-drop, le-leb, ltb-false, eqb-true, eq-eqb}
@@ -10,10 +12,7 @@ use Rattle.std.proofs.lemmas.Bool.{eqb-false}
 use Rattle.site.specs.declared.rules.Rule.{Rule}
 use Rattle.site.specs.declared.rules.Entry.{Entry}
 use Rattle.site.specs.declared.rules.Entry.TheVariants.{Always, OnCurve}
-use Rattle.site.specs.declared.values.Slot.{Slot}
-use Rattle.site.specs.declared.values.Slot.TheVariants.{Absent, Number}
 use Rattle.site.specs.declared.values.Site.{Site}
-use Rattle.site.specs.declared.values.SiteAnswer.TheVariants.{Read}
 use Rattle.site.specs.Rules.{entries_of, last_kind, later_years, slot_count, allows, absent_of, needed, bits, settle, absent, holds}
 use Rattle.site.specs.Record.{word, bit_of, rest_of, stands, lacked_bit_stands, needed_bit_absent, any_field, lacks, misses}
 use Rattle.site.specs.Record.{curved, rules_read, words, value_number, field_number, field_value, after, fields_number}
@@ -35,9 +34,9 @@ use Rattle.site.specs.ReadWrite.{slots_of_site, value_taken}
 absent_unwritten : (rule : Rule) → slot_bit rule (absent_of rule) ≡ 0
 absent_unwritten rule = by (absent_of rule) refl
   where
-    by : (slot : Slot) → absent_of rule ≡ slot → slot_bit rule slot ≡ 0
-    by Absent e = refl
-    by (Number value) e = rw (e, eq-eqb value value refl)
+    by : (slot : Option ℕ) → absent_of rule ≡ slot → slot_bit rule slot ≡ 0
+    by None e = refl
+    by (Some value) e = rw (e, eq-eqb value value refl)
 
 -- what one field that is read says to the writer
 record RewrittenField (rule : Rule) (map : ℕ) (s : List ℕ) : Type 0 where
@@ -150,7 +149,7 @@ module _ (edition years : ℕ) (s : List ℕ) (a : Accepted edition years s) whe
   abbrev rules : List Rule
   rules = rules_in edition s
 
-  abbrev pub values_read : List Slot
+  abbrev pub values_read : List (Option ℕ)
   values_read = fields_values (rules_in edition s) (field_map_in s) (fields_in years s)
 
   pub no_miss : misses (rules_in edition s) (field_map_in s) ≡ false
@@ -257,11 +256,11 @@ module _ (edition years : ℕ) (s : List ℕ) (a : Accepted edition years s) whe
   parts_again =
       let k = kind_in s in
       let x = site_in edition years s in
-      ap (λ (l : List Slot). record_by (rules_held edition k l) k l (yearly x) (later_slots x.later_traffic) (later_slots x.later_minor)) slots_again
+      ap (λ (l : List (Option ℕ)). record_by (rules_held edition k l) k l (yearly x) (later_slots x.later_traffic) (later_slots x.later_minor)) slots_again
       ∙ ap (λ (l : List Rule). record_by l k values_read (yearly x) (later_slots x.later_traffic) (later_slots x.later_minor)) rules_again
       ∙ ap (λ (b : Bool). record_by rules k values_read b (later_slots x.later_traffic) (later_slots x.later_minor)) yearly_again
-      ∙ ap (λ (l : List Slot). record_by rules k values_read (eqb (yearly_bit (map_in s)) 1) l (later_slots x.later_minor)) later_slots_again
-      ∙ ap (λ (l : List Slot). record_by rules k values_read (eqb (yearly_bit (map_in s)) 1) (later_read later_years later (later_at s)) l) minor_slots_again
+      ∙ ap (λ (l : List (Option ℕ)). record_by rules k values_read (eqb (yearly_bit (map_in s)) 1) l (later_slots x.later_minor)) later_slots_again
+      ∙ ap (λ (l : List (Option ℕ)). record_by rules k values_read (eqb (yearly_bit (map_in s)) 1) (later_read later_years later (later_at s)) l) minor_slots_again
 
   pub record_again : Bytes s → record_of edition (site_in edition years s) ≡ take (length_in edition years s) s
   unfolding record_by
@@ -279,11 +278,11 @@ module _ (edition years : ℕ) (s : List ℕ) (a : Accepted edition years s) whe
       ∙ sym (take-add 3 (2 * (words rules (field_map_in s) + (later + minor))) s)
 
 -- a site that is read is one that the writer takes
-pub read_valid : (edition years : ℕ) (s : List ℕ) (site : Site) (n : ℕ) → read_site edition years s ≡ Read site n → Valid edition years site
+pub read_valid : (edition years : ℕ) (s : List ℕ) (site : Site) (n : ℕ) → read_site edition years s ≡ Ok (site, n) → Valid edition years site
 read_valid edition years s site n e = let r = reading edition years s site n e in rw (← r.site_is) (valid_again edition years s r.accepts)
 
 -- every accepted record is written back as the same bytes
-pub read_write : (edition years : ℕ) (s : List ℕ) (site : Site) (n : ℕ) → Bytes s → read_site edition years s ≡ Read site n
+pub read_write : (edition years : ℕ) (s : List ℕ) (site : Site) (n : ℕ) → Bytes s → read_site edition years s ≡ Ok (site, n)
     → record_of edition site ≡ take n s
 read_write edition years s site n bytes e =
     let r = reading edition years s site n e in

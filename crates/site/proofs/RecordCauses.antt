@@ -1,10 +1,12 @@
 -- Laws of RecordCauses in specs/.
+use Rattle.std.specs.Prelude.{Err}
+use Rattle.site.specs.declared.refusal.Refusal.{Refusal}
+use Rattle.site.specs.Refusals.{number_of, refusal_not_zero, err_answer_by}
 use Rattle.std.proofs.Math.Path.{◌≡◌, ap, sym}
 use Rattle.std.specs.Prelude.{refl, Bool, true, false, cond, ◌&&◌, ◌||◌, not, List, ◌↔◌, ℕ, zero, suc, ◌*◌, ◌<◌, ◌≤◌, length, drop, eqb}
 use Rattle.std.proofs.Common.{◌∙◌, arith}
 use Rattle.std.proofs.Math.Bool.{not-not}
-use borrow.Author.Tests.{eqb-true, eqb-false, eq-eqb, ne_eqb}
-use Rattle.site.specs.declared.values.SiteAnswer.TheVariants.{Refused}
+use borrow.Author.Tests.{eqb-true, eqb-false, eq-eqb}
 use Rattle.site.specs.Rules.{traffic, allows}
 use Rattle.site.proofs.Tested.{unknown_neither, neither_unknown}
 use Rattle.site.specs.Answers.{read_number}
@@ -15,7 +17,7 @@ use Rattle.site.specs.Fields.{spells_default}
 use Rattle.laws.specs.Truth.{and_left, and_right, not_both, never_so, never_false, both_true}
 use Rattle.site.specs.Accepted.{HeadPresent, MapPasses, Tried, edition_unknown, years_unknown, head_short, kind_unknown, map_lacks}
 use Rattle.site.specs.Accepted.{map_misses, fields_short}
-use Rattle.site.specs.Accepted.{later_refused, fields_tell, fields_long, tried, tried_number, accepted, accept, number_read}
+use Rattle.site.specs.Accepted.{later_refused, fields_tell, fields_long, tried, tried_number, number_read}
 use Rattle.site.specs.ReadWrite.{value_taken}
 use Rattle.site.specs.BitLaws.{yearly_told, later_told_lem, minor_told, bit_number, BitsTell, none_refused, first_refused, refused_first}
 use Rattle.site.specs.Curve.{map_matched}
@@ -26,7 +28,8 @@ use Rattle.site.proofs.FieldsRead.{words_standing, wrong_number_lem}
 use Rattle.site.specs.FieldsRead.{wrong_number}
 use Rattle.site.specs.LaterLaws.{allowed_at, Outside, some_outside}
 use Rattle.site.specs.PlaceLaws.{BothStand, later_of, minor_of, end_of}
-use Rattle.site.proofs.PlaceLaws.{passes_both, number_of}
+use Rattle.site.proofs.PlaceLaws.{passes_both}
+use Rattle.site.proofs.PlaceLaws as place
 use Rattle.site.specs.RecordCauses.{AllInRange, MapRight, NoneLacked, RecordCause, RightBelow, all_matched, bit_lacked, bit_missing, edition_neither, field_outside, field_past, field_spelled, kind_above, map_past, years_outside}
 
 pub cause_not_zero : {edition years : ℕ} {s : List ℕ} {n : ℕ} → RecordCause edition years s n → n ≡ 0 → ⊥
@@ -112,7 +115,7 @@ module _ (edition years : ℕ) (s : List ℕ) where
     refused_at b = bit_number (rules_at edition (kind_in s) true) b (field_map_in s) (fields_in years s)
 
     refused_at_lem : (b : ℕ) → refused_at b ≡ cond (bit_at b (field_map_in s)) (wrong_number (field_in edition s b) (number_at years b s)) 0
-    refused_at_lem b = rw (wrong_number_lem (field_in edition s b) _, number_of years s both (fields_long edition years s p full) b)
+    refused_at_lem b = rw (wrong_number_lem (field_in edition s b) _, place.number_of years s both (fields_long edition years s p full) b)
 
     -- a later value that is in its range, and one that is not
     first_later : (i : ℕ) → in_range (field_in edition s 0) (value_at years 0 (suc i) s) ≡ allows traffic (word (drop (2 * i) (later_at s)))
@@ -294,12 +297,10 @@ module _ (edition years : ℕ) (s : List ℕ) where
       by none false t =
           absurd (none (refusal_of edition years s) (record_cause (refusal_of edition years s) refl (eqb-false (refusal_of edition years s) 0 t)))
 
-  -- so the reader refuses with a number exactly where that cause is the first
-  pub refused_by_cause : (number : ℕ) → (read_site edition years s ≡ Refused number) ↔ RecordCause edition years s number
+  -- so the reader gives a refusal exactly where the cause with its number is the first
+  pub refused_by_cause : (refused : Refusal) → (read_site edition years s ≡ Err refused) ↔ RecordCause edition years s (number_of refused)
   unfolding read_site
-  refused_by_cause number = (told, λ c. rw (cause_number c, ne_eqb number 0 (cause_not_zero c)))
-    where
-      told : read_site edition years s ≡ Refused number → RecordCause edition years s number
-      told e =
-          let n : refusal_of edition years s ≡ number = sym (number_read edition years s) ∙ ap read_number e in
-          record_cause number n (λ z. let a = accept edition years s (accepted edition years s (n ∙ z)) in let c : ◌≡◌ {A = ℕ} 0 1 = cc in omega arith)
+  refused_by_cause refused = (
+    λ e. record_cause (number_of refused) (sym (number_read edition years s) ∙ ap read_number e) (refusal_not_zero refused),
+    λ c. err_answer_by (refusal_of edition years s) _ refused (cause_number c),
+  )

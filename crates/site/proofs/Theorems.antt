@@ -1,4 +1,7 @@
 -- Laws of Theorems in specs/.
+use Rattle.std.specs.Prelude.{Ok, Err}
+use Rattle.site.specs.Refusals.{refusal}
+use Rattle.std.specs.Prelude.{None, Some}
 use Rattle.std.proofs.Math.Path.{◌≡◌, refl}
 use Rattle.std.proofs.Common.{ap, ◌∙◌, append-nil, arith, length-take-le}
 use Rattle.std.specs.Prelude.{Bool, List, [], ◌++◌, ◌↔◌, ℕ, ◌<◌, ◌≤◌, take}
@@ -7,9 +10,6 @@ use Rattle.std.proofs.Math.ListN.{length, drop}
 use Rattle.std.proofs.Math.Dec.{leb, eqb}
 use borrow.Author.Tests.{leb-true, leb-false, le-leb, lt-leb, eqb-true}
 use Rattle.site.specs.declared.values.Site.{Site}
-use Rattle.site.specs.declared.values.SiteAnswer.TheVariants.{Read}
-use Rattle.site.specs.declared.values.Measure.TheVariants.{Length, OutsideRange}
-use Rattle.site.specs.declared.values.WriteAnswer.TheVariants.{Written, Unwritten}
 use Rattle.site.specs.Rules.{edition_known, years_known}
 use Rattle.site.specs.Record.{kind_in, field_map_in, read_site}
 use Rattle.site.specs.Writing.{record_of, sound_site, sound, Valid, measure_of, write_refusal, write_answer, write_into}
@@ -22,7 +22,7 @@ use Rattle.site.proofs.Bytes.{record_bytes}
 use Rattle.site.specs.Bytes.{bytes_append, bytes_nil}
 use Rattle.site.specs.Theorems.{RecordLength, length_most}
 
-pub read_length : (edition years : ℕ) (s : List ℕ) (site : Site) (n : ℕ) → read_site edition years s ≡ Read site n → RecordLength s n
+pub read_length : (edition years : ℕ) (s : List ℕ) (site : Site) (n : ℕ) → read_site edition years s ≡ Ok (site, n) → RecordLength s n
 read_length edition years s site n e =
     let r = reading edition years s site n e in
     let a = r.accepts in
@@ -38,16 +38,16 @@ record_length edition years site v =
     read_length edition years (record_of edition site) site (length (record_of edition site)) (rw append-nil at (write_read edition years site [] v))
 
 -- a length is measured of a valid site alone, and is its record's
-pub measured_length : (edition years : ℕ) (site : Site) (n : ℕ) → measure_of edition years site ≡ Length n
+pub measured_length : (edition years : ℕ) (site : Site) (n : ℕ) → measure_of edition years site ≡ Some n
     → Valid edition years site × (n ≡ length (record_of edition site))
 unfolding measure_of
 measured_length edition years site n e =
-    let w = chosen (sound edition years site) (Length (length (record_of edition site))) OutsideRange (Length n) (λ q. let z : ◌≡◌ {A = ℕ} 0 1 = cc in omega arith) e in
+    let w = chosen (sound edition years site) (Some (length (record_of edition site))) None (Some n) (λ q. let z : ◌≡◌ {A = ℕ} 0 1 = cc in omega arith) e in
     (record { is_sound = w.0 }, cc)
 
 -- the writer refuses with 8 the sites that are not valid, and these are the sites that no record reads as
 module _ (edition years : ℕ) (site : Site) where
-  no_record : ((s : List ℕ) (n : ℕ) → Bytes s → read_site edition years s ≡ Read site n → ⊥) → sound edition years site ≡ false
+  no_record : ((s : List ℕ) (n : ℕ) → Bytes s → read_site edition years s ≡ Ok (site, n) → ⊥) → sound edition years site ≡ false
   no_record never =
       never_so (sound edition years site) (λ e.
       let v : Valid edition years site = record { is_sound = e } in
@@ -130,7 +130,7 @@ module _ (edition years : ℕ) (site : Site) where
 
   -- 8 exactly when neither is, and no record is read as the site
   abbrev NoRecord : Type 0
-  NoRecord = (s : List ℕ) (n : ℕ) → Bytes s → read_site edition years s ≡ Read site n → ⊥
+  NoRecord = (s : List ℕ) (n : ℕ) → Bytes s → read_site edition years s ≡ Ok (site, n) → ⊥
 
   pub eight_exactly : (room : ℕ) → (write_refusal edition years site room ≡ 8) ↔ ((edition_known edition ≡ true) × (years_known years ≡ true) × NoRecord)
   eight_exactly room = (
@@ -169,20 +169,20 @@ module _ (edition years : ℕ) (site : Site) where
       by (fits v h) e = (v, h)
 
   -- a length is answered only without a refusal, and is the record's
-  written_is : (room n : ℕ) → write_answer edition years site room ≡ Written n
+  written_is : (room n : ℕ) → write_answer edition years site room ≡ Ok n
       → (write_refusal edition years site room ≡ 0) × (n ≡ length (record_of edition site))
   unfolding write_answer
   written_is room n = by (eqb (write_refusal edition years site room) 0) refl
     where
       by : (b : Bool) → eqb (write_refusal edition years site room) 0 ≡ b
-          → cond b (Written (length (record_of edition site))) (Unwritten (write_refusal edition years site room)) ≡ Written n
+          → cond b (Ok (length (record_of edition site))) (Err (refusal (write_refusal edition years site room))) ≡ Ok n
           → (write_refusal edition years site room ≡ 0) × (n ≡ length (record_of edition site))
       by true t e = (eqb-true (write_refusal edition years site room) 0 t, cc)
       by false t e = let z : ◌≡◌ {A = ℕ} 0 1 = cc in absurd (omega arith)
 
   -- what the writer answers with success and leaves in the buffer reads back as the same site, whatever follows it there
-  pub written_reads_back : (before : List ℕ) (n : ℕ) → write_answer edition years site (length before) ≡ Written n
-      → read_site edition years (write_into edition years site before) ≡ Read site n
+  pub written_reads_back : (before : List ℕ) (n : ℕ) → write_answer edition years site (length before) ≡ Ok n
+      → read_site edition years (write_into edition years site before) ≡ Ok (site, n)
   unfolding write_into
   written_reads_back before n e =
       let w = written_is (length before) n e in
@@ -202,9 +202,9 @@ module _ (edition years : ℕ) (site : Site) where
       by false b v l = refl
 
 -- every accepted record is written back as the same bytes: the writer answers its length, and leaves it at the start of the buffer
-pub read_writes_back : (edition years : ℕ) (s : List ℕ) (site : Site) (n : ℕ) (before : List ℕ) → Bytes s → read_site edition years s ≡ Read site n
+pub read_writes_back : (edition years : ℕ) (s : List ℕ) (site : Site) (n : ℕ) (before : List ℕ) → Bytes s → read_site edition years s ≡ Ok (site, n)
     → n ≤ length before
-    → (write_answer edition years site (length before) ≡ Written n) × (write_into edition years site before ≡ take n s ++ drop n before)
+    → (write_answer edition years site (length before) ≡ Ok n) × (write_into edition years site before ≡ take n s ++ drop n before)
 unfolding write_answer write_into
 read_writes_back edition years s site n before bytes e h =
     let record_is = read_write edition years s site n bytes e in

@@ -1,17 +1,19 @@
 -- How the tests of the edition, of the years and of a record's bytes come out, in document 01's order, and a record that passes them all.
-use Rattle.std.specs.Prelude.{◌≡◌, refl, Bool, cond, ◌||◌, not, List, ℕ, ◌+◌, ◌-◌, ◌*◌, ◌/◌, ◌%◌, ◌<◌, ◌≤◌, length, drop, ltb, eqb}
+use Rattle.std.specs.Prelude.{Result, Ok, Err}
+use Rattle.std.specs.Prelude.{◌≡◌, refl, Bool, cond, ◌||◌, not, List, [], ◌∷◌, ℕ, ◌+◌, ◌-◌, ◌*◌, ◌/◌, ◌%◌, ◌<◌, ◌≤◌, length, drop, ltb, eqb}
 use Rattle.std.proofs.Common.{ap, sym, ◌∙◌, true≢false, le_trans, mul-le-mul, arith, length-drop}
 use Rattle.std.proofs.Math.Bool.{true, false}
 use borrow.Author.Tests.{lt-ltb, le-ltb, ltb-true, ltb-false, eqb-true}
 use Rattle.site.specs.declared.rules.Rule.{Rule}
 use Rattle.site.specs.declared.values.Site.{Site}
-use Rattle.site.specs.declared.values.SiteAnswer.TheVariants.{Read, Refused}
-use Rattle.site.specs.Rules.{entries_by, entries_of, last_kind, edition_known, years_known, later_years, settle}
+use Rattle.site.specs.Rules.{entries_by, entries_of, last_kind, edition_known, years_known, later_years, settle, allows, absent_of, holds}
 use Rattle.laws.specs.Truth.{or_left}
 use Rattle.site.specs.Tested.{by_rules}
 use Rattle.site.specs.LaterLaws.{years_within, bit_most, minor_most_lem}
+use Rattle.site.specs.declared.refusal.Refusal.{Refusal}
+use Rattle.site.specs.Refusals.{number_in, answer_by_number, ok_parts}
 use Rattle.site.specs.Answers.{read_number}
-use Rattle.site.specs.Record.{any_field, curved, lacks, misses, rules_read, words, fields_number, yearly_bit, kind_in, map_in, field_map_in}
+use Rattle.site.specs.Record.{any_field, curved, lacks, misses, rules_read, words, fields_number, field_number, after, rest_of, stands, word, yearly_bit, kind_in, map_in, field_map_in}
 use Rattle.site.specs.Record.{rules_in, later_in, later_minor_in, fields_in, all_later_allowed, length_in, site_in, misses_in}
 use Rattle.site.specs.Record.{record_number, refusal_of, read_site}
 
@@ -104,7 +106,7 @@ pub record Accepted (edition years : ℕ) (s : List ℕ) : Type 0 where
   pub no_field_refused : fields_number (rules_in edition s) (field_map_in s) (fields_in years s) ≡ 0
 
 pub accept : (edition years : ℕ) (s : List ℕ) → Accepted edition years s
-    → read_site edition years s ≡ Read (site_in edition years s) (length_in edition years s)
+    → read_site edition years s ≡ Ok (site_in edition years s, length_in edition years s)
 unfolding read_site
 accept edition years s a = rw (tried_number edition years s (fields_tell a.passes a.full a.later_in), a.no_field_refused)
 
@@ -164,19 +166,46 @@ later_most years s e =
     let most : later_in years s ≤ later_years = le_trans (mul-le-mul (bit_most (map_in s)) few) (omega arith) in
     (most, le_trans (minor_most_lem (kind_in s) (later_in years s)) most)
 
--- an answer by a number has that number
-pub number_of_answer : {A : Type 0} (number_of : A → ℕ) (number : ℕ) (success refusal : A) → number_of success ≡ 0 → number_of refusal ≡ number
-    → number_of (cond (eqb number 0) success refusal) ≡ number
-number_of_answer number_of number success refusal z e = by (eqb number 0) refl
+-- no field is refused with a number above 9
+field_most : (b a d : Bool) → cond b (cond a (cond d 9 0) 8) 0 ≤ 9
+field_most false a d = omega arith
+field_most true false d = omega arith
+field_most true true true = omega arith
+field_most true true false = omega arith
+
+fields_most : (rules : List Rule) (map : ℕ) (s : List ℕ) → fields_number rules map s ≤ 9
+unfolding fields_number
+fields_most [] map s = omega arith
+fields_most (rule ∷ rules) map s = by (eqb (field_number rule map s) 0) (fields_most rules (rest_of rule map) (after rule map s))
   where
-    by : (b : Bool) → eqb number 0 ≡ b → number_of (cond b success refusal) ≡ number
-    by true t = z ∙ sym (eqb-true number 0 t)
-    by false t = e
+    by : (b : Bool) → fields_number rules (rest_of rule map) (after rule map s) ≤ 9
+        → cond b (fields_number rules (rest_of rule map) (after rule map s)) (field_number rule map s) ≤ 9
+    by true later = later
+    by false later = field_most (stands rule map) (allows rule (word s)) (holds (absent_of rule) (word s))
+
+-- nor a record, so that each refusal has its number
+pub refusal_most : (edition years : ℕ) (s : List ℕ) → refusal_of edition years s ≤ 10
+refusal_most edition years s = by (tried edition years s)
+  where
+    by : {n : ℕ} → Tried edition years s n → n ≤ 10
+    by (edition_unknown x) = omega arith
+    by (years_unknown x y) = omega arith
+    by (head_short x y h) = omega arith
+    by (kind_unknown x y l k) = omega arith
+    by (map_lacks h l) = omega arith
+    by (map_misses h l m) = omega arith
+    by (fields_short p f) = omega arith
+    by (later_refused p f a) = omega arith
+    by (fields_tell p f a) = omega (arith, fields_most (rules_in edition s) (field_map_in s) (fields_in years s))
 
 pub number_read : (edition years : ℕ) (s : List ℕ) → read_number (read_site edition years s) ≡ refusal_of edition years s
 unfolding read_site
 number_read edition years s =
-    number_of_answer read_number (refusal_of edition years s) (Read (site_in edition years s) (length_in edition years s)) (Refused (refusal_of edition years s)) refl refl
+    number_in_read _ ∙ answer_by_number (refusal_of edition years s) (site_in edition years s, length_in edition years s) (refusal_most edition years s)
+  where
+    number_in_read : (answer : Result (Site × ℕ) Refusal) → read_number answer ≡ number_in answer
+    number_in_read (Ok read) = refl
+    number_in_read (Err refused) = refl
 
 -- what is read is the site in the part, and its record's length
 pub record Reading (edition years : ℕ) (s : List ℕ) (site : Site) (n : ℕ) : Type 0 where
@@ -184,9 +213,9 @@ pub record Reading (edition years : ℕ) (s : List ℕ) (site : Site) (n : ℕ) 
   pub site_is : site_in edition years s ≡ site
   pub length_is : length_in edition years s ≡ n
 
-pub reading : (edition years : ℕ) (s : List ℕ) (site : Site) (n : ℕ) → read_site edition years s ≡ Read site n → Reading edition years s site n
+pub reading : (edition years : ℕ) (s : List ℕ) (site : Site) (n : ℕ) → read_site edition years s ≡ Ok (site, n) → Reading edition years s site n
 reading edition years s site n e =
     let z : refusal_of edition years s ≡ 0 = sym (number_read edition years s) ∙ ap read_number e in
     let a = accepted edition years s z in
-    let q : Read (site_in edition years s) (length_in edition years s) ≡ Read site n = sym (accept edition years s a) ∙ e in
-    record { accepts = a; site_is = cc; length_is = cc }
+    let parts = ok_parts _ _ _ _ (sym (accept edition years s a) ∙ e) in
+    record { accepts = a; site_is = parts.0; length_is = parts.1 }

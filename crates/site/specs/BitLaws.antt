@@ -1,4 +1,5 @@
 -- The walk over a kind's rules, told by bit number: a rule with no bit drops out, and the b-th of the others is that of bit b.
+use Rattle.std.specs.Prelude.{Option, None, Some}
 use Rattle.std.specs.Prelude.{◌≡◌, refl, Bool, true, false, cond, ◌&&◌, ◌||◌, not, List, [], ◌∷◌, ℕ, zero, suc, ◌+◌, ◌-◌, ◌*◌, ◌/◌, ◌%◌, ◌^◌, ◌<◌, ◌≤◌, get_or, drop, eqb, ◌⊎◌}
 use Rattle.std.proofs.Common.{ap, sym, ◌∙◌, div-one, zero-add, mul_assoc, arith, drop-drop, pow-add, ltb-true, lt-ltb, eqb-true, eq-eqb, ne_eqb, inl, inr, ⊎_elim}
 use Rattle.std.proofs.Math.Bool.{or-true, and-false}
@@ -8,8 +9,6 @@ use Rattle.site.specs.declared.rules.Rule.{Rule}
 use Rattle.site.specs.declared.rules.Rule.TheVariants.{Foreign, Lacking, Needed, Optional, Default}
 use Rattle.site.specs.declared.rules.Entry.{Entry}
 use Rattle.site.specs.declared.rules.Entry.TheVariants.{Always, OnCurve}
-use Rattle.site.specs.declared.values.Slot.{Slot}
-use Rattle.site.specs.declared.values.Slot.TheVariants.{Absent, Number}
 use Rattle.site.specs.Rules.{absent_of, needed, lacking, bits, settle}
 use Rattle.site.specs.Yearly.{later_minor}
 use Rattle.site.specs.Record.{word, rest_of, any_field, needed_bit_absent, lacks, misses, curved}
@@ -70,7 +69,7 @@ unfoldable pub bit_rules : List Rule → List Rule
 bit_rules [] = []
 bit_rules (rule ∷ rules) = cond (eqb (bits rule) 0) (bit_rules rules) (rule ∷ bit_rules rules)
 
-unfoldable pub bit_slots : List Rule → List Slot → List Slot
+unfoldable pub bit_slots : List Rule → List (Option ℕ) → List (Option ℕ)
 bit_slots [] slots = []
 bit_slots (rule ∷ rules) [] = []
 bit_slots (rule ∷ rules) (slot ∷ slots) = cond (eqb (bits rule) 0) (bit_slots rules slots) (slot ∷ bit_slots rules slots)
@@ -142,7 +141,7 @@ words_listed (suc n) g map one = rw (one 0, words_listed n (λ b. g (suc b)) (ma
 
 -- the slot of a bit
 pub value_at_lem : (n : ℕ) (g : ℕ → Rule) (map : ℕ) (s : List ℕ) → EachHasBit g → (b : ℕ) → b < n
-    → get_or (fields_values (listed g n) map s) b Absent ≡ cond (bit_at b map) (Number (word_at b map s)) (absent_of (g b))
+    → get_or (fields_values (listed g n) map s) b None ≡ cond (bit_at b map) (Some (word_at b map s)) (absent_of (g b))
 unfolding listed fields_values standing
 value_at_lem zero g map s one b h = let z : ⊥ = omega arith in absurd z
 value_at_lem (suc n) g map s one zero h = rw (one 0)

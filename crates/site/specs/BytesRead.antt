@@ -1,4 +1,8 @@
 -- "nothing past the record bears on it": the bytes of a part on which the site reader's answer rests.
+use Rattle.std.specs.Prelude.{Result, Ok, Err}
+use Rattle.site.specs.declared.refusal.Refusal.{Refusal}
+use Rattle.site.specs.Refusals.{refusal}
+use Rattle.std.specs.Prelude.{Option}
 use Rattle.std.specs.Prelude.{◌≡◌, Bool, ◌&&◌, ◌||◌, ◌↔◌, ℕ, ◌+◌, ◌*◌, ◌<◌, ◌≤◌, take, drop, eqb}
 use Rattle.std.proofs.Math.Path.{refl}
 use Rattle.std.proofs.Common.{ap, sym, ◌∙◌, true≢false, length-append, length-drop, take-append-drop, length-take-le}
@@ -11,8 +15,6 @@ use Rattle.std.proofs.Math.Dec.{ltb}
 use borrow.Author.Tests.{lt-ltb, le-ltb, ltb-false, eqb-true}
 use Rattle.site.specs.declared.rules.Rule.{Rule}
 use Rattle.site.specs.declared.values.Site.{Site}
-use Rattle.site.specs.declared.values.SiteAnswer.TheVariants.{Read, Refused}
-use Rattle.site.specs.declared.values.Slot.{Slot}
 use Rattle.site.specs.Rules.{last_kind, edition_known, years_known, later_years, allows, absent_of, holds}
 use Rattle.site.specs.Yearly.{later_from_slots}
 use Rattle.site.specs.LaterLaws.{gathered_append, length_gathered, same_word, LaterAlike, later_alike}
@@ -115,10 +117,10 @@ module _ (edition years k a b : ℕ) (s t : List ℕ) where
     site_alike =
         let n = later_in years part in
         let m = later_minor_in years part in
-        ap (λ (l : List Slot). site_of k l (later_from_slots (later_read later_years n (later_at longer))) (later_from_slots (later_read later_years m (later_minor_at years longer)))) fields_alike.values
-        ∙ ap (λ (l : List Slot). site_of k (fields_values (rules_in edition part) (field_map_in part) (fields_in years part)) (later_from_slots l) (later_from_slots (later_read later_years m (later_minor_at years longer))))
+        ap (λ (l : List (Option ℕ)). site_of k l (later_from_slots (later_read later_years n (later_at longer))) (later_from_slots (later_read later_years m (later_minor_at years longer)))) fields_alike.values
+        ∙ ap (λ (l : List (Option ℕ)). site_of k (fields_values (rules_in edition part) (field_map_in part) (fields_in years part)) (later_from_slots l) (later_from_slots (later_read later_years m (later_minor_at years longer))))
         (ap (later_read later_years n) at_traffic ∙ traffic_alike.values)
-        ∙ ap (λ (l : List Slot). site_of k (fields_values (rules_in edition part) (field_map_in part) (fields_in years part)) (later_from_slots (later_read later_years n (later_at part))) (later_from_slots l))
+        ∙ ap (λ (l : List (Option ℕ)). site_of k (fields_values (rules_in edition part) (field_map_in part) (fields_in years part)) (later_from_slots (later_read later_years n (later_at part))) (later_from_slots l))
         (ap (later_read later_years m) at_minor ∙ minor_alike.values)
 
   -- the tests of a part come out as those of the bytes that bear on it
@@ -139,8 +141,8 @@ same_answer : (number : ℕ) (site other : Site) (n : ℕ) → (number ≡ 0 →
     → read_answer number site n ≡ read_answer number other n
 same_answer number site other n h = by (eqb number 0) refl
   where
-    by : (b : Bool) → eqb number 0 ≡ b → cond b (Read site n) (Refused number) ≡ cond b (Read other n) (Refused number)
-    by true e = ap (λ (x : Site). Read x n) (h (eqb-true number 0 e))
+    by : (b : Bool) → eqb number 0 ≡ b → ◌≡◌ {A = Result (Site × ℕ) Refusal} (cond b (Ok (site, n)) (Err (refusal number))) (cond b (Ok (other, n)) (Err (refusal number)))
+    by true e = ap (λ (x : Site). Ok (x, n)) (h (eqb-true number 0 e))
     by false e = refl
 
 -- where a part holds the bytes that bear on its answer, whatever follows them bears on nothing
@@ -220,7 +222,7 @@ module _ (edition years : ℕ) where
       by false y = unknown_alike y (take (bears edition years s) s ++ t) s
 
 -- a record that is read is the bytes that bear on its answer
-pub read_bears : (edition years : ℕ) (s : List ℕ) (site : Site) (n : ℕ) → read_site edition years s ≡ Read site n → bears edition years s ≡ n
+pub read_bears : (edition years : ℕ) (s : List ℕ) (site : Site) (n : ℕ) → read_site edition years s ≡ Ok (site, n) → bears edition years s ≡ n
 read_bears edition years s site n e =
     let r = reading edition years s site n e in
     fields_bear r.accepts.passes ∙ r.length_is

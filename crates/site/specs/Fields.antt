@@ -4,9 +4,8 @@
 -- are read from the map without bit 15, `field_map_in`: by `fields_keep_bits` and `fields_lack_fifteen` of BitLaws it has the bits of the
 -- record's own map, `map_in`, but for 15. `fields_read` of FieldsRead and `record_cause_exactly` of RecordCauses tie it to the reader's
 -- answer.
+use Rattle.std.specs.Prelude.{Option, None, Some}
 use Rattle.std.specs.Prelude.{◌≡◌, Bool, true, false, cond, List, [], ◌∷◌, ℕ, zero, suc, ◌+◌, ◌-◌, ◌*◌, ◌/◌, ◌%◌, ◌≤◌, ◌<◌, get_or, drop, eqb}
-use Rattle.site.specs.declared.values.Slot.{Slot}
-use Rattle.site.specs.declared.values.Slot.TheVariants.{Absent, Number}
 use Rattle.site.specs.declared.values.Site.{Site}
 use Rattle.site.specs.Rules.{inside, has_sight}
 use Rattle.site.specs.Yearly.{later_slots, yearly, later_minor}
@@ -26,7 +25,7 @@ pub data Absence : Type 0 where
 -- what a bit means: the site's slot of that name, from a lowest to a highest number; or the kind lacks it
 pub data Field : Type 0 where
   lacked : Field
-  field : (Site → Slot) → (low high : ℕ) → Absence → Field
+  field : (Site → Option ℕ) → (low high : ℕ) → Absence → Field
 
 pub data Row : Type 0 where
   bit : ℕ → Field → Row
@@ -112,7 +111,7 @@ abbrev pub lacked_bits : (edition kind : ℕ) → List ℕ
 lacked_bits edition kind = lacked_of (has_sight edition) kind
 
 -- the slots of other kinds, and of other editions, which no bit of this kind is for
-abbrev pub others_by : (sight : Bool) (kind : ℕ) → Site → List Slot
+abbrev pub others_by : (sight : Bool) (kind : ℕ) → Site → List (Option ℕ)
 others_by sight zero site = site.minor_traffic ∷ site.skew ∷ site.left_lanes ∷ site.right_lanes ∷ site.limited_sight ∷ []
 others_by sight (suc kind) site =
     site.length
@@ -130,7 +129,7 @@ others_by sight (suc kind) site =
     ∷ site.hazard_rating
     ∷ cond (eqb kind 2) (site.skew ∷ site.limited_sight ∷ []) (cond sight [] (site.limited_sight ∷ []))
 
-abbrev pub others_of : (edition kind : ℕ) → Site → List Slot
+abbrev pub others_of : (edition kind : ℕ) → Site → List (Option ℕ)
 others_of edition kind site = others_by (has_sight edition) kind site
 
 -- "a two-byte bit map (bit 0 the lowest)": a bit stands
@@ -193,12 +192,12 @@ spells_default lacked number = false
 spells_default (field value low high absence) number = is_usual absence number
 
 -- what a slot holds where its bit does not stand, on a curve or not
-abbrev pub AbsentAs : Absence → Bool → Slot → Type 0
+abbrev pub AbsentAs : Absence → Bool → Option ℕ → Type 0
 AbsentAs never curve slot = ⊥
-AbsentAs no_number curve slot = slot ≡ Absent
-AbsentAs (usual d) curve slot = slot ≡ Number d
+AbsentAs no_number curve slot = slot ≡ None
+AbsentAs (usual d) curve slot = slot ≡ Some d
 AbsentAs (on_curve absence) true slot = AbsentAs absence true slot
-AbsentAs (on_curve absence) false slot = slot ≡ Absent
+AbsentAs (on_curve absence) false slot = slot ≡ None
 
 -- a segment whose bit 6 stands is on a curve
 abbrev pub road_curves : ℕ → ℕ → Bool
@@ -206,8 +205,8 @@ road_curves zero map = bit_at 6 map
 road_curves (suc kind) map = false
 
 -- a field of a record that is read. A standing number is the slot's, in its range, and "a field may not spell its default out"
-pub record FieldRead (years : ℕ) (s : List ℕ) (site : Site) (b : ℕ) (value : Site → Slot) (low high : ℕ) (absence : Absence) : Type 0 where
-  pub standing_is : bit_at b (field_map_in s) ≡ true → value site ≡ Number (number_at years b s)
+pub record FieldRead (years : ℕ) (s : List ℕ) (site : Site) (b : ℕ) (value : Site → Option ℕ) (low high : ℕ) (absence : Absence) : Type 0 where
+  pub standing_is : bit_at b (field_map_in s) ≡ true → value site ≡ Some (number_at years b s)
   pub at_least : bit_at b (field_map_in s) ≡ true → low ≤ number_at years b s
   pub at_most : bit_at b (field_map_in s) ≡ true → number_at years b s ≤ high
   pub not_spelled : bit_at b (field_map_in s) ≡ true → is_usual absence (number_at years b s) ≡ false
@@ -220,16 +219,16 @@ BitRead years s site b (field value low high absence) = FieldRead years s site b
 
 -- "for years two to Y": the later values of the field of a bit. "Each has the range of the first", and "a site holds no number for a
 -- year not given"
-pub record LaterYears (years : ℕ) (s : List ℕ) (b later : ℕ) (slots : List Slot) : Type 0 where
-  pub value_is : (i : ℕ) → i < later → get_or slots i Absent ≡ Number (value_at years b (suc i) s)
+pub record LaterYears (years : ℕ) (s : List ℕ) (b later : ℕ) (slots : List (Option ℕ)) : Type 0 where
+  pub value_is : (i : ℕ) → i < later → get_or slots i None ≡ Some (value_at years b (suc i) s)
   pub at_least : (i : ℕ) → i < later → 1 ≤ value_at years b (suc i) s
   pub at_most : (i : ℕ) → i < later → value_at years b (suc i) s ≤ 20000
-  pub not_given : (i : ℕ) → later ≤ i → get_or slots i Absent ≡ Absent
+  pub not_given : (i : ℕ) → later ≤ i → get_or slots i None ≡ None
 
 -- none of these slots holds a number
-abbrev pub AllAbsent : List Slot → Type 0
+abbrev pub AllAbsent : List (Option ℕ) → Type 0
 AllAbsent [] = Unit
-AllAbsent (slot ∷ slots) = (slot ≡ Absent) × AllAbsent slots
+AllAbsent (slot ∷ slots) = (slot ≡ None) × AllAbsent slots
 
 -- what is read from a part: kind, every bit of the map, no number in a slot of another kind, the later years of both traffics, which
 -- the site has where bit 15 stands, and "the record's length"

@@ -1,4 +1,5 @@
 -- Laws of the later years' values: where they stand among a record's bytes, that they read and write as each other, and bit 15.
+use Rattle.std.specs.Prelude.{Option, None, Some}
 use Rattle.std.specs.Prelude.{◌≡◌, refl, Bool, true, false, cond, ◌&&◌, ℕ, zero, suc, ◌+◌, ◌*◌, ◌<◌, ◌≤◌, length, get_or, leb, eqb}
 use Rattle.std.proofs.Math.Path.{ap, sym}
 use Rattle.std.proofs.Common.{◌∙◌, true≢false, length-append, drop_of_length-le, get_or-take, get_or-drop, drop-cons, eqb-true, leb-true}
@@ -7,8 +8,6 @@ use native.Mathlib.Omega.{arith}
 use Rattle.std.proofs.Math.ListN.{take, drop, length-drop, get_or-append}
 use Rattle.std.proofs.Math.Seq.{length-take-le, take-add, take_at, drop_at, drop-drop, take-append-add}
 use Rattle.std.proofs.lemmas.List.{drop-append-le, take-append-le}
-use Rattle.site.specs.declared.values.Slot.{Slot}
-use Rattle.site.specs.declared.values.Slot.TheVariants.{Absent, Number}
 use Rattle.site.specs.Rules.{most_years, years_known, later_years, traffic, allows}
 use Rattle.site.specs.Yearly.{later_slots, later_from_slots, later_minor}
 use Rattle.site.specs.Record.{word, yearly_bit, field_map, gathered, later_read, later_allowed}
@@ -215,26 +214,26 @@ module _ (n m w : ℕ) (s a b r : List ℕ) (la : length a ≡ 2) (lb : length b
       )
 
 -- WHAT IS WRITTEN IS READ BACK: just so many years, each within the range
-pub record LaterReadBack (k n : ℕ) (slots : List Slot) (t : List ℕ) : Type 0 where
+pub record LaterReadBack (k n : ℕ) (slots : List (Option ℕ)) (t : List ℕ) : Type 0 where
   pub values : later_read k n (later_bytes slots ++ t) ≡ slots
   pub right : later_allowed n (later_bytes slots ++ t) ≡ true
   pub long : length (later_bytes slots) ≡ 2 * n
 
-pub later_read_back : (k n : ℕ) (slots : List Slot) (t : List ℕ) → length slots ≡ k → later_fits n slots ≡ true → LaterReadBack k n slots t
+pub later_read_back : (k n : ℕ) (slots : List (Option ℕ)) (t : List ℕ) → length slots ≡ k → later_fits n slots ≡ true → LaterReadBack k n slots t
 unfolding later_read later_allowed later_bytes later_fits
 later_read_back zero zero [] t l f = record { values = refl; right = refl; long = refl }
 later_read_back zero (suc n) [] t l f = absurd (omega (arith, eqb-true (suc n) 0 f))
 later_read_back (suc k) n [] t l f = absurd (omega arith)
 later_read_back zero n (slot ∷ slots) t l f = absurd (omega arith)
-later_read_back (suc k) zero (Absent ∷ slots) t l f =
+later_read_back (suc k) zero (None ∷ slots) t l f =
     let later = later_read_back k zero slots t (omega arith) (and_right true _ f) in
-    record { values = ap (λ (x : List Slot). Absent ∷ x) later.values; right = refl; long = later.long }
-later_read_back (suc k) zero (Number value ∷ slots) t l f = absurd (true≢false (sym f))
-later_read_back (suc k) (suc n) (Absent ∷ slots) t l f = absurd (true≢false (sym f))
-later_read_back (suc k) (suc n) (Number value ∷ slots) t l f =
+    record { values = ap (λ (x : List (Option ℕ)). None ∷ x) later.values; right = refl; long = later.long }
+later_read_back (suc k) zero (Some value ∷ slots) t l f = absurd (true≢false (sym f))
+later_read_back (suc k) (suc n) (None ∷ slots) t l f = absurd (true≢false (sym f))
+later_read_back (suc k) (suc n) (Some value ∷ slots) t l f =
     let later = later_read_back k n slots t (omega arith) (and_right (allows traffic value) _ f) in
     record {
-      values = rw (two_bytes_lem value) (ap (λ (x : List Slot). Number value ∷ x) later.values);
+      values = rw (two_bytes_lem value) (ap (λ (x : List (Option ℕ)). Some value ∷ x) later.values);
       right = rw (two_bytes_lem value, and_left (allows traffic value) _ f) later.right;
       long = omega (arith, later.long);
     }
@@ -263,19 +262,19 @@ later_rewritten (suc k) (suc n) s h l a =
     }
 
 -- slots taken one by one from a place are those that stand there
-unfoldable pub firsts : ℕ → ℕ → List Slot → List Slot
+unfoldable pub firsts : ℕ → ℕ → List (Option ℕ) → List (Option ℕ)
 firsts zero i slots = []
-firsts (suc n) i slots = get_or slots i Absent ∷ firsts n (suc i) slots
+firsts (suc n) i slots = get_or slots i None ∷ firsts n (suc i) slots
 
-pub firsts_drop : (n i : ℕ) (slots : List Slot) → length slots ≡ i + n → firsts n i slots ≡ drop i slots
+pub firsts_drop : (n i : ℕ) (slots : List (Option ℕ)) → length slots ≡ i + n → firsts n i slots ≡ drop i slots
 unfolding firsts
 firsts_drop zero i slots e = let h : length slots ≤ i = omega arith in sym (drop_of_length-le slots h)
 firsts_drop (suc n) i slots e =
     let h : i < length slots = omega arith in
-    ap (λ (l : List Slot). get_or slots i Absent ∷ l) (firsts_drop n (suc i) slots (omega arith)) ∙ sym (drop-cons slots i Absent h)
+    ap (λ (l : List (Option ℕ)). get_or slots i None ∷ l) (firsts_drop n (suc i) slots (omega arith)) ∙ sym (drop-cons slots i None h)
 
 -- the years of a site are the slots that they were made of
-pub later_slots_of : (slots : List Slot) → length slots ≡ later_years → later_slots (later_from_slots slots) ≡ slots
+pub later_slots_of : (slots : List (Option ℕ)) → length slots ≡ later_years → later_slots (later_from_slots slots) ≡ slots
 unfolding firsts
 later_slots_of slots e = firsts_drop later_years 0 slots (e ∙ omega arith)
 
@@ -287,7 +286,7 @@ pub record LaterAlike (k n : ℕ) (s t : List ℕ) : Type 0 where
 pub later_alike : (k n : ℕ) (s t : List ℕ) → 2 * n ≤ length s → LaterAlike k n s t
 unfolding later_read later_allowed
 later_alike zero zero s t h = record { values = refl; right = refl }
-later_alike (suc k) zero s t h = record { values = ap (λ (x : List Slot). Absent ∷ x) (later_alike k zero s t h).values; right = refl }
+later_alike (suc k) zero s t h = record { values = ap (λ (x : List (Option ℕ)). None ∷ x) (later_alike k zero s t h).values; right = refl }
 later_alike zero (suc n) s t h =
     let later = later_alike zero n (drop 2 s) t (omega (arith, length-drop 2 s)) in
     record { values = refl; right = rw (same_word s t (omega arith), drop-append-le 2 s t (omega arith), later.right) }
@@ -298,7 +297,7 @@ later_alike (suc k) (suc n) s t h =
     record { values = rw (w, d, later.values); right = rw (w, d, later.right) }
 
 -- a value by its year
-pub later_given_lem : (k n : ℕ) (s : List ℕ) → n ≤ k → (i : ℕ) → i < n → get_or (later_read k n s) i Absent ≡ Number (word (drop (2 * i) s))
+pub later_given_lem : (k n : ℕ) (s : List ℕ) → n ≤ k → (i : ℕ) → i < n → get_or (later_read k n s) i None ≡ Some (word (drop (2 * i) s))
 unfolding later_read
 later_given_lem zero n s h i l = absurd (omega arith)
 later_given_lem (suc k) zero s h i l = absurd (omega arith)
@@ -307,7 +306,7 @@ later_given_lem (suc k) (suc n) s h (suc i) l =
     let e : 2 * suc i ≡ 2 + 2 * i = omega arith in
     later_given_lem k n (drop 2 s) (omega arith) i (omega arith) ∙ rw (e, drop-drop (2 * i) 2 s) refl
 
-pub later_absent : (k n : ℕ) (s : List ℕ) (i : ℕ) → n ≤ i → get_or (later_read k n s) i Absent ≡ Absent
+pub later_absent : (k n : ℕ) (s : List ℕ) (i : ℕ) → n ≤ i → get_or (later_read k n s) i None ≡ None
 unfolding later_read
 later_absent zero n s i l = refl
 later_absent (suc k) zero s zero l = refl

@@ -5,6 +5,7 @@
 -- Everything else is a law about these; what more a law speaks of, as `Bytes` of Digits or `WrongLater` of Ranges, is defined before it.
 pub mod Rules
 pub mod Yearly
+pub mod Refusals
 pub mod Answers
 pub mod Record
 pub mod Fields

@@ -1,11 +1,10 @@
 -- A site's numbers by its kind, as the model takes them, and their ranges where the site is valid.
+use Rattle.std.specs.Prelude.{Option, None, Some}
 use Rattle.std.specs.Prelude.{ℕ, zero, suc, ◌≤◌, ◌<◌, ◌≡◌, refl, Bool, true, false, not, ◌⊎◌}
 use Rattle.std.proofs.Common.{sym, ap, inl, inr, le_trans, le_of_eq, arith, lit≤}
 use Rattle.site.specs.declared.rules.Rule.{Rule}
 use Rattle.site.specs.declared.rules.Rule.TheVariants.{Foreign, Lacking, Needed, Optional, Default}
 use Rattle.site.specs.declared.values.Site.{Site}
-use Rattle.site.specs.declared.values.Slot.{Slot}
-use Rattle.site.specs.declared.values.Slot.TheVariants.{Absent, Number}
 use Rattle.site.specs.declared.numbers.Segment.{Segment}
 use Rattle.site.specs.declared.numbers.Crossing.{Crossing}
 use Rattle.site.specs.Rules as rules
@@ -17,9 +16,9 @@ use Rattle.site.specs.Ranges.{Within, Obeys, StraightRoad, CurvedRoad, CrossingR
 use Rattle.site.specs.Ranges.{valid_kind, segment_ranges, three_leg_ranges, four_leg_ranges, signal_ranges}
 
 -- the number in a slot; a valid site has one wherever the model asks for it
-abbrev pub number : Slot → ℕ
-number Absent = 0
-number (Number n) = n
+abbrev pub number : Option ℕ → ℕ
+number None = 0
+number (Some n) = n
 
 -- a segment at a traffic
 abbrev pub segment_of : (traffic : ℕ) → Site → Segment
@@ -61,23 +60,23 @@ rule_least (Needed low high) = low
 rule_least (Optional low high) = 0
 rule_least (Default low high usual) = low
 
-within_least : {low high : ℕ} {slot : Slot} → Within low high slot → low ≤ number slot
+within_least : {low high : ℕ} {slot : Option ℕ} → Within low high slot → low ≤ number slot
 within_least {low} w = le_trans w.at_least (le_of_eq (ap number (sym w.is)))
 
-within_most : {low high : ℕ} {slot : Slot} → Within low high slot → number slot ≤ high
+within_most : {low high : ℕ} {slot : Option ℕ} → Within low high slot → number slot ≤ high
 within_most w = le_trans (le_of_eq (ap number w.is)) w.at_most
 
-absent_most : {slot : Slot} → slot ≡ Absent → number slot ≤ 0
+absent_most : {slot : Option ℕ} → slot ≡ None → number slot ≤ 0
 absent_most e = le_of_eq (ap number e)
 
-obeys_least : (rule : Rule) (slot : Slot) → Obeys rule slot → rule_least rule ≤ number slot
+obeys_least : (rule : Rule) (slot : Option ℕ) → Obeys rule slot → rule_least rule ≤ number slot
 obeys_least Foreign slot h = omega arith
 obeys_least Lacking slot h = omega arith
 obeys_least (Needed low high) slot h = within_least h
 obeys_least (Optional low high) slot h = omega arith
 obeys_least (Default low high usual) slot h = within_least h
 
-obeys_most : (rule : Rule) (slot : Slot) → Obeys rule slot → number slot ≤ top rule
+obeys_most : (rule : Rule) (slot : Option ℕ) → Obeys rule slot → number slot ≤ top rule
 obeys_most Foreign slot h = absent_most h
 obeys_most Lacking slot h = absent_most h
 obeys_most (Needed low high) slot h = within_most h
@@ -123,7 +122,7 @@ pub record CrossingSizes (v : Crossing) : Type 0 where
   pub sight_most : v.limited_sight ≤ 4
 
 -- a field that obeys its rule
-traffic_sizes : (slot : Slot) → Obeys rules.traffic slot → TrafficSizes (number slot)
+traffic_sizes : (slot : Option ℕ) → Obeys rules.traffic slot → TrafficSizes (number slot)
 traffic_sizes slot h = record { least = obeys_least rules.traffic slot h; most = obeys_most rules.traffic slot h }
 
 module _ (edition years : ℕ) (site : Site) (valid : Valid edition years site) where

@@ -1,12 +1,11 @@
 -- The ranges of a site that a record can be read as: what the rules say of each field, by kind.
+use Rattle.std.specs.Prelude.{Option, None, Some}
 use Rattle.std.specs.Prelude.{◌≡◌, refl, Bool, true, false, cond, ◌&&◌, List, [], ◌∷◌, ◌⊎◌, ◌↔◌, ℕ, zero, suc, ◌-◌, ◌≤◌, ◌<◌, get_or, ltb, leb, eqb}
 use Rattle.std.proofs.Common.{sym, true≢false, inl, inr, arith, ltb-true, ltb-false, leb-true, le-leb, eqb-true, ne_eqb}
 use Rattle.std.proofs.lemmas.Bool.{eqb-false}
 use Rattle.site.specs.declared.rules.Rule.{Rule}
 use Rattle.site.specs.declared.rules.Rule.TheVariants.{Foreign, Lacking, Needed, Optional, Default}
 use Rattle.site.specs.declared.rules.Entry.TheVariants.{OnCurve}
-use Rattle.site.specs.declared.values.Slot.{Slot}
-use Rattle.site.specs.declared.values.Slot.TheVariants.{Absent, Number}
 use Rattle.site.specs.declared.values.Site.{Site}
 use Rattle.site.specs.Rules as rules
 use Rattle.site.specs.Rules.{has_sight, entries_of, last_kind, edition_known, years_known, segment, crossing, inside, settled, settle}
@@ -15,21 +14,21 @@ use Rattle.site.specs.Writing.{slots_of, curve_held, rules_held, fits, all_fit, 
 use Rattle.laws.specs.Truth.{and_left, and_right, not_both, never_so}
 
 -- a slot holds a number from low to high
-pub record Within (low high : ℕ) (slot : Slot) : Type 0 where
+pub record Within (low high : ℕ) (slot : Option ℕ) : Type 0 where
   pub value : ℕ
-  pub is : slot ≡ Number value
+  pub is : slot ≡ Some value
   pub at_least : low ≤ value
   pub at_most : value ≤ high
 
 -- a slot obeys a rule: what it then holds
-abbrev pub Obeys : Rule → Slot → Type 0
-Obeys Foreign slot = slot ≡ Absent
-Obeys Lacking slot = slot ≡ Absent
+abbrev pub Obeys : Rule → Option ℕ → Type 0
+Obeys Foreign slot = slot ≡ None
+Obeys Lacking slot = slot ≡ None
 Obeys (Needed low high) slot = Within low high slot
-Obeys (Optional low high) slot = (slot ≡ Absent) ⊎ Within low high slot
+Obeys (Optional low high) slot = (slot ≡ None) ⊎ Within low high slot
 Obeys (Default low high usual) slot = Within low high slot
 
-within : (low high value : ℕ) → inside low high value ≡ true → Within low high (Number value)
+within : (low high value : ℕ) → inside low high value ≡ true → Within low high (Some value)
 within low high value e =
     record {
       value = value;
@@ -38,25 +37,25 @@ within low high value e =
       at_most = leb-true value high (and_right (leb low value) (leb value high) e);
     }
 
-pub fit_obeys : (rule : Rule) (slot : Slot) → fits rule slot ≡ true → Obeys rule slot
-fit_obeys Foreign Absent e = refl
-fit_obeys Foreign (Number value) e = absurd (true≢false (sym e))
-fit_obeys Lacking Absent e = refl
-fit_obeys Lacking (Number value) e = absurd (true≢false (sym e))
-fit_obeys (Needed low high) Absent e = absurd (true≢false (sym e))
-fit_obeys (Needed low high) (Number value) e = within low high value e
-fit_obeys (Optional low high) Absent e = inl refl
-fit_obeys (Optional low high) (Number value) e = inr (within low high value e)
-fit_obeys (Default low high usual) Absent e = absurd (true≢false (sym e))
-fit_obeys (Default low high usual) (Number value) e = within low high value e
+pub fit_obeys : (rule : Rule) (slot : Option ℕ) → fits rule slot ≡ true → Obeys rule slot
+fit_obeys Foreign None e = refl
+fit_obeys Foreign (Some value) e = absurd (true≢false (sym e))
+fit_obeys Lacking None e = refl
+fit_obeys Lacking (Some value) e = absurd (true≢false (sym e))
+fit_obeys (Needed low high) None e = absurd (true≢false (sym e))
+fit_obeys (Needed low high) (Some value) e = within low high value e
+fit_obeys (Optional low high) None e = inl refl
+fit_obeys (Optional low high) (Some value) e = inr (within low high value e)
+fit_obeys (Default low high usual) None e = absurd (true≢false (sym e))
+fit_obeys (Default low high usual) (Some value) e = within low high value e
 
 -- every slot by its rule
-abbrev AllObey : List Rule → List Slot → Type 0
+abbrev AllObey : List Rule → List (Option ℕ) → Type 0
 AllObey [] slots = Unit
 AllObey (rule ∷ rules) [] = Unit
 AllObey (rule ∷ rules) (slot ∷ slots) = Obeys rule slot × AllObey rules slots
 
-all_obey : (rules : List Rule) (slots : List Slot) → all_fit rules slots ≡ true → AllObey rules slots
+all_obey : (rules : List Rule) (slots : List (Option ℕ)) → all_fit rules slots ≡ true → AllObey rules slots
 unfolding all_fit
 all_obey [] slots e = tt
 all_obey (rule ∷ rules) [] e = tt
@@ -65,10 +64,10 @@ all_obey (rule ∷ rules) (slot ∷ slots) e =
 
 -- the curve of a segment: on a straight road its four slots are absent
 pub record StraightRoad (site : Site) : Type 0 where
-  pub curve_length : site.curve_length ≡ Absent
-  pub radius : site.radius ≡ Absent
-  pub spiral_ends : site.spiral_ends ≡ Absent
-  pub deficiency : site.deficiency ≡ Absent
+  pub curve_length : site.curve_length ≡ None
+  pub radius : site.radius ≡ None
+  pub spiral_ends : site.spiral_ends ≡ None
+  pub deficiency : site.deficiency ≡ None
 
 pub record CurvedRoad (site : Site) : Type 0 where
   pub curve_length : Obeys rules.curve_length site.curve_length
@@ -217,23 +216,23 @@ signal_ranges edition years site v e =
     crossing_by site Lacking (rules.turn_lanes 2) (rules.turn_lanes 2) Lacking (curve_held (entries_of edition 3) (slots_of site)) (valid_fits edition years site v 3 e)
 
 -- THE LATER YEARS of a traffic: so many hold a number in its range, and the years after them none
-pub record YearsHeld (later : ℕ) (slots : List Slot) : Type 0 where
-  pub given : (i : ℕ) → i < later → Within 1 20000 (get_or slots i Absent)
-  pub not_given : (i : ℕ) → later ≤ i → get_or slots i Absent ≡ Absent
+pub record YearsHeld (later : ℕ) (slots : List (Option ℕ)) : Type 0 where
+  pub given : (i : ℕ) → i < later → Within 1 20000 (get_or slots i None)
+  pub not_given : (i : ℕ) → later ≤ i → get_or slots i None ≡ None
 
-within_fits : (slot : Slot) → Within 1 20000 slot → fits rules.traffic slot ≡ true
+within_fits : (slot : Option ℕ) → Within 1 20000 slot → fits rules.traffic slot ≡ true
 within_fits slot w = rw (w.is, le-leb 1 w.value w.at_least, le-leb w.value 20000 w.at_most)
 
-no_within : {low high : ℕ} {slot : Slot} → Within low high slot → slot ≡ Absent → ⊥
+no_within : {low high : ℕ} {slot : Option ℕ} → Within low high slot → slot ≡ None → ⊥
 no_within w e = let is = w.is in let z : ◌≡◌ {A = ℕ} 0 1 = cc in omega arith
 
-years_held : (later : ℕ) (slots : List Slot) → later_fits later slots ≡ true → YearsHeld later slots
+years_held : (later : ℕ) (slots : List (Option ℕ)) → later_fits later slots ≡ true → YearsHeld later slots
 unfolding later_fits
 years_held later [] e = record { given = λ i h. absurd (omega (arith, eqb-true later 0 e)); not_given = λ i h. refl }
-years_held zero (Absent ∷ slots) e =
+years_held zero (None ∷ slots) e =
     let rest = years_held zero slots e in
     record { given = λ i h. absurd (omega arith); not_given = elim [ zero ↦ λ h. refl | suc i ↦ λ h. rest.not_given i (omega arith) ] }
-years_held zero (Number value ∷ slots) e = absurd (true≢false (sym e))
+years_held zero (Some value ∷ slots) e = absurd (true≢false (sym e))
 years_held (suc later) (slot ∷ slots) e =
     let rest = years_held later slots (and_right (fits rules.traffic slot) _ e) in
     record {
@@ -241,7 +240,7 @@ years_held (suc later) (slot ∷ slots) e =
       not_given = elim [ zero ↦ λ h. absurd (omega arith) | suc i ↦ λ h. rest.not_given i (omega arith) ];
     }
 
-held_years : (later : ℕ) (slots : List Slot) → YearsHeld later slots → later_fits later slots ≡ true
+held_years : (later : ℕ) (slots : List (Option ℕ)) → YearsHeld later slots → later_fits later slots ≡ true
 unfolding later_fits
 held_years zero [] h = refl
 held_years (suc later) [] h = absurd (no_within (h.given 0 (omega arith)) refl)
@@ -251,26 +250,26 @@ held_years (suc later) (slot ∷ slots) h =
     rw (within_fits slot (h.given 0 (omega arith)))
     (held_years later slots (record { given = λ i l. h.given (suc i) (omega arith); not_given = λ i l. h.not_given (suc i) (omega arith) }))
 
-pub later_fits_exactly : (later : ℕ) (slots : List Slot) → (later_fits later slots ≡ true) ↔ YearsHeld later slots
+pub later_fits_exactly : (later : ℕ) (slots : List (Option ℕ)) → (later_fits later slots ≡ true) ↔ YearsHeld later slots
 later_fits_exactly later slots = (years_held later slots, held_years later slots)
 
 -- of a site, year by year: year i + 2 of its traffic and of its minor traffic
-abbrev pub later_traffic : Site → ℕ → Slot
-later_traffic site i = get_or (later_slots site.later_traffic) i Absent
+abbrev pub later_traffic : Site → ℕ → Option ℕ
+later_traffic site i = get_or (later_slots site.later_traffic) i None
 
-abbrev pub later_minor_traffic : Site → ℕ → Slot
-later_minor_traffic site i = get_or (later_slots site.later_minor) i Absent
+abbrev pub later_minor_traffic : Site → ℕ → Option ℕ
+later_minor_traffic site i = get_or (later_slots site.later_minor) i None
 
 -- where the site has a traffic for each year, that of each year of the project is in its range, and at a crossing so is the minor
 -- traffic; nothing else holds a number: no year past the last, none where bit 15 does not stand, and no minor traffic of a segment
 pub record YearHeld (years : ℕ) (site : Site) (i : ℕ) : Type 0 where
   pub traffic_given : yearly site ≡ true → suc i < years → Within 1 20000 (later_traffic site i)
-  pub traffic_past : years ≤ suc i → later_traffic site i ≡ Absent
-  pub traffic_none : yearly site ≡ false → later_traffic site i ≡ Absent
+  pub traffic_past : years ≤ suc i → later_traffic site i ≡ None
+  pub traffic_none : yearly site ≡ false → later_traffic site i ≡ None
   pub minor_given : yearly site ≡ true → 1 ≤ site.kind → suc i < years → Within 1 20000 (later_minor_traffic site i)
-  pub minor_past : years ≤ suc i → later_minor_traffic site i ≡ Absent
-  pub minor_none : yearly site ≡ false → later_minor_traffic site i ≡ Absent
-  pub segment_none : site.kind ≡ 0 → later_minor_traffic site i ≡ Absent
+  pub minor_past : years ≤ suc i → later_minor_traffic site i ≡ None
+  pub minor_none : yearly site ≡ false → later_minor_traffic site i ≡ None
+  pub segment_none : site.kind ≡ 0 → later_minor_traffic site i ≡ None
 
 module _ (years : ℕ) (site : Site) where
   given_few : (i : ℕ) → years ≤ suc i → later_given years site ≤ i
@@ -327,18 +326,18 @@ valid_later edition years site v = let t = tests edition years site v in held_by
 -- THE SITES THAT IT REFUSES: a year is missing, or holds a number past the last year ("with Y = 1": every later year is), beside a
 -- second year that holds none, or outside the range; and so of the minor traffic, which at a segment holds none
 pub data WrongLater (years : ℕ) (site : Site) : Type 0 where
-  year_missing : yearly site ≡ true → (i : ℕ) → suc i < years → later_traffic site i ≡ Absent → WrongLater years site
-  year_past : (i value : ℕ) → years ≤ suc i → later_traffic site i ≡ Number value → WrongLater years site
-  year_alone : yearly site ≡ false → (i value : ℕ) → later_traffic site i ≡ Number value → WrongLater years site
-  year_outside : (i value : ℕ) → later_traffic site i ≡ Number value → inside 1 20000 value ≡ false → WrongLater years site
-  minor_missing : yearly site ≡ true → 1 ≤ site.kind → (i : ℕ) → suc i < years → later_minor_traffic site i ≡ Absent → WrongLater years site
-  minor_past : (i value : ℕ) → years ≤ suc i → later_minor_traffic site i ≡ Number value → WrongLater years site
-  minor_alone : yearly site ≡ false → (i value : ℕ) → later_minor_traffic site i ≡ Number value → WrongLater years site
-  minor_outside : (i value : ℕ) → later_minor_traffic site i ≡ Number value → inside 1 20000 value ≡ false → WrongLater years site
-  minor_of_segment : site.kind ≡ 0 → (i value : ℕ) → later_minor_traffic site i ≡ Number value → WrongLater years site
+  year_missing : yearly site ≡ true → (i : ℕ) → suc i < years → later_traffic site i ≡ None → WrongLater years site
+  year_past : (i value : ℕ) → years ≤ suc i → later_traffic site i ≡ Some value → WrongLater years site
+  year_alone : yearly site ≡ false → (i value : ℕ) → later_traffic site i ≡ Some value → WrongLater years site
+  year_outside : (i value : ℕ) → later_traffic site i ≡ Some value → inside 1 20000 value ≡ false → WrongLater years site
+  minor_missing : yearly site ≡ true → 1 ≤ site.kind → (i : ℕ) → suc i < years → later_minor_traffic site i ≡ None → WrongLater years site
+  minor_past : (i value : ℕ) → years ≤ suc i → later_minor_traffic site i ≡ Some value → WrongLater years site
+  minor_alone : yearly site ≡ false → (i value : ℕ) → later_minor_traffic site i ≡ Some value → WrongLater years site
+  minor_outside : (i value : ℕ) → later_minor_traffic site i ≡ Some value → inside 1 20000 value ≡ false → WrongLater years site
+  minor_of_segment : site.kind ≡ 0 → (i value : ℕ) → later_minor_traffic site i ≡ Some value → WrongLater years site
 
-module _ {slot : Slot} (value : ℕ) (is : slot ≡ Number value) where
-  no_absent : slot ≡ Absent → ⊥
+module _ {slot : Option ℕ} (value : ℕ) (is : slot ≡ Some value) where
+  no_absent : slot ≡ None → ⊥
   no_absent e = let z : ◌≡◌ {A = ℕ} 0 1 = cc in omega arith
 
   no_outside : inside 1 20000 value ≡ false → Within 1 20000 slot → ⊥
@@ -347,31 +346,31 @@ module _ {slot : Slot} (value : ℕ) (is : slot ≡ Number value) where
       not_both (inside 1 20000 value) (rw (← v, le-leb 1 w.value w.at_least, le-leb w.value 20000 w.at_most)) o
 
 -- a year that is wrong among the years of a traffic
-data WrongYear (later : ℕ) (slots : List Slot) : Type 0 where
-  missing_at : (i : ℕ) → i < later → get_or slots i Absent ≡ Absent → WrongYear later slots
-  outside_at : (i value : ℕ) → get_or slots i Absent ≡ Number value → inside 1 20000 value ≡ false → WrongYear later slots
-  past_at : (i value : ℕ) → later ≤ i → get_or slots i Absent ≡ Number value → WrongYear later slots
+data WrongYear (later : ℕ) (slots : List (Option ℕ)) : Type 0 where
+  missing_at : (i : ℕ) → i < later → get_or slots i None ≡ None → WrongYear later slots
+  outside_at : (i value : ℕ) → get_or slots i None ≡ Some value → inside 1 20000 value ≡ false → WrongYear later slots
+  past_at : (i value : ℕ) → later ≤ i → get_or slots i None ≡ Some value → WrongYear later slots
 
-one_on : {slot : Slot} {slots : List Slot} {later : ℕ} → WrongYear later slots → WrongYear (suc later) (slot ∷ slots)
+one_on : {slot : Option ℕ} {slots : List (Option ℕ)} {later : ℕ} → WrongYear later slots → WrongYear (suc later) (slot ∷ slots)
 one_on (missing_at i h e) = missing_at (suc i) (omega arith) e
 one_on (outside_at i value is o) = outside_at (suc i) value is o
 one_on (past_at i value h is) = past_at (suc i) value (omega arith) is
 
-none_on : {slot : Slot} {slots : List Slot} → WrongYear 0 slots → WrongYear 0 (slot ∷ slots)
+none_on : {slot : Option ℕ} {slots : List (Option ℕ)} → WrongYear 0 slots → WrongYear 0 (slot ∷ slots)
 none_on (missing_at i h e) = absurd (omega arith)
 none_on (outside_at i value is o) = outside_at (suc i) value is o
 none_on (past_at i value h is) = past_at (suc i) value (omega arith) is
 
-wrong_year : (later : ℕ) (slots : List Slot) → later_fits later slots ≡ false → WrongYear later slots
+wrong_year : (later : ℕ) (slots : List (Option ℕ)) → later_fits later slots ≡ false → WrongYear later slots
 unfolding later_fits
 wrong_year later [] e = missing_at 0 (omega (arith, eqb-false later 0 e)) refl
-wrong_year zero (Absent ∷ slots) e = none_on (wrong_year zero slots e)
-wrong_year zero (Number value ∷ slots) e = past_at 0 value (omega arith) refl
-wrong_year (suc later) (Absent ∷ slots) e = missing_at 0 (omega arith) refl
-wrong_year (suc later) (Number value ∷ slots) e = by (inside 1 20000 value) refl e (λ q. wrong_year later slots q)
+wrong_year zero (None ∷ slots) e = none_on (wrong_year zero slots e)
+wrong_year zero (Some value ∷ slots) e = past_at 0 value (omega arith) refl
+wrong_year (suc later) (None ∷ slots) e = missing_at 0 (omega arith) refl
+wrong_year (suc later) (Some value ∷ slots) e = by (inside 1 20000 value) refl e (λ q. wrong_year later slots q)
   where
     by : (b : Bool) → inside 1 20000 value ≡ b → (b && later_fits later slots) ≡ false → (later_fits later slots ≡ false → WrongYear later slots)
-        → WrongYear (suc later) (Number value ∷ slots)
+        → WrongYear (suc later) (Some value ∷ slots)
     by false q f rest = outside_at 0 value refl q
     by true q f rest = one_on (rest f)
 

@@ -1,12 +1,12 @@
 -- Reading: what the site reader answers for the bytes of a part, which starts at the record's kind byte.
+use Rattle.std.specs.Prelude.{Result}
+use Rattle.site.specs.declared.refusal.Refusal.{Refusal}
+use Rattle.std.specs.Prelude.{Option, None, Some}
 use Rattle.std.specs.Prelude.{ℕ, zero, suc, ◌+◌, ◌-◌, ◌*◌, ◌/◌, ◌%◌, Bool, true, false, cond, ◌&&◌, ◌||◌, not, List, [], ◌∷◌, ◌++◌, length, get_or, take, drop, ltb, eqb}
 use Rattle.site.specs.declared.rules.Rule.{Rule}
 use Rattle.site.specs.declared.rules.Entry.{Entry}
-use Rattle.site.specs.declared.values.Slot.{Slot}
-use Rattle.site.specs.declared.values.Slot.TheVariants.{Absent, Number}
 use Rattle.site.specs.declared.values.Later.{Later}
 use Rattle.site.specs.declared.values.Site.{Site}
-use Rattle.site.specs.declared.values.SiteAnswer.{SiteAnswer}
 use Rattle.site.specs.Rules.{entries_of, last_kind, edition_known, years_known, later_years, traffic, allows, absent_of, needed, lacking, bits}
 use Rattle.site.specs.Rules.{rule_of, on_curve, settle, holds}
 use Rattle.site.specs.Yearly.{later_from_slots, later_minor}
@@ -72,8 +72,8 @@ value_number rule value = cond (allows rule value) (cond (holds (absent_of rule)
 abbrev pub field_number : Rule → ℕ → List ℕ → ℕ
 field_number rule map s = cond (stands rule map) (value_number rule (word s)) 0
 
-abbrev pub field_value : Rule → ℕ → List ℕ → Slot
-field_value rule map s = cond (stands rule map) (Number (word s)) (absent_of rule)
+abbrev pub field_value : Rule → ℕ → List ℕ → Option ℕ
+field_value rule map s = cond (stands rule map) (Some (word s)) (absent_of rule)
 
 abbrev pub after : Rule → ℕ → List ℕ → List ℕ
 after rule map s = drop (2 * field_words rule map) s
@@ -84,35 +84,35 @@ fields_number [] map s = 0
 fields_number (rule ∷ rules) map s =
     cond (eqb (field_number rule map s) 0) (fields_number rules (rest_of rule map) (after rule map s)) (field_number rule map s)
 
-unfoldable pub fields_values : List Rule → ℕ → List ℕ → List Slot
+unfoldable pub fields_values : List Rule → ℕ → List ℕ → List (Option ℕ)
 fields_values [] map s = []
 fields_values (rule ∷ rules) map s = field_value rule map s ∷ fields_values rules (rest_of rule map) (after rule map s)
 
 -- a site of its kind, its slots and the later years of its traffics
-abbrev pub site_of : ℕ → List Slot → (traffic minor : Later) → Site
+abbrev pub site_of : ℕ → List (Option ℕ) → (traffic minor : Later) → Site
 site_of kind slots traffic minor =
     record {
       kind = kind;
-      traffic = get_or slots 0 Absent;
-      length = get_or slots 1 Absent;
-      minor_traffic = get_or slots 2 Absent;
-      observed = get_or slots 3 Absent;
-      lane_width = get_or slots 4 Absent;
-      shoulder_width = get_or slots 5 Absent;
-      shoulder_type = get_or slots 6 Absent;
-      curve_length = get_or slots 7 Absent;
-      radius = get_or slots 8 Absent;
-      spiral_ends = get_or slots 9 Absent;
-      deficiency = get_or slots 10 Absent;
-      grade = get_or slots 11 Absent;
-      driveways = get_or slots 12 Absent;
-      two_way_lane = get_or slots 13 Absent;
-      passing = get_or slots 14 Absent;
-      hazard_rating = get_or slots 15 Absent;
-      skew = get_or slots 16 Absent;
-      left_lanes = get_or slots 17 Absent;
-      right_lanes = get_or slots 18 Absent;
-      limited_sight = get_or slots 19 Absent;
+      traffic = get_or slots 0 None;
+      length = get_or slots 1 None;
+      minor_traffic = get_or slots 2 None;
+      observed = get_or slots 3 None;
+      lane_width = get_or slots 4 None;
+      shoulder_width = get_or slots 5 None;
+      shoulder_type = get_or slots 6 None;
+      curve_length = get_or slots 7 None;
+      radius = get_or slots 8 None;
+      spiral_ends = get_or slots 9 None;
+      deficiency = get_or slots 10 None;
+      grade = get_or slots 11 None;
+      driveways = get_or slots 12 None;
+      two_way_lane = get_or slots 13 None;
+      passing = get_or slots 14 None;
+      hazard_rating = get_or slots 15 None;
+      skew = get_or slots 16 None;
+      left_lanes = get_or slots 17 None;
+      right_lanes = get_or slots 18 None;
+      limited_sight = get_or slots 19 None;
       later_traffic = traffic;
       later_minor = minor;
     }
@@ -159,10 +159,10 @@ abbrev pub later_minor_at : (years : ℕ) → List ℕ → List ℕ
 later_minor_at years s = drop (7 + 2 * later_in years s) s
 
 -- so many values, "for years two to Y"; the years after them hold no number
-unfoldable pub later_read : (years later : ℕ) → List ℕ → List Slot
+unfoldable pub later_read : (years later : ℕ) → List ℕ → List (Option ℕ)
 later_read zero later s = []
-later_read (suc years) zero s = Absent ∷ later_read years zero s
-later_read (suc years) (suc later) s = Number (word s) ∷ later_read years later (drop 2 s)
+later_read (suc years) zero s = None ∷ later_read years zero s
+later_read (suc years) (suc later) s = Some (word s) ∷ later_read years later (drop 2 s)
 
 -- "Each has the range of the first"
 unfoldable pub later_allowed : (later : ℕ) → List ℕ → Bool
@@ -210,5 +210,5 @@ refusal_of edition years s =
     3
 
 -- what the site reader answers for a part, in a project of an edition and of so many years
-unfoldable pub read_site : (edition years : ℕ) → List ℕ → SiteAnswer
+unfoldable pub read_site : (edition years : ℕ) → List ℕ → Result (Site × ℕ) Refusal
 read_site edition years s = read_answer (refusal_of edition years s) (site_in edition years s) (length_in edition years s)

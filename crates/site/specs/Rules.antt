@@ -1,12 +1,11 @@
 -- The rules of each kind and field: document 01, "Segment bits" and "Crossing bits".
 -- Every range and every default stands here once, and once in `src/rules.rt`, proved equal.
+use Rattle.std.specs.Prelude.{Option, None, Some}
 use Rattle.std.specs.Prelude.{ℕ, Bool, true, false, cond, ◌&&◌, List, [], ◌∷◌, map, get_or, leb, eqb}
 use Rattle.site.specs.declared.rules.Rule.{Rule}
 use Rattle.site.specs.declared.rules.Rule.TheVariants.{Foreign, Lacking, Needed, Optional, Default}
 use Rattle.site.specs.declared.rules.Entry.{Entry}
 use Rattle.site.specs.declared.rules.Entry.TheVariants.{Always, OnCurve}
-use Rattle.site.specs.declared.values.Slot.{Slot}
-use Rattle.site.specs.declared.values.Slot.TheVariants.{Absent, Number}
 
 -- "traffic A in vehicles a day, 1 to 20,000"; of a crossing "major traffic A; minor traffic B (each 1 to 20,000)"
 abbrev pub traffic : Rule
@@ -191,12 +190,12 @@ allows (Optional low high) value = inside low high value
 allows (Default low high usual) value = inside low high value
 
 -- what a field that does not stand is read as: "Any other absent field has its default"
-abbrev pub absent_of : Rule → Slot
-absent_of Foreign = Absent
-absent_of Lacking = Absent
-absent_of (Needed low high) = Absent
-absent_of (Optional low high) = Absent
-absent_of (Default low high usual) = Number usual
+abbrev pub absent_of : Rule → Option ℕ
+absent_of Foreign = None
+absent_of Lacking = None
+absent_of (Needed low high) = None
+absent_of (Optional low high) = None
+absent_of (Default low high usual) = Some usual
 
 -- "needed bit absent": the field always stands
 abbrev pub needed : Rule → Bool
@@ -241,11 +240,11 @@ abbrev pub settle : Bool → List Entry → List Rule
 settle curved entries = map (settled curved) entries
 
 -- a slot that holds no number
-abbrev pub absent : Slot → Bool
-absent Absent = true
-absent (Number value) = false
+abbrev pub absent : Option ℕ → Bool
+absent None = true
+absent (Some value) = false
 
 -- a number is what the slot holds
-abbrev pub holds : Slot → ℕ → Bool
-holds Absent value = false
-holds (Number held) value = eqb value held
+abbrev pub holds : Option ℕ → ℕ → Bool
+holds None value = false
+holds (Some held) value = eqb value held

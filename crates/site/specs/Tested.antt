@@ -1,4 +1,5 @@
 -- The table of rules passes one test, which every law below rests on: a new field or kind touches the table and this.
+use Rattle.std.specs.Prelude.{None}
 use Rattle.std.specs.Prelude.{◌≡◌, refl, Bool, true, false, ◌&&◌, ◌||◌, not, List, [], ◌∷◌, ◌↔◌, ℕ, zero, suc, ◌+◌, ◌≤◌, length, get_or, leb, ltb, eqb}
 use Rattle.std.proofs.Common.{sym, ◌∙◌, true≢false, arith, eqb-true, leb-true, le-leb}
 use Rattle.std.proofs.lemmas.List.{length-map}
@@ -6,7 +7,6 @@ use Rattle.site.specs.declared.rules.Rule.{Rule}
 use Rattle.site.specs.declared.rules.Rule.TheVariants.{Foreign, Lacking, Needed, Optional, Default}
 use Rattle.site.specs.declared.rules.Entry.{Entry}
 use Rattle.site.specs.declared.rules.Entry.TheVariants.{Always, OnCurve}
-use Rattle.site.specs.declared.values.Slot.TheVariants.{Absent}
 use Rattle.site.specs.Rules.{has_sight, entries_by, entries_of, last_kind, most_years, years_known, slot_count, allows, absent_of, needed, lacking, bits}
 use Rattle.site.specs.Rules.{rule_of, on_curve, settled, settle}
 use Rattle.site.specs.Writing.{fits}
@@ -194,7 +194,7 @@ allows_top (Optional low high) value e = leb-true value high (and_right (leb low
 allows_top (Default low high usual) value e = leb-true value high (and_right (leb low value) (leb value high) e)
 
 -- a needed field has a bit and no default
-pub needed_bit : (rule : Rule) → needed rule ≡ true → (bits rule ≡ 1) × (absent_of rule ≡ Absent)
+pub needed_bit : (rule : Rule) → needed rule ≡ true → (bits rule ≡ 1) × (absent_of rule ≡ None)
 needed_bit Foreign e = absurd (true≢false (sym e))
 needed_bit Lacking e = absurd (true≢false (sym e))
 needed_bit (Needed low high) e = (refl, refl)

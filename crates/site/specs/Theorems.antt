@@ -1,6 +1,7 @@
 -- What other crates cite of the site reader and the site writer. The round trips, over the writer's own answer and buffer, are
 -- `written_reads_back` and `read_writes_back`; `past_nothing`, `same_for_any` and `one_exactly` of BytesRead say which bytes bear
 -- on an answer.
+use Rattle.std.specs.Prelude.{None}
 use Rattle.std.proofs.Math.Path.{◌≡◌, refl}
 use Rattle.std.proofs.Common.{arith, lit≤}
 use Rattle.std.specs.Prelude.{Bool, List, [], ◌∷◌, ℕ, ◌+◌, ◌≤◌, ltb}
@@ -10,7 +11,6 @@ use Rattle.std.proofs.Math.Dec.{eqb}
 use borrow.Author.Tests.{ltb-false}
 use Rattle.site.specs.declared.rules.Rule.{Rule}
 use Rattle.site.specs.declared.values.Site.{Site}
-use Rattle.site.specs.declared.values.Measure.TheVariants.{OutsideRange}
 use Rattle.site.specs.Rules.{segment, entries_by, entries_of, last_kind, edition_known, years_known, later_years, bits, settle}
 use Rattle.site.specs.Yearly.{later_minor}
 use Rattle.site.specs.Record.{curved, rest_of, words, kind_in, field_map_in, rules_in, later_in, length_in}
@@ -80,6 +80,6 @@ bears_most edition years s = by (project_known edition years) (ltb (length s) 3)
     by true false false p e =
         length_most edition years s (and_right (edition_known edition) _ p) (ltb-false last_kind (kind_in s) (or_left (ltb last_kind (kind_in s)) _ e))
 
-pub measured_outside : (edition years : ℕ) (site : Site) → measure_of edition years site ≡ OutsideRange → sound edition years site ≡ false
+pub measured_outside : (edition years : ℕ) (site : Site) → measure_of edition years site ≡ None → sound edition years site ≡ false
 unfolding measure_of
 measured_outside edition years site e = never_so (sound edition years site) (λ q. let l = rw q at e in let z : ◌≡◌ {A = ℕ} 0 1 = cc in omega arith)

@@ -1,4 +1,5 @@
 -- What is written is read back: field by field, then the curve, then the whole record.
+use Rattle.std.specs.Prelude.{Option, None, Some}
 use Rattle.std.specs.Prelude.{◌≡◌, refl, Bool, true, false, ℕ, zero, suc, ◌+◌, ◌*◌, ◌^◌, ◌<◌, ◌≤◌, eqb}
 use Rattle.std.proofs.Common.{le_refl, le_trans, lt_of_lt_of_le, pow_pos, pow-add}
 use Rattle.std.proofs.Math.Bool.{cond}
@@ -7,8 +8,6 @@ use Rattle.std.proofs.Math.Nat.{pow-le-pow_right}
 use native.Mathlib.Omega.{arith}
 use Rattle.std.proofs.Math.ListN.{length, drop, length-append}
 use Rattle.site.specs.declared.rules.Rule.{Rule}
-use Rattle.site.specs.declared.values.Slot.{Slot}
-use Rattle.site.specs.declared.values.Slot.TheVariants.{Absent, Number}
 use Rattle.site.specs.Rules.{absent_of, bits}
 use Rattle.site.specs.Rules.{holds}
 use Rattle.site.specs.Record.{lacked_bit_stands, needed_bit_absent}
@@ -17,16 +16,16 @@ use Rattle.site.specs.Writing.{slot_bit, map_of, slot_bytes, field_bytes, bytes_
 use Rattle.site.specs.Digits.{digit_low, digit_rest}
 use Rattle.site.specs.Tested.{bit_count, bits_most}
 
-pub slot_bit_most : (rule : Rule) (slot : Slot) → slot_bit rule slot ≤ bits rule
-slot_bit_most rule Absent = omega arith
-slot_bit_most rule (Number value) = by (holds (absent_of rule) value)
+pub slot_bit_most : (rule : Rule) (slot : Option ℕ) → slot_bit rule slot ≤ bits rule
+slot_bit_most rule None = omega arith
+slot_bit_most rule (Some value) = by (holds (absent_of rule) value)
   where
     by : (b : Bool) → cond b 0 (bits rule) ≤ bits rule
     by true = omega arith
     by false = le_refl (bits rule)
 
 -- a map is below 2 to its count of bits
-map_below : (rules : List Rule) (slots : List Slot) → map_of rules slots < 2 ^ bit_count rules
+map_below : (rules : List Rule) (slots : List (Option ℕ)) → map_of rules slots < 2 ^ bit_count rules
 unfolding map_of bit_count
 map_below [] slots = pow_pos 0
 map_below (rule ∷ rules) [] = pow_pos (bits rule + bit_count rules)
@@ -46,7 +45,7 @@ bits_left [] (suc i) = omega arith
 bits_left (rule ∷ rules) zero = omega arith
 bits_left (rule ∷ rules) (suc i) = omega (arith, bits_left rules i)
 
-pub map_small : (rules : List Rule) (slots : List Slot) (i : ℕ) → bit_count rules ≤ 15
+pub map_small : (rules : List Rule) (slots : List (Option ℕ)) (i : ℕ) → bit_count rules ≤ 15
     → map_of (drop i rules) (drop i slots) < 32768
 map_small rules slots i h = by (bit_count (drop i rules)) (map_below (drop i rules) (drop i slots)) (omega (arith, bits_left rules i))
   where
@@ -54,7 +53,7 @@ map_small rules slots i h = by (bit_count (drop i rules)) (map_below (drop i rul
     by n l k = let two : 0 < 2 = omega arith in lt_of_lt_of_le l (pow-le-pow_right two k)
 
 -- what one field that is written says to the reader
-pub record FieldReadBack (rule : Rule) (slot : Slot) (map : ℕ) (t : List ℕ) : Type 0 where
+pub record FieldReadBack (rule : Rule) (slot : Option ℕ) (map : ℕ) (t : List ℕ) : Type 0 where
   pub stray : lacked_bit_stands rule map ≡ false
   pub want : needed_bit_absent rule map ≡ false
   pub number : field_number rule map (field_bytes rule slot ++ t) ≡ 0
@@ -62,16 +61,16 @@ pub record FieldReadBack (rule : Rule) (slot : Slot) (map : ℕ) (t : List ℕ) 
   pub rest : after rule map (field_bytes rule slot ++ t) ≡ t
 
 -- a field that is written has two bytes for each of its words
-pub length_field : (rule : Rule) (slot : Slot) → length (field_bytes rule slot) ≡ 2 * slot_bit rule slot
-length_field rule Absent = refl
-length_field rule (Number value) = by (slot_bit rule (Number value)) (le_trans (slot_bit_most rule (Number value)) (bits_most rule))
+pub length_field : (rule : Rule) (slot : Option ℕ) → length (field_bytes rule slot) ≡ 2 * slot_bit rule slot
+length_field rule None = refl
+length_field rule (Some value) = by (slot_bit rule (Some value)) (le_trans (slot_bit_most rule (Some value)) (bits_most rule))
   where
-    by : (b : ℕ) → b ≤ 1 → length (cond (eqb b 1) (slot_bytes (Number value)) []) ≡ 2 * b
+    by : (b : ℕ) → b ≤ 1 → length (cond (eqb b 1) (slot_bytes (Some value)) []) ≡ 2 * b
     by zero h = refl
     by (suc zero) h = refl
     by (suc (suc b)) h = let z : ⊥ = omega arith in absurd z
 
-pub length_bytes : (rules : List Rule) (slots : List Slot) → length slots ≡ length rules
+pub length_bytes : (rules : List Rule) (slots : List (Option ℕ)) → length slots ≡ length rules
     → length (bytes_of rules slots) ≡ 2 * words rules (map_of rules slots)
 unfolding bytes_of words map_of
 length_bytes [] slots l = refl

@@ -1,21 +1,19 @@
 -- Writing: what the site writer answers for a site, and what it leaves in the buffer.
+use Rattle.std.specs.Prelude.{Result}
+use Rattle.site.specs.declared.refusal.Refusal.{Refusal}
+use Rattle.std.specs.Prelude.{Option, None, Some}
 use Rattle.std.specs.Prelude.{ℕ, zero, suc, ◌+◌, ◌*◌, ◌/◌, ◌%◌, ◌≡◌, Bool, true, false, cond, ◌&&◌, ◌||◌, not, List, [], ◌∷◌, ◌++◌, length, get_or, drop, leb, eqb}
 use Rattle.site.specs.declared.rules.Rule.{Rule}
 use Rattle.site.specs.declared.rules.Rule.TheVariants.{Foreign}
 use Rattle.site.specs.declared.rules.Entry.{Entry}
-use Rattle.site.specs.declared.values.Slot.{Slot}
-use Rattle.site.specs.declared.values.Slot.TheVariants.{Absent, Number}
 use Rattle.site.specs.declared.values.Site.{Site}
-use Rattle.site.specs.declared.values.Measure.{Measure}
-use Rattle.site.specs.declared.values.Measure.TheVariants.{Length, OutsideRange}
-use Rattle.site.specs.declared.values.WriteAnswer.{WriteAnswer}
 use Rattle.site.specs.Rules.{entries_of, last_kind, edition_known, years_known, traffic, allows, absent_of, needed, bits, on_curve, settle, absent, holds}
 use Rattle.site.specs.Yearly.{later_slots, yearly, later_given, later_minor}
 use Rattle.site.specs.Answers.{wrote_answer}
 use Rattle.laws.specs.Lent.{laid}
 
 -- the slots of a site, in the order of the rules
-abbrev pub slots_of : Site → List Slot
+abbrev pub slots_of : Site → List (Option ℕ)
 slots_of site =
     site.traffic
     ∷ site.length
@@ -40,30 +38,30 @@ slots_of site =
     ∷ []
 
 -- a site has a curve where a slot of the curve holds a number: with half a curve, a needed slot of it is absent
-unfoldable pub curve_held : List Entry → List Slot → Bool
+unfoldable pub curve_held : List Entry → List (Option ℕ) → Bool
 curve_held [] slots = false
 curve_held (entry ∷ entries) [] = false
 curve_held (entry ∷ entries) (slot ∷ slots) = (on_curve entry && not (absent slot)) || curve_held entries slots
 
-abbrev pub rules_held : (edition kind : ℕ) → List Slot → List Rule
+abbrev pub rules_held : (edition kind : ℕ) → List (Option ℕ) → List Rule
 rules_held edition kind slots = settle (curve_held (entries_of edition kind) slots) (entries_of edition kind)
 
 -- a slot is within its rule: a number that the rule takes, or absent where the reader can leave it so
-abbrev pub fits : Rule → Slot → Bool
-fits rule Absent = not (needed rule) && absent (absent_of rule)
-fits rule (Number value) = allows rule value
+abbrev pub fits : Rule → Option ℕ → Bool
+fits rule None = not (needed rule) && absent (absent_of rule)
+fits rule (Some value) = allows rule value
 
-unfoldable pub all_fit : List Rule → List Slot → Bool
+unfoldable pub all_fit : List Rule → List (Option ℕ) → Bool
 all_fit [] slots = true
 all_fit (rule ∷ rules) [] = false
 all_fit (rule ∷ rules) (slot ∷ slots) = fits rule slot && all_fit rules slots
 
 -- "drops defaults": the bit of a slot, 0 where it is absent or its rule's default
-abbrev pub slot_bit : Rule → Slot → ℕ
-slot_bit rule Absent = 0
-slot_bit rule (Number value) = cond (holds (absent_of rule) value) 0 (bits rule)
+abbrev pub slot_bit : Rule → Option ℕ → ℕ
+slot_bit rule None = 0
+slot_bit rule (Some value) = cond (holds (absent_of rule) value) 0 (bits rule)
 
-unfoldable pub map_of : List Rule → List Slot → ℕ
+unfoldable pub map_of : List Rule → List (Option ℕ) → ℕ
 map_of [] slots = 0
 map_of (rule ∷ rules) [] = 0
 map_of (rule ∷ rules) (slot ∷ slots) = slot_bit rule slot + (1 + bits rule) * map_of rules slots
@@ -73,36 +71,36 @@ abbrev pub two_bytes : ℕ → List ℕ
 two_bytes value = value / 256 ∷ value % 256 ∷ []
 
 -- "two bytes for each bit that stands, in rising order"
-abbrev pub slot_bytes : Slot → List ℕ
-slot_bytes Absent = []
-slot_bytes (Number value) = two_bytes value
+abbrev pub slot_bytes : Option ℕ → List ℕ
+slot_bytes None = []
+slot_bytes (Some value) = two_bytes value
 
-abbrev pub field_bytes : Rule → Slot → List ℕ
+abbrev pub field_bytes : Rule → Option ℕ → List ℕ
 field_bytes rule slot = cond (eqb (slot_bit rule slot) 1) (slot_bytes slot) []
 
-unfoldable pub bytes_of : List Rule → List Slot → List ℕ
+unfoldable pub bytes_of : List Rule → List (Option ℕ) → List ℕ
 bytes_of [] slots = []
 bytes_of (rule ∷ rules) [] = []
 bytes_of (rule ∷ rules) (slot ∷ slots) = field_bytes rule slot ++ bytes_of rules slots
 
 -- document 02, request 4: the later values, year by year
-unfoldable pub later_bytes : List Slot → List ℕ
+unfoldable pub later_bytes : List (Option ℕ) → List ℕ
 later_bytes [] = []
 later_bytes (slot ∷ slots) = slot_bytes slot ++ later_bytes slots
 
 -- "each traffic field is followed by Y − 1 more values": the fields of traffic, length and minor traffic and of all others, with the
 -- later values of traffic and of minor traffic after each
-unfoldable pub spread_bytes : List Rule → List Slot → (traffic minor : List ℕ) → List ℕ
+unfoldable pub spread_bytes : List Rule → List (Option ℕ) → (traffic minor : List ℕ) → List ℕ
 spread_bytes rules slots traffic minor =
-    field_bytes (get_or rules 0 Foreign) (get_or slots 0 Absent)
+    field_bytes (get_or rules 0 Foreign) (get_or slots 0 None)
     ++ (traffic
-    ++ (field_bytes (get_or rules 1 Foreign) (get_or slots 1 Absent)
-    ++ (field_bytes (get_or rules 2 Foreign) (get_or slots 2 Absent)
+    ++ (field_bytes (get_or rules 1 Foreign) (get_or slots 1 None)
+    ++ (field_bytes (get_or rules 2 Foreign) (get_or slots 2 None)
     ++ (minor
     ++ bytes_of (drop 3 rules) (drop 3 slots)))))
 
 -- "A record is a kind byte, a two-byte bit map, then two bytes for each bit that stands", and bit 15 where there are later values
-unfoldable pub record_by : List Rule → (kind : ℕ) → List Slot → (yearly : Bool) → (traffic minor : List Slot) → List ℕ
+unfoldable pub record_by : List Rule → (kind : ℕ) → List (Option ℕ) → (yearly : Bool) → (traffic minor : List (Option ℕ)) → List ℕ
 record_by rules kind slots yearly traffic minor =
     kind ∷ (two_bytes (map_of rules slots + cond yearly 32768 0) ++ spread_bytes rules slots (later_bytes traffic) (later_bytes minor))
 
@@ -113,7 +111,7 @@ record_of edition site =
 
 -- "The site writer counts yearly values with Y = 1, or not Y − 1 of them for each traffic field, as outside the range": the first
 -- later years have a value, within the traffic's range, and the others hold no number
-unfoldable pub later_fits : ℕ → List Slot → Bool
+unfoldable pub later_fits : ℕ → List (Option ℕ) → Bool
 later_fits later [] = eqb later 0
 later_fits zero (slot ∷ slots) = absent slot && later_fits zero slots
 later_fits (suc later) (slot ∷ slots) = fits traffic slot && later_fits later slots
@@ -138,8 +136,8 @@ pub record Valid (edition years : ℕ) (site : Site) : Type 0 where
   pub is_sound : sound edition years site ≡ true
 
 -- what a site measures: the length of its record
-unfoldable pub measure_of : (edition years : ℕ) → Site → Measure
-measure_of edition years site = cond (sound edition years site) (Length (length (record_of edition site))) OutsideRange
+unfoldable pub measure_of : (edition years : ℕ) → Site → Option ℕ
+measure_of edition years site = cond (sound edition years site) (Some (length (record_of edition site))) None
 
 -- an edition or years "outside its limits is 3 or 4 .., tried first"; then "It refuses only with 8, then 10": the writer's number where
 -- the buffer has so much room
@@ -154,7 +152,7 @@ abbrev pub measure_refusal : (edition years : ℕ) → Site → ℕ
 measure_refusal edition years site = write_refusal edition years site (length (record_of edition site))
 
 -- what the site writer answers
-unfoldable pub write_answer : (edition years : ℕ) → Site → ℕ → WriteAnswer
+unfoldable pub write_answer : (edition years : ℕ) → Site → ℕ → Result ℕ Refusal
 write_answer edition years site room = wrote_answer (write_refusal edition years site room) (length (record_of edition site))
 
 -- the buffer afterwards

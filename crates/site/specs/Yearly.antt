@@ -1,13 +1,12 @@
 -- Traffic year by year: document 02, request 4, "each traffic field is followed by Y − 1 more values, for years two to Y".
+use Rattle.std.specs.Prelude.{Option, None}
 use Rattle.std.specs.Prelude.{ℕ, ◌-◌, Bool, cond, not, List, [], ◌∷◌, get_or, eqb}
-use Rattle.site.specs.declared.values.Slot.{Slot}
-use Rattle.site.specs.declared.values.Slot.TheVariants.{Absent}
 use Rattle.site.specs.declared.values.Later.{Later}
 use Rattle.site.specs.declared.values.Site.{Site}
 use Rattle.site.specs.Rules.{absent}
 
 -- the slots of the later years, year by year, and the later years of a list of slots
-abbrev pub later_slots : Later → List Slot
+abbrev pub later_slots : Later → List (Option ℕ)
 later_slots later =
     later.second
     ∷ later.third
@@ -20,18 +19,18 @@ later_slots later =
     ∷ later.tenth
     ∷ []
 
-abbrev pub later_from_slots : List Slot → Later
+abbrev pub later_from_slots : List (Option ℕ) → Later
 later_from_slots slots =
     record {
-      second = get_or slots 0 Absent;
-      third = get_or slots 1 Absent;
-      fourth = get_or slots 2 Absent;
-      fifth = get_or slots 3 Absent;
-      sixth = get_or slots 4 Absent;
-      seventh = get_or slots 5 Absent;
-      eighth = get_or slots 6 Absent;
-      ninth = get_or slots 7 Absent;
-      tenth = get_or slots 8 Absent;
+      second = get_or slots 0 None;
+      third = get_or slots 1 None;
+      fourth = get_or slots 2 None;
+      fifth = get_or slots 3 None;
+      sixth = get_or slots 4 None;
+      seventh = get_or slots 5 None;
+      eighth = get_or slots 6 None;
+      ninth = get_or slots 7 None;
+      tenth = get_or slots 8 None;
     }
 
 -- "a site holds no number for a year not given": no later year

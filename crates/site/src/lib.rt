@@ -3,6 +3,7 @@
 #![tactic(auto)]
 
 pub mod numbers;
+pub mod refusal;
 pub mod rules;
 pub mod values;
 pub mod words;

@@ -3,17 +3,13 @@ ghost use Rattle.std.specs.Prelude.{◌≡◌};
 ghost use Rattle.site.specs.Numbers.{segment_of, crossing_of};
 ghost use Rattle.site.specs.Numbers as numbers;
 
-use crate::rules::is_absent;
 use crate::values::{Site, Slot};
 
 // The number in a slot, 0 where there is none.
 pub fn number(slot: Slot) -> u64
     ensures { result ≡ numbers.number slot }
 {
-    match slot {
-        Slot::Absent => 0,
-        Slot::Number(n) => n as u64,
-    }
+    slot.map_or(0, u64::from)
 }
 
 // The numbers that a segment's factors are made of, and whether its road has a curve.
@@ -68,7 +64,7 @@ pub fn segment_of(site: Site, traffic: u64) -> Segment
         two_way_lane: number(two_way_lane),
         passing: number(passing),
         hazard_rating: number(hazard_rating),
-        curved: !is_absent(curve_length),
+        curved: curve_length.is_some(),
     }
 }
 

@@ -185,11 +185,10 @@ pub fn does_allow(rule: Rule, value: u16) -> bool
     ensures { result ≡ allows rule value }
 {
     match rule {
-        Rule::Foreign => false,
-        Rule::Lacking => false,
-        Rule::Needed(low, high) => is_inside(low, high, value),
-        Rule::Optional(low, high) => is_inside(low, high, value),
-        Rule::Default(low, high, _) => is_inside(low, high, value),
+        Rule::Foreign | Rule::Lacking => false,
+        Rule::Needed(low, high) | Rule::Optional(low, high) | Rule::Default(low, high, _) => {
+            is_inside(low, high, value)
+        }
     }
 }
 
@@ -198,36 +197,21 @@ pub fn absent_of(rule: Rule) -> Slot
     ensures { result ≡ absent_of rule }
 {
     match rule {
-        Rule::Foreign => Slot::Absent,
-        Rule::Lacking => Slot::Absent,
-        Rule::Needed(_, _) => Slot::Absent,
-        Rule::Optional(_, _) => Slot::Absent,
-        Rule::Default(_, _, usual) => Slot::Number(usual),
+        Rule::Foreign | Rule::Lacking | Rule::Needed(_, _) | Rule::Optional(_, _) => None,
+        Rule::Default(_, _, usual) => Some(usual),
     }
 }
 
 pub fn is_needed(rule: Rule) -> bool
     ensures { result ≡ needed rule }
 {
-    match rule {
-        Rule::Foreign => false,
-        Rule::Lacking => false,
-        Rule::Needed(_, _) => true,
-        Rule::Optional(_, _) => false,
-        Rule::Default(_, _, _) => false,
-    }
+    matches!(rule, Rule::Needed(_, _))
 }
 
 pub fn is_lacking(rule: Rule) -> bool
     ensures { result ≡ lacking rule }
 {
-    match rule {
-        Rule::Foreign => false,
-        Rule::Lacking => true,
-        Rule::Needed(_, _) => false,
-        Rule::Optional(_, _) => false,
-        Rule::Default(_, _, _) => false,
-    }
+    matches!(rule, Rule::Lacking)
 }
 
 // How many bits of the map a field has: one, or none where it is foreign.
@@ -236,10 +220,7 @@ pub fn bits_of(rule: Rule) -> u16
 {
     match rule {
         Rule::Foreign => 0,
-        Rule::Lacking => 1,
-        Rule::Needed(_, _) => 1,
-        Rule::Optional(_, _) => 1,
-        Rule::Default(_, _, _) => 1,
+        _ => 1,
     }
 }
 
@@ -248,18 +229,14 @@ pub fn rule_of(entry: Entry) -> Rule
     ensures { result ≡ rule_of entry }
 {
     match entry {
-        Entry::Always(rule) => rule,
-        Entry::OnCurve(rule) => rule,
+        Entry::Always(rule) | Entry::OnCurve(rule) => rule,
     }
 }
 
 pub fn is_on_curve(entry: Entry) -> bool
     ensures { result ≡ on_curve entry }
 {
-    match entry {
-        Entry::Always(_) => false,
-        Entry::OnCurve(_) => true,
-    }
+    matches!(entry, Entry::OnCurve(_))
 }
 
 // The rule of a field on this road.
@@ -277,31 +254,5 @@ pub fn settle_rules(curved: bool, entries: [Entry; SLOTS]) -> [Rule; SLOTS]
     requires { length entries ≡ slot_count }
     ensures { result ≡ settle curved entries }
 {
-    let none = Rule::Foreign;
-    let mut rules = [none; SLOTS];
-    let mut i = 0;
-    while i < SLOTS {
-        rules[i] = settled_rule(curved, entries[i]);
-        i += 1;
-    }
-    rules
-}
-
-pub fn is_absent(slot: Slot) -> bool
-    ensures { result ≡ absent slot }
-{
-    match slot {
-        Slot::Absent => true,
-        Slot::Number(_) => false,
-    }
-}
-
-// Whether the slot holds this number.
-pub fn does_hold(slot: Slot, value: u16) -> bool
-    ensures { result ≡ holds slot value }
-{
-    match slot {
-        Slot::Absent => false,
-        Slot::Number(held) => value == held,
-    }
+    entries.map(|entry| settled_rule(curved, entry))
 }

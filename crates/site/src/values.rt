@@ -4,15 +4,11 @@ ghost use Rattle.site.specs.Yearly.{later_from_slots, later_slots, yearly, later
 ghost use Rattle.site.specs.Record.{site_of};
 ghost use Rattle.site.specs.Writing.{slots_of};
 
-use crate::rules::{LATER_YEARS, SLOTS, is_absent};
+use crate::rules::{LATER_YEARS, SLOTS};
 
 // What a field holds. An absent history, the curve of a straight road, and a field that the kind
 // lacks hold no number.
-#[derive(Clone, Copy)]
-pub enum Slot {
-    Absent,
-    Number(u16),
-}
+pub type Slot = Option<u16>;
 
 // A traffic in each year after the first; a year that is not given holds no number.
 #[derive(Clone, Copy)]
@@ -100,7 +96,7 @@ pub fn is_yearly(site: Site) -> bool
 {
     let later = site.later_traffic;
     let second = later.second;
-    !is_absent(second)
+    second.is_some()
 }
 
 // How many later values follow the minor traffic: as many as the traffic's; a segment has no minor traffic.
@@ -187,25 +183,4 @@ pub fn slots_of(site: Site) -> [Slot; SLOTS]
         right_lanes,
         limited_sight,
     ]
-}
-
-// The site and the length of its record, or document 01's number, at place 0.
-#[derive(Clone, Copy)]
-pub enum SiteAnswer {
-    Read(Site, usize),
-    Refused(u8),
-}
-
-// The length of a site's record, before any of it is written, or that the edition, the years or the site is outside its range.
-#[derive(Clone, Copy)]
-pub enum Measure {
-    Length(usize),
-    OutsideRange,
-}
-
-// The length of the record that was written, or document 01's number, at place 0.
-#[derive(Clone, Copy)]
-pub enum WriteAnswer {
-    Written(usize),
-    Unwritten(u8),
 }

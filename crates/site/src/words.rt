@@ -7,20 +7,13 @@ ghost use Rattle.site.specs.Writing.{two_bytes};
 
 use crate::rules::{Rule, SLOTS, bits_of};
 
-// A byte as a number of 16 bits.
-fn wide(byte: u8) -> u16
-    ensures { result ≡ byte }
-{
-    byte as u16
-}
-
 // The two-byte number at a place, high byte first.
 pub fn word_at(s: &[u8], at: usize) -> u16
     requires { at + 1 < length s.now }
     ensures { result ≡ word (drop at s.now) }
 {
     let low = at + 1;
-    wide(s[at]) * 256 + wide(s[low])
+    u16::from(s[at]) * 256 + u16::from(s[low])
 }
 
 // Writes a two-byte number at a place.
@@ -50,7 +43,7 @@ pub fn rest_of(rule: Rule, map: u16) -> u16
 pub fn field_words(rule: Rule, map: u16) -> usize
     ensures { (result ≡ field_words rule map) × (result ≤ 1) }
 {
-    bit_of(rule, map) as usize
+    usize::from(bit_of(rule, map))
 }
 
 // How many two-byte numbers follow the map.
@@ -60,12 +53,9 @@ pub fn count_words(rules: [Rule; SLOTS], map: u16) -> usize
 {
     let mut rest = map;
     let mut count = 0;
-    let mut i = 0;
-    while i < SLOTS {
-        let rule = rules[i];
+    for rule in rules {
         count += field_words(rule, rest);
         rest = rest_of(rule, rest);
-        i += 1;
     }
     count
 }

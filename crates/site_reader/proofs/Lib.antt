@@ -1,3 +1,4 @@
 -- What the proofs share.
+pub mod AnswerSteps
 pub mod LaterSteps
 pub mod RecordSteps

@@ -1,5 +1,5 @@
 -- What each test of a record tells, in the definition's order.
-use mathlib.Core.Path.{◌≡◌, refl, ap, sym, ◌∙◌}
+use mathlib.Core.Path.{◌≡◌, refl, sym, ◌∙◌}
 use mathlib.Core.Bool.{Bool, true, false, cond, ◌&&◌, ◌||◌}
 use mathlib.Core.List.{List}
 use Prim.Native.Nat.{ℕ, ◌+◌, ◌-◌, ◌*◌, ◌≤◌}
@@ -10,10 +10,15 @@ use Rattle.laws.specs.Truth.{passed}
 use Rattle.site.specs.declared.rules.Rule.{Rule}
 use Rattle.site.specs.Rules.{last_kind, later_years}
 use Rattle.site.specs.Yearly.{later_from_slots, later_minor}
-use Rattle.site.specs.Record.{lacks, misses, words, fields_number, fields_values, site_of, gathered, later_read, later_allowed, kind_in, field_map_in, later_in, fields_in, length_in, site_in}
-use Rattle.site.specs.Record.{rules_in, all_later_allowed, record_number}
+use Rattle.site.specs.Record.{lacks, misses, words, fields_number, fields_values, site_of, gathered, later_read, later_allowed, kind_in, field_map_in, fields_in, length_in, site_in}
+use Rattle.site.specs.Record.{rules_read, rules_in, all_later_allowed, record_number}
 use Rattle.site.specs.Answers.{read_answer}
 use Rattle.site.specs.Accepted.{Parts, words_least}
+
+-- the rules that are read by are the part's
+pub rules_are : (edition : ℕ) {kind map yearly : ℕ} {s : List ℕ} {rules : List Rule} → Parts s kind map yearly → rules ≡ rules_read edition kind map
+    → rules_in edition s ≡ rules
+rules_are edition p e = rw (p.kind_is, p.map_is) (sym e)
 
 module _ (edition years : ℕ) (s : List ℕ) (kind map yearly : ℕ) (rules : List Rule) (p : Parts s kind map yearly)
     (are : rules_in edition s ≡ rules) where
@@ -53,9 +58,6 @@ module _ (edition years : ℕ) (s : List ℕ) (kind map yearly : ℕ) (rules : L
   -- and what is told of a record that has space for them
   abbrev later : ℕ
   later = yearly * (years - 1)
-
-  later_is : later_in years s ≡ later
-  later_is = ap (λ (y : ℕ). y * (years - 1)) p.bit_is
 
   pub length_told : length_in edition years s ≡ 3 + 2 * (words rules map + (later + later_minor kind later))
   length_told = rw (are, p.map_is, p.bit_is, p.kind_is) refl

@@ -3,6 +3,7 @@
 
 ghost use Rattle.std.specs.Prelude.{◌≡◌, ◌+◌, ◌-◌, ◌*◌, ◌≤◌, ◌<◌, true, cond, ◌&&◌, length, drop, eqb};
 ghost use Rattle.site.specs.Rules.{last_kind, slot_count, later_years, years_known};
+ghost use Rattle.site.specs.Refusals.{answer_by, checked};
 ghost use Rattle.site.specs.Answers.{read_answer};
 ghost use Rattle.site.specs.Record.{stands, lacked_bit_stands, lacks, needed_bit_absent, misses, curve_bit_stands, curved, rules_read};
 ghost use Rattle.site.specs.Record.{field_words, words, value_number, field_number, field_value, fields_number, fields_values, site_of};
@@ -13,8 +14,9 @@ ghost use Rattle.site.specs.LaterLaws.{place_after};
 ghost use Rattle.site.specs.Accepted.{Parts};
 ghost use Rattle.site.specs.Promises.{ReadsSite};
 
+use site::refusal::Refusal;
 use site::rules::{Entry, LAST_KIND, LATER_YEARS, Rule, SLOTS};
-use site::values::{Later, SiteAnswer, Slot};
+use site::values::{Later, Site, Slot};
 use site::words::{bit_of, count_words, field_words, rest_of, word_at};
 use site::{rules, values};
 
@@ -27,32 +29,19 @@ fn does_stand(rule: Rule, map: u16) -> bool
 fn lacked_bit_stands(rule: Rule, map: u16) -> bool
     ensures { result ≡ lacked_bit_stands rule map }
 {
-    if rules::is_lacking(rule) {
-        does_stand(rule, map)
-    } else {
-        false
-    }
+    rules::is_lacking(rule) && does_stand(rule, map)
 }
 
-// 7 where a needed bit is absent, or the number so far.
-fn number_after(number: u8, rule: Rule, map: u16) -> u8
-    ensures { result ≡ cond (needed_bit_absent rule map) 7 number }
+fn needed_bit_absent(rule: Rule, map: u16) -> bool
+    ensures { result ≡ needed_bit_absent rule map }
 {
-    if rules::is_needed(rule) {
-        if does_stand(rule, map) { number } else { 7 }
-    } else {
-        number
-    }
+    rules::is_needed(rule) && !does_stand(rule, map)
 }
 
 fn curve_bit_stands(entry: Entry, map: u16) -> bool
     ensures { result ≡ curve_bit_stands entry map }
 {
-    if rules::is_on_curve(entry) {
-        does_stand(rules::rule_of(entry), map)
-    } else {
-        false
-    }
+    rules::is_on_curve(entry) && does_stand(rules::rule_of(entry), map)
 }
 
 // Whether a bit of the curve stands.
@@ -61,80 +50,69 @@ fn is_curved(entries: [Entry; SLOTS], map: u16) -> bool
     ensures { result ≡ curved entries map }
 {
     let mut rest = map;
-    let mut i = 0;
-    while i < SLOTS {
-        let entry = entries[i];
+    for entry in entries {
         if curve_bit_stands(entry, rest) {
             return true;
         }
         rest = rest_of(rules::rule_of(entry), rest);
-        i += 1;
     }
     false
 }
 
-// 6 where a bit stands that the kind lacks, else 7 where a needed bit is absent, or 0.
-fn map_number(rules: [Rule; SLOTS], map: u16) -> u8
+// Refuses a map with a bit that the kind lacks, else one that misses a needed bit.
+fn check_map(rules: [Rule; SLOTS], map: u16) -> Result<(), Refusal>
     requires { length rules ≡ slot_count }
-    ensures { result ≡ cond (lacks rules map) 6 (cond (misses rules map) 7 0) }
+    ensures { result ≡ checked (cond (lacks rules map) 6 (cond (misses rules map) 7 0)) }
 {
     let mut rest = map;
-    let mut number = 0;
-    let mut i = 0;
-    while i < SLOTS {
-        let rule = rules[i];
+    let mut missing = false;
+    for rule in rules {
         if lacked_bit_stands(rule, rest) {
-            return 6;
+            return Err(Refusal::BitLacked);
         }
-        number = number_after(number, rule, rest);
+        missing |= needed_bit_absent(rule, rest);
         rest = rest_of(rule, rest);
-        i += 1;
     }
-    if 0 < rest { 6 } else { number }
+    if 0 < rest {
+        return Err(Refusal::BitLacked);
+    }
+    if missing {
+        return Err(Refusal::BitMissing);
+    }
+    Ok(())
 }
 
-// 8 or 9 for a value that stands, or 0.
-fn value_number(rule: Rule, value: u16) -> u8
-    ensures { result ≡ value_number rule value }
+// Refuses a value outside its range, then a default that is spelled out.
+fn check_value(rule: Rule, value: u16) -> Result<(), Refusal>
+    ensures { result ≡ checked (value_number rule value) }
 {
-    if rules::does_allow(rule, value) {
-        if rules::does_hold(rules::absent_of(rule), value) {
-            9
-        } else {
-            0
-        }
-    } else {
-        8
+    if !rules::does_allow(rule, value) {
+        return Err(Refusal::OutsideRange);
     }
+    if rules::absent_of(rule) == Some(value) {
+        return Err(Refusal::DefaultSpelledOut);
+    }
+    Ok(())
 }
 
-fn field_number(rule: Rule, map: u16, s: &[u8], at: usize) -> u8
+// A field by its bit: its value where it stands, and else what it is read as.
+fn read_field(rule: Rule, map: u16, s: &[u8], at: usize) -> Result<Slot, Refusal>
     requires { at + 2 * field_words rule map ≤ length s.now }
-    ensures { result ≡ field_number rule map (drop at s.now) }
+    ensures { result ≡ answer_by (field_number rule map (drop at s.now)) (field_value rule map (drop at s.now)) }
 {
-    if does_stand(rule, map) {
-        value_number(rule, word_at(s, at))
-    } else {
-        0
+    if !does_stand(rule, map) {
+        return Ok(rules::absent_of(rule));
     }
-}
-
-fn field_value(rule: Rule, map: u16, s: &[u8], at: usize) -> Slot
-    requires { at + 2 * field_words rule map ≤ length s.now }
-    ensures { result ≡ field_value rule map (drop at s.now) }
-{
-    if does_stand(rule, map) {
-        Slot::Number(word_at(s, at))
-    } else {
-        rules::absent_of(rule)
-    }
+    let value = word_at(s, at);
+    check_value(rule, value)?;
+    Ok(Some(value))
 }
 
 // Bit 15 of a map, and the map of the fields without it.
 fn yearly_bit(map: u16) -> usize
     ensures { (result ≡ yearly_bit map) × (result ≤ 1) }
 {
-    if map < 32768 { 0 } else { 1 }
+    usize::from(32768 <= map)
 }
 
 fn field_map(map: u16) -> u16
@@ -148,14 +126,7 @@ fn are_later_allowed(later: usize, s: &[u8], at: usize) -> bool
     requires { at + 2 * later ≤ length s.now }
     ensures { result ≡ later_allowed later (drop at s.now) }
 {
-    let mut i = 0;
-    while i < later {
-        if !rules::does_allow(rules::TRAFFIC, word_at(s, at + 2 * i)) {
-            return false;
-        }
-        i += 1;
-    }
-    true
+    (0..later).all(|i| rules::does_allow(rules::TRAFFIC, word_at(s, at + 2 * i)))
 }
 
 // So many later years from a place on; the years after them hold no number.
@@ -163,12 +134,9 @@ fn later_at(later: usize, s: &[u8], at: usize) -> Later
     requires { (later ≤ later_years) × (at + 2 * later ≤ length s.now) }
     ensures { result ≡ later_from_slots (later_read later_years later (drop at s.now)) }
 {
-    let none = Slot::Absent;
-    let mut slots = [none; LATER_YEARS];
-    let mut i = 0;
-    while i < later {
-        slots[i] = Slot::Number(word_at(s, at + 2 * i));
-        i += 1;
+    let mut slots = [None; LATER_YEARS];
+    for i in 0..later {
+        slots[i] = Some(word_at(s, at + 2 * i));
     }
     values::later_of(slots)
 }
@@ -198,38 +166,36 @@ fn read_values(
     minor: usize,
     traffic: Later,
     minor_traffic: Later,
-) -> SiteAnswer
+) -> Result<(Site, usize), Refusal>
     requires rules_len { (length rules ≡ slot_count) × (later ≤ later_years) × (minor ≤ later_years) }
     requires minor_in_bounds { (4 + 2 * later + 2 * minor ≤ length s.now) × (2 * (words rules map + (later + minor)) ≤ length s.now) }
     ensures { result ≡ read_answer (fields_number rules map (gathered later minor s.now))
         (site_of kind (fields_values rules map (gathered later minor s.now)) traffic minor_traffic)
         (3 + 2 * (words rules map + (later + minor))) }
 {
-    let none = Slot::Absent;
-    let mut slots = [none; SLOTS];
+    let mut slots = [None; SLOTS];
     let mut rest = map;
     let mut count = 0;
-    let mut i = 0;
-    while i < SLOTS {
-        let rule = rules[i];
+    for (i, &rule) in rules.iter().enumerate() {
         let place = place_of(count, later, minor);
-        let number = field_number(rule, rest, s, place);
-        if number != 0 {
-            return SiteAnswer::Refused(number);
-        }
-        slots[i] = field_value(rule, rest, s, place);
+        slots[i] = read_field(rule, rest, s, place)?;
         count += field_words(rule, rest);
         rest = rest_of(rule, rest);
-        i += 1;
     }
-    SiteAnswer::Read(
+    Ok((
         values::site_of(kind, slots, traffic, minor_traffic),
         3 + 2 * (count + (later + minor)),
-    )
+    ))
 }
 
 // A record whose map is right and whose fields are all there: the later values are tried, then the fields one by one.
-fn read_present(kind: u8, rules: [Rule; SLOTS], map: u16, part: &[u8], later: usize) -> SiteAnswer
+fn read_present(
+    kind: u8,
+    rules: [Rule; SLOTS],
+    map: u16,
+    part: &[u8],
+    later: usize,
+) -> Result<(Site, usize), Refusal>
     requires rules_len { (length rules ≡ slot_count) × (later ≤ later_years) }
     requires later_in_bounds { (7 + 2 * later + 2 * later_minor kind later ≤ length part.now) × (3 + 2 * (words rules map + (later + later_minor kind later)) ≤ length part.now) }
     ensures { result ≡ read_answer
@@ -242,11 +208,8 @@ fn read_present(kind: u8, rules: [Rule; SLOTS], map: u16, part: &[u8], later: us
 {
     let minor = values::minor_later(kind, later);
     let behind = 7 + 2 * later;
-    if !are_later_allowed(later, part, 5) {
-        return SiteAnswer::Refused(8);
-    }
-    if !are_later_allowed(minor, part, behind) {
-        return SiteAnswer::Refused(8);
+    if !are_later_allowed(later, part, 5) || !are_later_allowed(minor, part, behind) {
+        return Err(Refusal::OutsideRange);
     }
     let traffic = later_at(later, part, 5);
     let minor_traffic = later_at(minor, part, behind);
@@ -266,7 +229,7 @@ fn read_present(kind: u8, rules: [Rule; SLOTS], map: u16, part: &[u8], later: us
 fn is_yearly_in_one(years: u64, yearly: usize) -> bool
     ensures { result ≡ (eqb yearly 1 && eqb years 1) }
 {
-    if yearly == 1 { years == 1 } else { false }
+    yearly == 1 && years == 1
 }
 
 // How many later values follow the traffic.
@@ -294,44 +257,41 @@ fn read_record(
     map: u16,
     yearly: usize,
     part: &[u8],
-) -> SiteAnswer
+) -> Result<(Site, usize), Refusal>
     requires { (years_known years ≡ true) × (yearly ≤ 1) × (kind ≤ last_kind) × Parts part.now kind map yearly }
     ensures { result ≡ read_answer (record_number edition years part.now) (site_in edition years part.now)
         (length_in edition years part.now) }
 {
     let rules = rules_read(edition, kind, map);
-    let fault = map_number(rules, map);
-    if fault != 0 {
-        return SiteAnswer::Refused(fault);
-    }
+    check_map(rules, map)?;
     if is_yearly_in_one(years, yearly) {
-        return SiteAnswer::Refused(7);
+        return Err(Refusal::BitMissing);
     }
     let later = later_in(years, yearly);
     let minor = values::minor_later(kind, later);
     if part.len() < 3 + 2 * (count_words(rules, map) + (later + minor)) {
-        return SiteAnswer::Refused(1);
+        return Err(Refusal::TooShort);
     }
     read_present(kind, rules, map, part, later)
 }
 
-// The record that a part starts with, in a project of an edition and of so many years: its site and its length, or document 01's 1
-// or 3 to 9.
-pub fn read_site(edition: u64, years: u64, part: &[u8]) -> SiteAnswer
+// The record that a part starts with, in a project of an edition and of so many years: its site and its length, or why it is
+// refused.
+pub fn read_site(edition: u64, years: u64, part: &[u8]) -> Result<(Site, usize), Refusal>
     ensures { ReadsSite edition years part.now result }
 {
     if !rules::is_edition_known(edition) {
-        return SiteAnswer::Refused(3);
+        return Err(Refusal::EditionUnknown);
     }
     if !rules::are_years_known(years) {
-        return SiteAnswer::Refused(4);
+        return Err(Refusal::OutsideLimits);
     }
     if part.len() < 3 {
-        return SiteAnswer::Refused(1);
+        return Err(Refusal::TooShort);
     }
     let kind = part[0];
     if LAST_KIND < kind {
-        return SiteAnswer::Refused(5);
+        return Err(Refusal::KindUnknown);
     }
     let whole = word_at(part, 1);
     read_record(

@@ -1,4 +1,3 @@
 -- What the proofs share.
 pub mod WriteSteps
 pub mod WriteWhole
-pub mod LaterSteps

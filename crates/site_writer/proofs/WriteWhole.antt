@@ -1,4 +1,5 @@
 -- What the writer's steps say of a site, of its record's length, and of the answer and the buffer afterwards.
+use Rattle.std.specs.Prelude.{Option, None, Some, Ok, Err}
 use mathlib.Core.Path.{◌≡◌, refl, ap, sym, ◌∙◌}
 use mathlib.Core.Bool.{Bool, true, false, cond, ◌&&◌, and-false, and-true}
 use mathlib.Core.List.{List, [], ◌∷◌, ◌++◌}
@@ -10,12 +11,9 @@ use borrow.Author.Tests.{lt-leb, le-leb}
 use lib.Seq.{sets}
 use Rattle.laws.specs.Stores.{Puts, sets_more}
 use Rattle.site.specs.declared.rules.Rule.{Rule}
-use Rattle.site.specs.declared.values.Slot.{Slot}
 use Rattle.site.specs.declared.values.Site.{Site}
-use Rattle.site.specs.declared.values.Measure.TheVariants.{Length, OutsideRange}
-use Rattle.site.specs.declared.values.WriteAnswer.TheVariants.{Written, Unwritten}
+use Rattle.site.specs.declared.refusal.Refusal.TheVariants as refused
 use Rattle.site.specs.declared.rules.Rule.TheVariants.{Foreign}
-use Rattle.site.specs.declared.values.Slot.TheVariants.{Absent}
 use Rattle.site.specs.Rules.{last_kind, edition_known, years_known, later_years, slot_count}
 use Rattle.site.specs.Yearly.{later_slots, yearly, later_given, later_minor}
 use Rattle.laws.specs.Truth.{and_left, and_right}
@@ -31,19 +29,19 @@ use Rattle.site.specs.Promises.{MeasuresSite, measures_site, WritesSite, writes_
 
 -- an edition or years outside their limits, a kind above the last, or later years that are not right are outside their range
 module _ (edition years : ℕ) (site : Site) where
-  not_measured : sound edition years site ≡ false → MeasuresSite edition years site OutsideRange
+  not_measured : sound edition years site ≡ false → MeasuresSite edition years site None
   unfolding measure_of
-  not_measured e = measures_site edition years site OutsideRange (rw e)
+  not_measured e = measures_site edition years site None (rw e)
 
-  pub edition_outside : edition_known edition ≡ false → MeasuresSite edition years site OutsideRange
+  pub edition_outside : edition_known edition ≡ false → MeasuresSite edition years site None
   unfolding sound
   edition_outside e = not_measured (rw e)
 
-  pub years_outside : years_known years ≡ false → MeasuresSite edition years site OutsideRange
+  pub years_outside : years_known years ≡ false → MeasuresSite edition years site None
   unfolding sound
   years_outside e = not_measured (rw e (and-false (edition_known edition)))
 
-  pub kind_outside : last_kind < site.kind → MeasuresSite edition years site OutsideRange
+  pub kind_outside : last_kind < site.kind → MeasuresSite edition years site None
   unfolding sound sound_site
   kind_outside h = not_measured (rw (lt-leb site.kind last_kind h) (by (edition_known edition) (years_known years)))
     where
@@ -52,7 +50,7 @@ module _ (edition years : ℕ) (site : Site) where
       by true false = refl
       by false b = refl
 
-  pub later_outside : later_sound years site ≡ false → MeasuresSite edition years site OutsideRange
+  pub later_outside : later_sound years site ≡ false → MeasuresSite edition years site None
   unfolding sound sound_site
   later_outside e =
       not_measured
@@ -66,17 +64,17 @@ module _ (edition years : ℕ) (site : Site) where
       by false b c d = refl
 
 -- of any other the slots are found, and the rules that they are held to
-pub record Found (edition : ℕ) (site : Site) (slots : List Slot) (rules : List Rule) : Type 0 where
+pub record Found (edition : ℕ) (site : Site) (slots : List (Option ℕ)) (rules : List Rule) : Type 0 where
   pub kind_known : site.kind ≤ last_kind
   pub slots_are : slots ≡ slots_of site
   pub rules_are : rules ≡ rules_held edition site.kind slots
 
-pub found : (edition : ℕ) (site : Site) (slots : List Slot) (rules : List Rule) → site.kind ≤ last_kind → slots ≡ slots_of site
+pub found : (edition : ℕ) (site : Site) (slots : List (Option ℕ)) (rules : List Rule) → site.kind ≤ last_kind → slots ≡ slots_of site
     → rules ≡ rules_held edition site.kind slots
     → Found edition site slots rules
 found edition site slots rules k s r = record { kind_known = k; slots_are = s; rules_are = r }
 
-module _ {edition : ℕ} {site : Site} {slots : List Slot} {rules : List Rule} (f : Found edition site slots rules) where
+module _ {edition : ℕ} {site : Site} {slots : List (Option ℕ)} {rules : List Rule} (f : Found edition site slots rules) where
   pub bits_few : bit_count rules ≤ 15
   bits_few = rw f.rules_are (tested_rules edition _ _ f.kind_known).few
 
@@ -129,15 +127,15 @@ module _ {edition : ℕ} {site : Site} {slots : List Slot} {rules : List Rule} (
     unfolding record_by spread_bytes
     record_long =
         let first = first_field rules slots in
-        let one = field_bytes (get_or rules 1 Foreign) (get_or slots 1 Absent) in
-        let two = field_bytes (get_or rules 2 Foreign) (get_or slots 2 Absent) in
+        let one = field_bytes (get_or rules 1 Foreign) (get_or slots 1 None) in
+        let two = field_bytes (get_or rules 2 Foreign) (get_or slots 2 None) in
         let rest = other_fields rules slots in
         omega (
           arith,
           traffic_long,
           minor_long,
           ap length (bytes_parts rules slots rules_count slots_count),
-          ap (λ (x : List Slot). length (spread_bytes (rules_held edition site.kind x) x traffic minor)) f.slots_are,
+          ap (λ (x : List (Option ℕ)). length (spread_bytes (rules_held edition site.kind x) x traffic minor)) f.slots_are,
           ap (λ (x : List Rule). length (spread_bytes x slots traffic minor)) f.rules_are,
           length-append first (second_field rules slots ++ rest),
           length-append (second_field rules slots) rest,
@@ -156,33 +154,33 @@ module _ {edition : ℕ} {site : Site} {slots : List Slot} {rules : List Rule} (
       slots_tell = rw (kept, known, f.rules_are, f.slots_are, le-leb site.kind last_kind f.kind_known, later) (and-true _)
 
       pub measured_by : measure_of edition years site
-          ≡ cond (all_fit rules slots) (Length (3 + 2 * (given + later_minor site.kind given) + length (bytes_of rules slots))) OutsideRange
+          ≡ cond (all_fit rules slots) (Some (3 + 2 * (given + later_minor site.kind given) + length (bytes_of rules slots))) None
       unfolding measure_of
       measured_by = rw (slots_tell, record_long)
 
 -- the writer's answers
 module _ (edition years : ℕ) (site : Site) (before : List ℕ) where
-  pub edition_refused : edition_known edition ≡ false → WritesSite edition years site before before (Unwritten 3)
+  pub edition_refused : edition_known edition ≡ false → WritesSite edition years site before before (Err refused.EditionUnknown)
   unfolding write_refusal write_answer write_into sound
-  edition_refused e = writes_site edition years site before before (Unwritten 3) (rw e) (rw e)
+  edition_refused e = writes_site edition years site before before (Err refused.EditionUnknown) (rw e) (rw e)
 
-  pub years_refused : edition_known edition ≡ true → years_known years ≡ false → WritesSite edition years site before before (Unwritten 4)
+  pub years_refused : edition_known edition ≡ true → years_known years ≡ false → WritesSite edition years site before before (Err refused.OutsideLimits)
   unfolding write_refusal write_answer write_into sound
-  years_refused x e = writes_site edition years site before before (Unwritten 4) (rw (x, e)) (rw (x, e))
+  years_refused x e = writes_site edition years site before before (Err refused.OutsideLimits) (rw (x, e)) (rw (x, e))
 
   pub outside : edition_known edition ≡ true → years_known years ≡ true → sound edition years site ≡ false
-      → WritesSite edition years site before before (Unwritten 8)
+      → WritesSite edition years site before before (Err refused.OutsideRange)
   unfolding write_refusal write_answer write_into sound
   outside x y e =
       let f : sound_site edition years site ≡ false = rw (x, y) at e in
-      writes_site edition years site before before (Unwritten 8) (rw (x, y, f)) (rw (x, y, f))
+      writes_site edition years site before before (Err refused.OutsideRange) (rw (x, y, f)) (rw (x, y, f))
 
-  pub room_refused : Valid edition years site → length before < length (record_of edition site) → WritesSite edition years site before before (Unwritten 10)
+  pub room_refused : Valid edition years site → length before < length (record_of edition site) → WritesSite edition years site before before (Err refused.NoSpace)
   unfolding write_answer write_into
   room_refused v h =
       let l = lt-leb (length (record_of edition site)) (length before) h in
-      writes_site edition years site before before (Unwritten 10) (rw ((ten_exactly edition years site (length before)).1 (v, h))) (rw (v.is_sound, l))
+      writes_site edition years site before before (Err refused.NoSpace) (rw ((ten_exactly edition years site (length before)).1 (v, h))) (rw (v.is_sound, l))
 
   pub all_written : Valid edition years site → length (record_of edition site) ≤ length before
-      → WritesSite edition years site before (sets before 0 (record_of edition site)) (Written (length (record_of edition site)))
+      → WritesSite edition years site before (sets before 0 (record_of edition site)) (Ok (length (record_of edition site)))
   all_written v h = writes_site edition years site before _ _ (sym (length_answered before v h)) (sym (record_written before v h))

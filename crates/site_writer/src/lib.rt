@@ -1,9 +1,8 @@
 // The writer of one site's record.
 #![tactic(auto)]
 
-ghost use Rattle.std.specs.Prelude.{◌≡◌, ◌+◌, ◌*◌, ◌≤◌, ◌<◌, length, drop, true, cond, ◌&&◌, not, ◌∷◌};
+ghost use Rattle.std.specs.Prelude.{◌≡◌, ◌+◌, ◌*◌, ◌≤◌, ◌<◌, length, drop, true, cond, ◌&&◌, not, ◌∷◌, Some, None};
 ghost use Rattle.std.proofs.lemmas.List.Edits.{sets};
-ghost use Rattle.site.specs.declared.values.Measure.TheVariants.{Length, OutsideRange};
 ghost use Rattle.site.specs.Rules.{last_kind, slot_count, later_years, years_known, traffic, bits, on_curve, absent};
 ghost use Rattle.site.specs.Yearly.{later_given};
 ghost use Rattle.laws.specs.Stores.{Puts};
@@ -12,19 +11,16 @@ ghost use Rattle.site.specs.Writing.{later_bytes, spread_bytes, record_of, later
 ghost use Rattle.site.specs.Tested.{bit_count};
 ghost use Rattle.site.specs.Promises.{MeasuresSite, WritesSite};
 
+use site::refusal::Refusal;
 use site::rules::{Entry, LAST_KIND, LATER_YEARS, Rule, SLOTS};
-use site::values::{Measure, Site, Slot, WriteAnswer};
+use site::values::{Site, Slot};
 use site::words::put_word;
 use site::{rules, values};
 
 fn is_held(entry: Entry, slot: Slot) -> bool
     ensures { result ≡ (on_curve entry && not (absent slot)) }
 {
-    if rules::is_on_curve(entry) {
-        !rules::is_absent(slot)
-    } else {
-        false
-    }
+    rules::is_on_curve(entry) && slot.is_some()
 }
 
 // Whether a slot of the curve holds a number.
@@ -32,14 +28,10 @@ fn holds_curve(entries: [Entry; SLOTS], slots: [Slot; SLOTS]) -> bool
     requires { (length entries ≡ slot_count) × (length slots ≡ slot_count) }
     ensures { result ≡ curve_held entries slots }
 {
-    let mut i = 0;
-    while i < SLOTS {
-        if is_held(entries[i], slots[i]) {
-            return true;
-        }
-        i += 1;
-    }
-    false
+    entries
+        .iter()
+        .zip(slots.iter())
+        .any(|(entry, slot)| is_held(*entry, *slot))
 }
 
 // The rules by which a site is written in an edition.
@@ -56,14 +48,8 @@ fn does_fit(rule: Rule, slot: Slot) -> bool
     ensures { result ≡ fits rule slot }
 {
     match slot {
-        Slot::Absent => {
-            if rules::is_needed(rule) {
-                false
-            } else {
-                rules::is_absent(rules::absent_of(rule))
-            }
-        }
-        Slot::Number(value) => rules::does_allow(rule, value),
+        None => !rules::is_needed(rule) && rules::absent_of(rule).is_none(),
+        Some(value) => rules::does_allow(rule, value),
     }
 }
 
@@ -72,14 +58,8 @@ fn slot_bit(rule: Rule, slot: Slot) -> u16
     ensures { result ≡ slot_bit rule slot }
 {
     match slot {
-        Slot::Absent => 0,
-        Slot::Number(value) => {
-            if rules::does_hold(rules::absent_of(rule), value) {
-                0
-            } else {
-                rules::bits_of(rule)
-            }
-        }
+        Some(value) if rules::absent_of(rule) != Some(value) => rules::bits_of(rule),
+        _ => 0,
     }
 }
 
@@ -96,9 +76,7 @@ fn map_of(rules: [Rule; SLOTS], slots: [Slot; SLOTS]) -> u16
     ensures { result ≡ map_of rules slots }
 {
     let mut map = 0;
-    let mut i = SLOTS;
-    while 0 < i {
-        i -= 1;
+    for i in (0..SLOTS).rev() {
         map = map_with(rules[i], slots[i], map);
     }
     map
@@ -110,8 +88,8 @@ fn put_slot(slot: Slot, buffer: &mut [u8], at: usize) -> usize
     ensures { Puts buffer.old at (slot_bytes slot) result buffer.new }
 {
     match slot {
-        Slot::Absent => at,
-        Slot::Number(value) => {
+        None => at,
+        Some(value) => {
             put_word(value, buffer, at);
             at + 2
         }
@@ -130,16 +108,14 @@ fn put_field(rule: Rule, slot: Slot, buffer: &mut [u8], at: usize) -> usize
     }
 }
 
-// Writes the later values of a traffic at a place, and answers the place after them.
-fn put_later(later: usize, slots: [Slot; LATER_YEARS], buffer: &mut [u8], at: usize) -> usize
-    requires { (later ≤ later_years) × (length slots ≡ later_years) × (later_fits later slots ≡ true) × (at + length (later_bytes slots) ≤ length buffer.old) }
-    ensures { Puts buffer.old at (later_bytes slots) result buffer.new }
+// Writes the later values of a traffic at a place, and answers the place after them. A year that is not given takes no bytes.
+fn put_later(slots: &[Slot], buffer: &mut [u8], at: usize) -> usize
+    requires { at + length (later_bytes slots.now) ≤ length buffer.old }
+    ensures { Puts buffer.old at (later_bytes slots.now) result buffer.new }
 {
     let mut place = at;
-    let mut i = 0;
-    while i < later {
-        place = put_slot(slots[i], buffer, place);
-        i += 1;
+    for &slot in slots {
+        place = put_slot(slot, buffer, place);
     }
     place
 }
@@ -150,10 +126,8 @@ fn put_fields(rules: [Rule; SLOTS], slots: [Slot; SLOTS], buffer: &mut [u8], at:
     ensures { Puts buffer.old at (bytes_of (drop 3 rules) (drop 3 slots)) result buffer.new }
 {
     let mut place = at;
-    let mut i = 3;
-    while i < SLOTS {
-        place = put_field(rules[i], slots[i], buffer, place);
-        i += 1;
+    for (rule, slot) in rules[3..].iter().zip(slots[3..].iter()) {
+        place = put_field(*rule, *slot, buffer, place);
     }
     place
 }
@@ -162,22 +136,18 @@ fn put_fields(rules: [Rule; SLOTS], slots: [Slot; SLOTS], buffer: &mut [u8], at:
 fn put_spread(
     rules: [Rule; SLOTS],
     slots: [Slot; SLOTS],
-    later: usize,
     traffic: [Slot; LATER_YEARS],
-    minor_later: usize,
     minor: [Slot; LATER_YEARS],
     buffer: &mut [u8],
 ) -> usize
-    requires rules_len { (length rules ≡ slot_count) × (length slots ≡ slot_count) × (later ≤ later_years) × (length traffic ≡ later_years) × (later_fits later traffic ≡ true) }
-    requires minor_later_le_later_years { (minor_later ≤ later_years) × (length minor ≡ later_years) × (later_fits minor_later minor ≡ true) }
-    requires minor_in_bounds { 3 + length (spread_bytes rules slots (later_bytes traffic) (later_bytes minor)) ≤ length buffer.old }
+    requires { (length rules ≡ slot_count) × (length slots ≡ slot_count) × (3 + length (spread_bytes rules slots (later_bytes traffic) (later_bytes minor)) ≤ length buffer.old) }
     ensures { Puts buffer.old 3 (spread_bytes rules slots (later_bytes traffic) (later_bytes minor)) result buffer.new }
 {
     let after_traffic = put_field(rules[0], slots[0], buffer, 3);
-    let after_later = put_later(later, traffic, buffer, after_traffic);
+    let after_later = put_later(&traffic, buffer, after_traffic);
     let after_length = put_field(rules[1], slots[1], buffer, after_later);
     let after_minor = put_field(rules[2], slots[2], buffer, after_length);
-    let after_later_minor = put_later(minor_later, minor, buffer, after_minor);
+    let after_later_minor = put_later(&minor, buffer, after_minor);
     put_fields(rules, slots, buffer, after_later_minor)
 }
 
@@ -189,20 +159,18 @@ fn field_length(rule: Rule, slot: Slot) -> usize
 }
 
 // The length of the record with so many bytes more for later values, where every slot is within its rule.
-fn measure_slots(rules: [Rule; SLOTS], slots: [Slot; SLOTS], more: usize) -> Measure
+fn measure_slots(rules: [Rule; SLOTS], slots: [Slot; SLOTS], more: usize) -> Option<usize>
     requires { (length rules ≡ slot_count) × (length slots ≡ slot_count) × (more ≤ 4 * later_years) }
-    ensures { result ≡ cond (all_fit rules slots) (Length (3 + more + length (bytes_of rules slots))) OutsideRange }
+    ensures { result ≡ cond (all_fit rules slots) (Some (3 + more + length (bytes_of rules slots))) None }
 {
     let mut n = 3 + more;
-    let mut i = 0;
-    while i < SLOTS {
-        if !does_fit(rules[i], slots[i]) {
-            return Measure::OutsideRange;
+    for (rule, slot) in rules.iter().zip(slots.iter()) {
+        if !does_fit(*rule, *slot) {
+            return None;
         }
-        n += field_length(rules[i], slots[i]);
-        i += 1;
+        n += field_length(*rule, *slot);
     }
-    Measure::Length(n)
+    Some(n)
 }
 
 // Whether a later year's slot is right: a traffic within its range where the year is given, and no number where it is not.
@@ -212,7 +180,7 @@ fn is_later_right(given: bool, slot: Slot) -> bool
     if given {
         does_fit(rules::TRAFFIC, slot)
     } else {
-        rules::is_absent(slot)
+        slot.is_none()
     }
 }
 
@@ -221,14 +189,10 @@ fn does_later_fit(later: usize, slots: [Slot; LATER_YEARS]) -> bool
     requires { (later ≤ later_years) × (length slots ≡ later_years) }
     ensures { result ≡ later_fits later slots }
 {
-    let mut i = 0;
-    while i < LATER_YEARS {
-        if !is_later_right(i < later, slots[i]) {
-            return false;
-        }
-        i += 1;
-    }
-    true
+    slots
+        .iter()
+        .enumerate()
+        .all(|(i, slot)| is_later_right(i < later, *slot))
 }
 
 // How many later values follow the traffic of a site.
@@ -249,33 +213,29 @@ fn is_later_sound(years: u64, site: Site) -> bool
     ensures { result ≡ later_sound years site }
 {
     let later = later_given(years, site);
-    let traffic = site.later_traffic;
-    let minor = site.later_minor;
-    if !does_later_fit(later, values::later_slots(traffic)) {
-        return false;
-    }
-    does_later_fit(
-        values::minor_later(site.kind, later),
-        values::later_slots(minor),
-    )
+    does_later_fit(later, values::later_slots(site.later_traffic))
+        && does_later_fit(
+            values::minor_later(site.kind, later),
+            values::later_slots(site.later_minor),
+        )
 }
 
 // The length of a site's record, where nothing of it is outside its range.
-pub fn measure_site(edition: u64, years: u64, site: Site) -> Measure
+pub fn measure_site(edition: u64, years: u64, site: Site) -> Option<usize>
     ensures { MeasuresSite edition years site result }
 {
     if !rules::is_edition_known(edition) {
-        return Measure::OutsideRange;
+        return None;
     }
     if !rules::are_years_known(years) {
-        return Measure::OutsideRange;
+        return None;
     }
     let kind = site.kind;
     if LAST_KIND < kind {
-        return Measure::OutsideRange;
+        return None;
     }
     if !is_later_sound(years, site) {
-        return Measure::OutsideRange;
+        return None;
     }
     let slots = values::slots_of(site);
     let later = later_given(years, site);
@@ -287,11 +247,7 @@ pub fn measure_site(edition: u64, years: u64, site: Site) -> Measure
 pub fn is_sound(edition: u64, years: u64, site: Site) -> bool
     ensures { result ≡ sound edition years site }
 {
-    let measure = measure_site(edition, years, site);
-    match measure {
-        Measure::OutsideRange => false,
-        Measure::Length(_) => true,
-    }
+    measure_site(edition, years, site).is_some()
 }
 
 // Bit 15 of a map, which stands where there are later values.
@@ -316,11 +272,8 @@ pub fn put_record(edition: u64, years: u64, site: Site, buffer: &mut [u8]) -> us
     ensures { (result ≡ length (record_of edition site)) × (buffer.new ≡ sets buffer.old 0 (record_of edition site)) }
 {
     let kind = site.kind;
-    let traffic = site.later_traffic;
-    let minor = site.later_minor;
     let slots = values::slots_of(site);
     let rules = rules_held(edition, kind, slots);
-    let later = later_given(years, site);
     put_head(
         kind,
         map_of(rules, slots) + bit_of_years(values::is_yearly(site)),
@@ -329,32 +282,26 @@ pub fn put_record(edition: u64, years: u64, site: Site, buffer: &mut [u8]) -> us
     put_spread(
         rules,
         slots,
-        later,
-        values::later_slots(traffic),
-        values::minor_later(kind, later),
-        values::later_slots(minor),
+        values::later_slots(site.later_traffic),
+        values::later_slots(site.later_minor),
         buffer,
     )
 }
 
-// Writes the record of a site from the start of the buffer: its length, or document 01's 3, 4, 8 or 10.
-pub fn write_site(edition: u64, years: u64, site: Site, buffer: &mut [u8]) -> WriteAnswer
+// Writes the record of a site from the start of the buffer, and answers its length, or the first refusal: the edition, the years, a
+// value outside its range, or a buffer that is shorter than the record, which stays as it was.
+pub fn write_site(edition: u64, years: u64, site: Site, buffer: &mut [u8]) -> Result<usize, Refusal>
     ensures { WritesSite edition years site buffer.old buffer.new result }
 {
     if !rules::is_edition_known(edition) {
-        return WriteAnswer::Unwritten(3);
+        return Err(Refusal::EditionUnknown);
     }
     if !rules::are_years_known(years) {
-        return WriteAnswer::Unwritten(4);
+        return Err(Refusal::OutsideLimits);
     }
-    let measure = measure_site(edition, years, site);
-    match measure {
-        Measure::OutsideRange => WriteAnswer::Unwritten(8),
-        Measure::Length(n) => {
-            if buffer.len() < n {
-                return WriteAnswer::Unwritten(10);
-            }
-            WriteAnswer::Written(put_record(edition, years, site, buffer))
-        }
+    let n = measure_site(edition, years, site).ok_or(Refusal::OutsideRange)?;
+    if buffer.len() < n {
+        return Err(Refusal::NoSpace);
     }
+    Ok(put_record(edition, years, site, buffer))
 }

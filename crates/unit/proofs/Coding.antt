@@ -1,4 +1,6 @@
 -- Laws of Coding in specs/.
+use Rattle.std.specs.Prelude.{Ok}
+use Rattle.std.specs.Prelude.{Option, None, Some}
 use Rattle.std.specs.Prelude.{◌≡◌, refl, true, List, [], ◌∷◌, ◌++◌, map, ℕ, zero, suc, ◌+◌, ◌<◌, ◌≤◌, length, get_or, take, drop}
 use Rattle.std.proofs.Common.{ap, sym, ◌∙◌, lt_of_not-le, length-drop, length-take-le, drop-cons, drop-drop, take-add, take_all, lt-ltb, le-ltb, ltb-true, le-leb}
 use Rattle.std.proofs.Math.Decide.{dec_lt}
@@ -7,10 +9,7 @@ use Rattle.std.proofs.lemmas.List.{length-map}
 use Rattle.std.proofs.Math.ListN.{get_or-map}
 use Rattle.std.proofs.lemmas.Bool.{lt-leb}
 use Rattle.site.specs.declared.rules.Rule.{Rule}
-use Rattle.site.specs.declared.values.Slot.{Slot}
-use Rattle.site.specs.declared.values.Slot.TheVariants.{Absent, Number}
 use Rattle.site.specs.declared.values.Site.{Site}
-use Rattle.site.specs.declared.values.SiteAnswer.TheVariants.{Read}
 use Rattle.site.specs.Rules.{entries_of, slot_count, later_years, traffic, absent}
 use Rattle.site.specs.Yearly.{later_slots}
 use Rattle.site.specs.Writing.{slots_of, curve_held, fits, all_fit, later_fits, sound, Valid}
@@ -39,11 +38,11 @@ numbers_again (number ∷ numbers) e =
     rw (code_again number small, numbers_again numbers (and_right (low (slot_from number)) _ e))
 
 -- ALL THE SLOTS of a valid site are low: those within rules that take no number above 65,534, and those of later years
-fit_low : (rule : Rule) (slot : Slot) → top_low rule ≡ true → fits rule slot ≡ true → low slot ≡ true
-fit_low rule Absent t f = refl
-fit_low rule (Number value) t f = lt-ltb value 65535 (omega (arith, ltb-true (top rule) 65535 t, allows_top rule value f))
+fit_low : (rule : Rule) (slot : Option ℕ) → top_low rule ≡ true → fits rule slot ≡ true → low slot ≡ true
+fit_low rule None t f = refl
+fit_low rule (Some value) t f = lt-ltb value 65535 (omega (arith, ltb-true (top rule) 65535 t, allows_top rule value f))
 
-fits_low : (rules : List Rule) (slots : List Slot) → all_fit rules slots ≡ true → every top_low rules ≡ true → length slots ≤ length rules
+fits_low : (rules : List Rule) (slots : List (Option ℕ)) → all_fit rules slots ≡ true → every top_low rules ≡ true → length slots ≤ length rules
     → every low slots ≡ true
 unfolding all_fit every
 fits_low rules [] f t l = refl
@@ -54,17 +53,17 @@ fits_low (rule ∷ rules) (slot ∷ slots) f t l =
       fits_low rules slots (and_right (fits rule slot) _ f) (and_right (top_low rule) _ t) (omega arith),
     )
 
-absent_low : (slot : Slot) → absent slot ≡ true → low slot ≡ true
-absent_low Absent e = refl
-absent_low (Number value) e = let z : ◌≡◌ {A = ℕ} 0 1 = cc in absurd (omega arith)
+absent_low : (slot : Option ℕ) → absent slot ≡ true → low slot ≡ true
+absent_low None e = refl
+absent_low (Some value) e = let z : ◌≡◌ {A = ℕ} 0 1 = cc in absurd (omega arith)
 
-later_low : (later : ℕ) (slots : List Slot) → later_fits later slots ≡ true → every low slots ≡ true
+later_low : (later : ℕ) (slots : List (Option ℕ)) → later_fits later slots ≡ true → every low slots ≡ true
 unfolding later_fits every
 later_low later [] e = refl
 later_low zero (slot ∷ slots) e = rw (absent_low slot (and_left _ _ e), later_low zero slots (and_right (absent slot) _ e))
 later_low (suc later) (slot ∷ slots) e = rw (fit_low traffic slot refl (and_left _ _ e), later_low later slots (and_right (fits traffic slot) _ e))
 
-every_more : (slots more : List Slot) → every low slots ≡ true → every low more ≡ true → every low (slots ++ more) ≡ true
+every_more : (slots more : List (Option ℕ)) → every low slots ≡ true → every low more ≡ true → every low (slots ++ more) ≡ true
 unfolding every
 every_more [] more e f = f
 every_more (slot ∷ slots) more e f = rw (and_left (low slot) _ e) (every_more slots more (and_right (low slot) _ e) f)
@@ -77,14 +76,14 @@ valid_low edition years site valid =
     (every_more (later_slots site.later_traffic) _ (later_low _ _ t.later_traffic) (later_low _ _ t.later_minor))
 
 -- all the slots of a site are those that it was made of
-firsts_part : (n i : ℕ) (slots : List Slot) → i + n ≤ length slots → firsts n i slots ≡ take n (drop i slots)
+firsts_part : (n i : ℕ) (slots : List (Option ℕ)) → i + n ≤ length slots → firsts n i slots ≡ take n (drop i slots)
 unfolding firsts
 firsts_part zero i slots h = refl
 firsts_part (suc n) i slots h =
     let w : i < length slots = omega arith in
-    rw (drop-cons slots i Absent w) (ap (λ (l : List Slot). get_or slots i Absent ∷ l) (firsts_part n (suc i) slots (omega arith)))
+    rw (drop-cons slots i None w) (ap (λ (l : List (Option ℕ)). get_or slots i None ∷ l) (firsts_part n (suc i) slots (omega arith)))
 
-parts_again : (a b c : ℕ) (slots : List Slot) → length slots ≡ a + (b + c)
+parts_again : (a b c : ℕ) (slots : List (Option ℕ)) → length slots ≡ a + (b + c)
     → firsts a 0 slots ++ (firsts b 0 (drop a slots) ++ firsts c 0 (drop (a + b) slots)) ≡ slots
 parts_again a b c slots e =
     rw (
@@ -97,7 +96,7 @@ parts_again a b c slots e =
     )
     (take_all (a + (b + c)) slots (omega arith))
 
-slots_of_all : (kind : ℕ) (slots : List Slot) → length slots ≡ all_count → all_slots (site_of_all kind slots) ≡ slots
+slots_of_all : (kind : ℕ) (slots : List (Option ℕ)) → length slots ≡ all_count → all_slots (site_of_all kind slots) ≡ slots
 unfolding firsts
 slots_of_all kind slots e = parts_again slot_count later_years later_years slots e
 
@@ -146,7 +145,7 @@ module _ (edition years : ℕ) (numbers : List ℕ) (within : sound edition year
           ∙ sym (get_or-map code (map slot_from (slot_numbers numbers)) i (slot_from 0))
           ∙ ap (λ (run : List ℕ). get_or run i 0) numbers_kept
 
-  pub values_again : (n : ℕ) → read_values (Read (site_from numbers) n) ≡ take site_numbers numbers ++ (n ∷ [])
+  pub values_again : (n : ℕ) → read_values (Ok ((site_from numbers), n)) ≡ take site_numbers numbers ++ (n ∷ [])
   values_again n =
       let kind : (site_from numbers).kind ≡ get_or numbers 0 0 = kind_from_lem ∙ rw (lt-ltb (get_or numbers 0 0) 256 kind_small) in
       ap (λ (k : ℕ). k ∷ (map code (all_slots (site_from numbers)) ++ (n ∷ []))) kind
@@ -158,16 +157,16 @@ module _ (edition years : ℕ) (numbers : List ℕ) (within : sound edition year
       by (number ∷ run) h = refl
 
 -- THE LAW: the code of a slot that two bytes can hold is read as that slot
-pub code_read : (slot : Slot) → ((value : ℕ) → slot ≡ Number value → value < 65536) → slot_from (code slot) ≡ slot
-code_read Absent small = refl
-code_read (Number value) small = rw (lt-ltb value 65536 (small value refl))
+pub code_read : (slot : Option ℕ) → ((value : ℕ) → slot ≡ Some value → value < 65536) → slot_from (code slot) ≡ slot
+code_read None small = refl
+code_read (Some value) small = rw (lt-ltb value 65536 (small value refl))
 
-slots_read : (slots : List Slot) → every low slots ≡ true → map slot_from (map code slots) ≡ slots
+slots_read : (slots : List (Option ℕ)) → every low slots ≡ true → map slot_from (map code slots) ≡ slots
 unfolding every
 slots_read [] e = refl
 slots_read (slot ∷ slots) e = rw (code_read slot (small slot (and_left _ _ e)), slots_read slots (and_right (low slot) _ e))
   where
-    small : (held : Slot) → low held ≡ true → (value : ℕ) → held ≡ Number value → value < 65536
+    small : (held : Option ℕ) → low held ≡ true → (value : ℕ) → held ≡ Some value → value < 65536
     small held l value q = omega (arith, ltb-true value 65535 (rw q at l))
 
 -- THE SITE THAT A RUN STARTS WITH: kind and codes of a valid site, whatever follows them, are read as that site

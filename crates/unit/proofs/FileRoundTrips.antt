@@ -1,14 +1,13 @@
 -- Laws of FileRoundTrips in specs/.
+use Rattle.std.specs.Prelude.{Ok}
 use Rattle.std.specs.Prelude.{◌≡◌, refl, ℕ, ◌≤◌, length, drop}
 use Rattle.std.proofs.Math.Path.{ap}
 use Rattle.std.proofs.Common.{◌∙◌}
 use mathlib.Core.List.{List, ◌++◌}
 use Rattle.site.specs.Digits.{Bytes}
 use Rattle.header.specs.Header.{header_in, count_in}
-use Rattle.project.specs.declared.ScanAnswer.TheVariants.{Accepted}
 use Rattle.project.specs.File.{scan_file, sites_in}
 use Rattle.project.proofs.Acceptance.{no_cause_exactly}
-use Rattle.project_writer.specs.declared.course.FileAnswer.TheVariants.{Written}
 use Rattle.project_writer.specs.ProjectFile.{file_answer, file_number, file_value, buffer_after}
 use Rattle.project_writer.proofs.Exactly.{writable_sound}
 use Rattle.project_writer.proofs.Theorems.{accepted_writable, accepted_written}
@@ -19,7 +18,7 @@ use Rattle.unit.proofs.Given.{given_again}
 use Rattle.unit.specs.FileRoundTrips.{FileWrittenBack}
 
 module _ {file run report : List ℕ} {count : ℕ} (r : ReadsProject file run report count 0) where
-  accepted : scan_file file ≡ Accepted (count_in file)
+  accepted : scan_file file ≡ Ok (count_in file)
   accepted = ((no_cause_exactly file (length run) (count_in file)).1 ((r.reported refl).no_cause, refl)).0
 
   pub read_file_written : Bytes file → {numbers before afterwards : List ℕ} {value number : ℕ} → sites_given numbers ≡ sites_in file
@@ -27,7 +26,7 @@ module _ {file run report : List ℕ} {count : ℕ} (r : ReadsProject file run r
       → FileWrittenBack file before afterwards value number
   read_file_written bytes {numbers} {before} given space w =
       let back = accepted_written file bytes (count_in file) before accepted space in
-      let answer : file_answer (header_in file) (sites_given numbers) (length before) ≡ Written (length file) = rw given back.0 in
+      let answer : file_answer (header_in file) (sites_given numbers) (length before) ≡ Ok (length file) = rw given back.0 in
       let left : buffer_after (header_in file) (sites_given numbers) before ≡ file ++ drop (length file) before = rw given back.1 in
       record {
         number_is = w.number_is ∙ ap file_number answer;

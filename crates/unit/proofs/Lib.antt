@@ -1,5 +1,6 @@
 -- What the proofs share.
 pub mod Lending
+pub mod Made
 pub mod NumberSteps
 pub mod LineSteps
 pub mod Coding

@@ -1,4 +1,6 @@
 -- What a line's four numbers that are lent say of the site's line.
+use Rattle.line.specs.declared.Line.{Line}
+use Rattle.std.specs.Prelude.{Result, Ok, Err}
 use Prim.Native.Nat.{ℕ}
 use mathlib.Core.Path.{◌≡◌, refl, ◌∙◌}
 use mathlib.Core.Bool.{Bool, true, false, cond}
@@ -13,8 +15,8 @@ use Rattle.site.specs.Writing.{sound}
 use Rattle.header.specs.declared.Header.{Header}
 use Rattle.header.specs.Header.{in_limits}
 use Rattle.model.specs.Coefficients.{coefficients_of}
-use Rattle.line.specs.declared.LineAnswer.{LineAnswer}
-use Rattle.line.specs.declared.LineAnswer.TheVariants.{Made, EditionUnknown, OutsideLimits, OutsideRange}
+use Rattle.line.specs.declared.LineRefusal.{LineRefusal}
+use Rattle.line.specs.declared.LineRefusal.TheVariants.{EditionUnknown, OutsideLimits, OutsideRange}
 use Rattle.line.specs.Line.{site_line, line_answer, line_number}
 use Rattle.line.specs.Stands.{LineStands, AnswerStands}
 use Rattle.unit.specs.Lent.{number_within, zero_lent}
@@ -24,12 +26,12 @@ use Rattle.unit.specs.LineNumbers.{line_values, line_order, LendsLine, LinesNumb
 
 module _ (header : Header) (site : Site) where
   -- an answer that stands, lent with the number 0
-  lent_stands : (before afterwards : List ℕ) (answer : LineAnswer) → AnswerStands (coefficients_of header.edition) header site answer
+  lent_stands : (before afterwards : List ℕ) (answer : Result Line LineRefusal) → AnswerStands (coefficients_of header.edition) header site answer
       → LendsLine answer before afterwards 0 → LineStands (coefficients_of header.edition) header site (line_at afterwards 0)
-  lent_stands before afterwards EditionUnknown s l = absurd (omega (arith, (zero_lent l).0))
-  lent_stands before afterwards OutsideLimits s l = absurd (omega (arith, (zero_lent l).0))
-  lent_stands before afterwards OutsideRange s l = absurd (omega (arith, (zero_lent l).0))
-  lent_stands before afterwards (Made line) s l = rw (zero_lent l).2 s
+  lent_stands before afterwards (Err EditionUnknown) s l = absurd (omega (arith, (zero_lent l).0))
+  lent_stands before afterwards (Err OutsideLimits) s l = absurd (omega (arith, (zero_lent l).0))
+  lent_stands before afterwards (Err OutsideRange) s l = absurd (omega (arith, (zero_lent l).0))
+  lent_stands before afterwards (Ok line) s l = rw (zero_lent l).2 s
 
   -- the number of an answer's call, case by case
   lent_order : (room : ℕ)
@@ -41,8 +43,8 @@ module _ (header : Header) (site : Site) where
       none : (number : ℕ) → cond (leb 0 room) number 10 ≡ number
       none number = rw (le-leb 0 room (omega arith)) refl
 
-      answer : Bool → Bool → Bool → LineAnswer
-      answer x a b = cond x (cond a (cond b (Made (site_line (coefficients_of header.edition) header site)) OutsideRange) OutsideLimits) EditionUnknown
+      answer : Bool → Bool → Bool → Result Line LineRefusal
+      answer x a b = cond x (cond a (cond b (Ok (site_line (coefficients_of header.edition) header site)) (Err OutsideRange)) (Err OutsideLimits)) (Err EditionUnknown)
 
       by : (x a b : Bool) → number_within (line_number (answer x a b)) (line_values (answer x a b)) room
           ≡ cond x (cond a (cond b (cond (leb 4 room) 0 10) 8) 4) 3
@@ -51,7 +53,7 @@ module _ (header : Header) (site : Site) where
       by true false b = none 4
       by false a b = none 3
 
-pub lined : (header : Header) (numbers before afterwards : List ℕ) (number : ℕ) (site : Site) → site ≡ site_from numbers → (answer : LineAnswer)
+pub lined : (header : Header) (numbers before afterwards : List ℕ) (number : ℕ) (site : Site) → site ≡ site_from numbers → (answer : Result Line LineRefusal)
     → answer ≡ line_answer (coefficients_of header.edition) header site → AnswerStands (coefficients_of header.edition) header site answer
     → LendsLine answer before afterwards number
     → LinesNumbers header numbers before afterwards number

@@ -1,11 +1,12 @@
 -- A project file written from a lent run of numbers, 39 a site; the number that the call answers, and the count or index beside it.
+use Rattle.std.specs.Prelude.{Result, Ok, Err}
 use Rattle.std.specs.Prelude.{ℕ, zero, suc, ◌*◌, ◌≡◌, List, [], ◌∷◌, length, drop}
 use Rattle.std.proofs.Common.{ap, sym, ◌∙◌, arith}
 use Rattle.laws.specs.Quotient.{quotient_up}
 use Rattle.site.specs.declared.values.Site.{Site}
 use Rattle.header.specs.declared.Header.{Header}
-use Rattle.project_writer.specs.declared.course.FileAnswer.{FileAnswer}
-use Rattle.project_writer.specs.declared.course.FileAnswer.TheVariants.{Written, EditionUnknown, OutsideLimits, OutsideRange, TooShort}
+use Rattle.project_writer.specs.declared.course.FileRefusal.{FileRefusal}
+use Rattle.project_writer.specs.declared.course.FileRefusal.TheVariants.{EditionUnknown, OutsideLimits, OutsideRange, TooShort}
 use Rattle.project_writer.specs.ProjectFile.{file_answer, file_number, file_value, buffer_after}
 use Rattle.project_writer.specs.Causes.{FileCause}
 use Rattle.project_writer.specs.Promise.{WritesProject}
@@ -33,21 +34,21 @@ pub record WritesFile (header : Header) (numbers before afterwards : List ℕ) (
   pub cause : FileCause header (sites_given numbers) (length before) number value
 
 module _ {header : Header} {numbers before afterwards : List ℕ} where
-  pub filed : (answer : FileAnswer) → WritesProject header (sites_given numbers) before afterwards answer
-      → (same : FileAnswer) → answer ≡ same → WritesFile header numbers before afterwards (file_value same) (file_number same)
+  pub filed : (answer : Result ℕ FileRefusal) → WritesProject header (sites_given numbers) before afterwards answer
+      → (same : Result ℕ FileRefusal) → answer ≡ same → WritesFile header numbers before afterwards (file_value same) (file_number same)
   filed answer w same e =
       let q : same ≡ file_answer header (sites_given numbers) (length before) = sym e ∙ w.answer_is in
       record { number_is = ap file_number q; value_is = ap file_value q; buffer_is = w.buffer_is; cause = rw e at w.cause }
 
   -- the answer of a call that answers 0
-  pub zero_filed : {n : ℕ} → WritesFile header numbers before afterwards n 0 → WritesProject header (sites_given numbers) before afterwards (Written n)
+  pub zero_filed : {n : ℕ} → WritesFile header numbers before afterwards n 0 → WritesProject header (sites_given numbers) before afterwards (Ok n)
   zero_filed {n} w =
-      writes_project header (sites_given numbers) before afterwards (Written n)
+      writes_project header (sites_given numbers) before afterwards (Ok n)
       (by (file_answer header (sites_given numbers) (length before)) w.number_is w.value_is) w.buffer_is
     where
-      by : (answer : FileAnswer) → 0 ≡ file_number answer → n ≡ file_value answer → Written n ≡ answer
-      by (Written m) e v = ap Written v
-      by EditionUnknown e v = absurd (omega arith)
-      by OutsideLimits e v = absurd (omega arith)
-      by (OutsideRange index) e v = absurd (omega arith)
-      by TooShort e v = absurd (omega arith)
+      by : (answer : Result ℕ FileRefusal) → 0 ≡ file_number answer → n ≡ file_value answer → Ok n ≡ answer
+      by (Ok m) e v = ap Ok v
+      by (Err EditionUnknown) e v = absurd (omega arith)
+      by (Err OutsideLimits) e v = absurd (omega arith)
+      by (Err (OutsideRange index)) e v = absurd (omega arith)
+      by (Err TooShort) e v = absurd (omega arith)

@@ -1,5 +1,6 @@
 -- BOTH ROUND TRIPS of a whole project: what the writer leaves is reported with the same sites in the same order, and an accepted file
 -- is written again as it was; of the functions, and of the exported calls.
+use Rattle.std.specs.Prelude.{Ok}
 use Rattle.std.specs.Prelude.{◌≡◌, ℕ, ◌≤◌, length, take, drop}
 use Rattle.std.proofs.Math.Path.{ap}
 use Rattle.std.proofs.Common.{sym, ◌∙◌}
@@ -14,9 +15,7 @@ use Rattle.line.specs.declared.Line.{Line}
 use Rattle.line.specs.Line.{site_line}
 use Rattle.project.specs.File.{sites_in}
 use Rattle.project.specs.Causes.{report_length}
-use Rattle.report.specs.declared.ProjectAnswer.TheVariants.{Reported}
 use Rattle.report.specs.Report.{project_answer, answer_number, answer_value, report_numbers, lines_in, report_after}
-use Rattle.project_writer.specs.declared.course.FileAnswer.TheVariants.{Written}
 use Rattle.project_writer.specs.Promise.{WritesProject}
 use Rattle.project_writer.proofs.Theorems.{buffer_accepted}
 use Rattle.unit.specs.ProjectNumbers.{ReadsProject}
@@ -28,13 +27,13 @@ lines_of header sites = map (site_line (coefficients_of header.edition) header) 
 
 -- WHAT IS WRITTEN IS REPORTED: "accepted by the reader, where its report has space, with the same sites in the same order"
 pub record ReportedBack (header : Header) (sites : List Site) (bytes : List ℕ) (room : ℕ) : Type 0 where
-  pub answer_is : project_answer bytes room ≡ Reported (report_length (length sites))
+  pub answer_is : project_answer bytes room ≡ Ok (report_length (length sites))
   pub header_is : header_in bytes ≡ header
   pub sites_are : sites_in bytes ≡ sites
   pub lines_are : lines_in bytes ≡ lines_of header sites
 
 module _ {header : Header} {sites : List Site} {before afterwards : List ℕ} {n : ℕ} where
-  pub written_reported : WritesProject header sites before afterwards (Written n) → (room : ℕ) → report_length (length sites) ≤ room
+  pub written_reported : WritesProject header sites before afterwards (Ok n) → (room : ℕ) → report_length (length sites) ≤ room
       → ReportedBack header sites (take n afterwards) room
   unfolding project_answer
   written_reported w room space =

@@ -1,12 +1,12 @@
 -- Values left in a lent run of numbers, a bracket's among them, and the number that the call answers. Standing and width of the
 -- answers that the exported calls name are laws of their crates: `power_answer_stands`, `logarithm_answer_stands`,
 -- `exponential_stands` and `exponential_negative_stands`.
+use Rattle.bracket.specs.declared.Bracket.{Bracket}
+use Rattle.std.specs.Prelude.{Option, None, Some}
 use Rattle.std.specs.Prelude.{ℕ, ◌≤◌, ◌≡◌, refl, cond, List, [], ◌∷◌, length, leb}
 use Rattle.std.proofs.Common.{sym, ◌∙◌, arith, leb-true}
 use Rattle.laws.specs.Lent.{laid, laid_over}
 use Rattle.laws.specs.Truth.{chosen}
-use Rattle.bracket.specs.declared.BracketAnswer.{BracketAnswer}
-use Rattle.bracket.specs.declared.BracketAnswer.TheVariants.{Between, OutOfRange}
 
 -- the number of a call that leaves an answer's values: the answer's own, and 10 where they do not fit, tried last. A refusal has
 -- no values
@@ -26,15 +26,15 @@ zero_lent {number} {values} {before} l =
     (held.1, leb-true _ _ held.0, l.run_is ∙ rw held.0 refl)
 
 -- the two fractions, low before high, each its numerator before its denominator
-abbrev pub bracket_values : BracketAnswer → List ℕ
-bracket_values OutOfRange = []
-bracket_values (Between b) = b.low_num ∷ b.low_den ∷ b.high_num ∷ b.high_den ∷ []
+abbrev pub bracket_values : Option Bracket → List ℕ
+bracket_values None = []
+bracket_values (Some b) = b.low_num ∷ b.low_den ∷ b.high_num ∷ b.high_den ∷ []
 
 -- "an argument outside the range stated for such a bracket is answered as that": 8
-abbrev pub bracket_number : BracketAnswer → ℕ
-bracket_number OutOfRange = 8
-bracket_number (Between b) = 0
+abbrev pub bracket_number : Option Bracket → ℕ
+bracket_number None = 8
+bracket_number (Some b) = 0
 
 -- the answer of a bracket lent
-abbrev pub Lends : (answer : BracketAnswer) (before afterwards : List ℕ) (number : ℕ) → Type 0
+abbrev pub Lends : (answer : Option Bracket) (before afterwards : List ℕ) (number : ℕ) → Type 0
 Lends answer before afterwards number = LendsValues (bracket_number answer) (bracket_values answer) before afterwards number

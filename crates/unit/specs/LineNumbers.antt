@@ -1,4 +1,6 @@
 -- A site's line left in a lent run of numbers, and the number that the call answers.
+use Rattle.line.specs.declared.Line.{Line}
+use Rattle.std.specs.Prelude.{Result, Ok, Err}
 use Rattle.std.specs.Prelude.{ℕ, ◌≡◌, cond, List, [], length, leb}
 use Rattle.site.specs.declared.values.Site.{Site}
 use Rattle.site.specs.Rules.{edition_known}
@@ -6,8 +8,8 @@ use Rattle.site.specs.Writing.{sound}
 use Rattle.header.specs.declared.Header.{Header}
 use Rattle.header.specs.Header.{in_limits}
 use Rattle.model.specs.Coefficients.{coefficients_of}
-use Rattle.line.specs.declared.LineAnswer.{LineAnswer}
-use Rattle.line.specs.declared.LineAnswer.TheVariants.{Made, EditionUnknown, OutsideLimits, OutsideRange}
+use Rattle.line.specs.declared.LineRefusal.{LineRefusal}
+use Rattle.line.specs.declared.LineRefusal.TheVariants.{EditionUnknown, OutsideLimits, OutsideRange}
 use Rattle.line.specs.Line.{line_answer, line_number}
 use Rattle.line.specs.Stands.{LineStands}
 use Rattle.report.specs.Report.{numbers_of}
@@ -16,14 +18,14 @@ use Rattle.unit.specs.Lent.{LendsValues}
 use Rattle.unit.specs.SiteNumbers.{site_from}
 
 -- the values of an answer: "predicted low, predicted high, expected low, expected high"; a refusal has none
-abbrev pub line_values : LineAnswer → List ℕ
-line_values (Made line) = numbers_of line
-line_values EditionUnknown = []
-line_values OutsideLimits = []
-line_values OutsideRange = []
+abbrev pub line_values : Result Line LineRefusal → List ℕ
+line_values (Ok line) = numbers_of line
+line_values (Err EditionUnknown) = []
+line_values (Err OutsideLimits) = []
+line_values (Err OutsideRange) = []
 
 -- the answer of a line lent
-abbrev pub LendsLine : (answer : LineAnswer) (before afterwards : List ℕ) (number : ℕ) → Type 0
+abbrev pub LendsLine : (answer : Result Line LineRefusal) (before afterwards : List ℕ) (number : ℕ) → Type 0
 LendsLine answer before afterwards number = LendsValues (line_number answer) (line_values answer) before afterwards number
 
 -- THE ORDER of the call's numbers: no such edition, 3; a header value outside its limits, 4; the site outside its range, 8; too little

@@ -1,10 +1,10 @@
 -- A project's report left in a lent run of numbers, the number that the call answers, and the count or place beside it.
+use Rattle.std.specs.Prelude.{Result, Ok, Err}
+use Rattle.project.specs.declared.Refused.{Refused}
 use Rattle.std.specs.Prelude.{ℕ, ◌≡◌, refl, List, length}
 use Rattle.std.proofs.Common.{sym, ap, ◌∙◌}
 use Rattle.header.specs.Header.{count_in}
 use Rattle.project.specs.Causes.{report_length, NoCause, FirstCause}
-use Rattle.report.specs.declared.ProjectAnswer.{ProjectAnswer}
-use Rattle.report.specs.declared.ProjectAnswer.TheVariants.{Reported, Refused}
 use Rattle.report.specs.Report.{project_answer, answer_number, answer_value, report_after}
 use Rattle.report.specs.Demand.{Demand, AnswerMeets, ReportsProject}
 use Rattle.report.specs.ReaderCauses.{first_not_zero}
@@ -29,18 +29,18 @@ pub record ReadsProject (file before afterwards : List ℕ) (value number : ℕ)
   pub refused : (number ≡ 0 → ⊥) → ProjectRefused file before afterwards value number
 
 module _ (file before afterwards : List ℕ) where
-  made : (same : ProjectAnswer) → AnswerMeets file before afterwards same → answer_number same ≡ 0 → ReportMade file before afterwards (answer_value same)
-  made (Reported count) m e = record { no_cause = m.0; count_is = m.2; demand = m.3 }
-  made (Refused number place) m e = absurd (first_not_zero m.0 e)
+  made : (same : Result ℕ Refused) → AnswerMeets file before afterwards same → answer_number same ≡ 0 → ReportMade file before afterwards (answer_value same)
+  made (Ok count) m e = record { no_cause = m.0; count_is = m.2; demand = m.3 }
+  made (Err refused) m e = absurd (first_not_zero m.0 e)
 
-  not_made : (same : ProjectAnswer) → AnswerMeets file before afterwards same → (answer_number same ≡ 0 → ⊥)
+  not_made : (same : Result ℕ Refused) → AnswerMeets file before afterwards same → (answer_number same ≡ 0 → ⊥)
       → ProjectRefused file before afterwards (answer_value same) (answer_number same)
-  not_made (Reported count) m ne = absurd (ne refl)
-  not_made (Refused number place) m ne = record { first_cause = m.0; left = m.1 }
+  not_made (Ok count) m ne = absurd (ne refl)
+  not_made (Err refused) m ne = record { first_cause = m.0; left = m.1 }
 
-  pub told : (answer : ProjectAnswer)
+  pub told : (answer : Result ℕ Refused)
       → ReportsProject file before afterwards answer
-      → (same : ProjectAnswer) → answer ≡ same → ReadsProject file before afterwards (answer_value same) (answer_number same)
+      → (same : Result ℕ Refused) → answer ≡ same → ReadsProject file before afterwards (answer_value same) (answer_number same)
   told answer h same e =
       let q : same ≡ project_answer file (length before) = sym e ∙ h.answer_is in
       let m : AnswerMeets file before afterwards same = rw e at h.meets in

@@ -1,11 +1,10 @@
 -- A site as a run of numbers, for callers in other languages: the kind, its twenty slots in the site's order, then the later years of
 -- its traffic and of its minor traffic.
+use Rattle.std.specs.Prelude.{Result, Ok, Err}
+use Rattle.site.specs.declared.refusal.Refusal.{Refusal}
+use Rattle.std.specs.Prelude.{Option, None, Some}
 use Rattle.std.specs.Prelude.{ℕ, ◌+◌, ◌*◌, ◌≡◌, cond, List, [], ◌∷◌, ◌++◌, map, length, get_or, take, drop, leb, ltb, eqb}
-use Rattle.site.specs.declared.values.Slot.{Slot}
-use Rattle.site.specs.declared.values.Slot.TheVariants.{Absent, Number}
 use Rattle.site.specs.declared.values.Site.{Site}
-use Rattle.site.specs.declared.values.SiteAnswer.{SiteAnswer}
-use Rattle.site.specs.declared.values.SiteAnswer.TheVariants.{Read, Refused}
 use Rattle.site.specs.Rules.{slot_count, later_years}
 use Rattle.site.specs.Yearly.{later_slots, later_from_slots}
 use Rattle.site.specs.Answers.{read_number, write_number, write_length}
@@ -14,32 +13,32 @@ use Rattle.site.specs.Writing.{slots_of, write_answer, write_into}
 use Rattle.unit.specs.Lent.{LendsValues}
 
 -- all the slots of a site, as they stand in its run, and the site of so many slots
-abbrev pub all_slots : Site → List Slot
+abbrev pub all_slots : Site → List (Option ℕ)
 all_slots site = slots_of site ++ (later_slots site.later_traffic ++ later_slots site.later_minor)
 
-abbrev pub site_of_all : (kind : ℕ) → List Slot → Site
+abbrev pub site_of_all : (kind : ℕ) → List (Option ℕ) → Site
 site_of_all kind slots = site_of kind slots (later_from_slots (drop slot_count slots)) (later_from_slots (drop (slot_count + later_years) slots))
 
 abbrev pub all_count : ℕ
 all_count = slot_count + 2 * later_years
 
 -- an absent slot is 65,536, which no two bytes hold
-abbrev pub code : Slot → ℕ
-code Absent = 65536
-code (Number value) = value
+abbrev pub code : Option ℕ → ℕ
+code None = 65536
+code (Some value) = value
 
 -- a site's run: the kind, then all the slots
 abbrev pub site_run : Site → List ℕ
 site_run site = site.kind ∷ map code (all_slots site)
 
 -- the values of an answer: the site's run and the record's length; a refusal has none
-abbrev pub read_values : SiteAnswer → List ℕ
-read_values (Read site n) = site_run site ++ (n ∷ [])
-read_values (Refused number) = []
+abbrev pub read_values : Result (Site × ℕ) Refusal → List ℕ
+read_values (Ok (site, n)) = site_run site ++ (n ∷ [])
+read_values (Err refusal) = []
 
 -- a number that is no code stands for 65,535, which no rule allows, and one that is no byte for the kind 255
-abbrev pub slot_from : ℕ → Slot
-slot_from number = cond (ltb number 65536) (Number number) (cond (eqb number 65536) Absent (Number 65535))
+abbrev pub slot_from : ℕ → Option ℕ
+slot_from number = cond (ltb number 65536) (Some number) (cond (eqb number 65536) None (Some 65535))
 
 abbrev pub kind_from : ℕ → ℕ
 kind_from number = cond (ltb number 256) number 255

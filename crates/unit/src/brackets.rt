@@ -7,16 +7,16 @@ ghost use Rattle.exponential.specs.Exponential.{exponential_answer, exponential_
 ghost use Rattle.unit.specs.Lent.{Lends};
 
 use crate::lent::lend_four;
-use bracket::BracketAnswer;
+use bracket::Bracket;
 
 // Leaves a bracket's four numbers at the start of `ends`: 0; or 8 where there is no bracket, then 10 where `ends` is too
 // short, with nothing written.
-fn lend(answer: BracketAnswer, ends: &mut [u64]) -> u64
+fn lend(answer: Option<Bracket>, ends: &mut [u64]) -> u64
     ensures { Lends answer ends.old ends.new result }
 {
     match answer {
-        BracketAnswer::OutOfRange => 8,
-        BracketAnswer::Between(b) => lend_four(b.low_num, b.low_den, b.high_num, b.high_den, ends),
+        None => 8,
+        Some(b) => lend_four(b.low_num, b.low_den, b.high_num, b.high_den, ends),
     }
 }
 

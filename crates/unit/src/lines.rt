@@ -5,7 +5,7 @@ ghost use Rattle.unit.specs.LineNumbers.{LinesNumbers};
 use crate::lent::lend_four;
 use crate::sites::site_from;
 use header::Header;
-use line::{LineAnswer, line_of};
+use line::{LineRefusal, line_of};
 
 // The line of a site in an edition, over years and calibrations: 0, with predicted low, predicted high, expected low and expected
 // high, whole numbers of millionths, in line[0] to line[3] and the rest of line as it was; or 3 where there is no such edition, then
@@ -28,12 +28,11 @@ pub fn crash_line(
         segments,
         crossings,
     };
-    let answer = line_of(header, site_from(values));
-    match answer {
-        LineAnswer::EditionUnknown => 3,
-        LineAnswer::OutsideLimits => 4,
-        LineAnswer::OutsideRange => 8,
-        LineAnswer::Made(made) => lend_four(
+    match line_of(header, site_from(values)) {
+        Err(LineRefusal::EditionUnknown) => 3,
+        Err(LineRefusal::OutsideLimits) => 4,
+        Err(LineRefusal::OutsideRange) => 8,
+        Ok(made) => lend_four(
             made.predicted_low,
             made.predicted_high,
             made.expected_low,

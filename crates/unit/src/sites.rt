@@ -2,15 +2,16 @@
 // slots in the order of the struct, nine for the later years of its traffic and nine for those of its minor traffic, an absent one
 // coded as 65,536. The reader leaves the record's length after them; the calls that take a site read the first 39 numbers, so that
 // a run is handed on as it was left.
-ghost use Rattle.std.specs.Prelude.{◌≡◌, map, ◌≤◌, length};
+ghost use Rattle.std.specs.Prelude.{◌≡◌, ◌+◌, ◌≤◌, map, length, Ok};
 ghost use Rattle.std.proofs.lemmas.List.Edits.{sets};
-ghost use Rattle.site.specs.declared.values.SiteAnswer.TheVariants.{Read};
 ghost use Rattle.unit.specs.SiteNumbers.{all_slots, all_count, code, read_values, slot_from, kind_from, site_from, site_numbers, answer_numbers};
 ghost use Rattle.unit.specs.SiteNumbers.{ReadsNumbers, WritesNumbers};
 
-use crate::slots::{ALL_SLOTS, site_of_all, slot_at};
+use crate::slots::{ALL_SLOTS, site_of_all};
+use site::rules::{LATER_YEARS, SLOTS};
 use site::values;
-use site::values::{Site, SiteAnswer, Slot, WriteAnswer};
+use site::values::{Site, Slot};
+use std::array;
 
 const ABSENT: u64 = 65536;
 
@@ -21,9 +22,16 @@ const ANSWER_NUMBERS: usize = ALL_SLOTS + 2;
 fn code_of(slot: Slot) -> u64
     ensures { result ≡ code slot }
 {
-    match slot {
-        Slot::Absent => ABSENT,
-        Slot::Number(value) => value as u64,
+    slot.map_or(ABSENT, |value| value as u64)
+}
+
+// Stores the codes of a run of slots from a place on.
+fn put_codes(slots: &[Slot], values: &mut [u64], at: usize)
+    requires { at + length slots.now ≤ length values.old }
+    ensures { values.new ≡ sets values.old at (map code slots.now) }
+{
+    for (i, &slot) in slots.iter().enumerate() {
+        values[at + i] = code_of(slot);
     }
 }
 
@@ -32,25 +40,20 @@ fn put_slots(site: Site, values: &mut [u64])
     requires { site_numbers ≤ length values.old }
     ensures { values.new ≡ sets values.old 1 (map code (all_slots site)) }
 {
-    let later_traffic = site.later_traffic;
-    let later_minor = site.later_minor;
     let slots = values::slots_of(site);
-    let traffic = values::later_slots(later_traffic);
-    let minor = values::later_slots(later_minor);
-    let mut i = 0;
-    while i < ALL_SLOTS {
-        values[i + 1] = code_of(slot_at(slots, traffic, minor, i));
-        i += 1;
-    }
+    let traffic = values::later_slots(site.later_traffic);
+    let minor = values::later_slots(site.later_minor);
+    put_codes(&slots, values, 1);
+    put_codes(&traffic, values, 1 + SLOTS);
+    put_codes(&minor, values, 1 + SLOTS + LATER_YEARS);
 }
 
 // Stores the kind, the slots and the record's length.
 fn put_site(site: Site, n: usize, values: &mut [u64])
     requires { answer_numbers ≤ length values.old }
-    ensures { values.new ≡ sets values.old 0 (read_values (Read site n)) }
+    ensures { values.new ≡ sets values.old 0 (read_values (Ok (site, n))) }
 {
-    let kind = site.kind;
-    values[0] = kind as u64;
+    values[0] = site.kind as u64;
     put_slots(site, values);
     values[SITE_NUMBERS] = n as u64;
 }
@@ -61,10 +64,9 @@ fn put_site(site: Site, n: usize, values: &mut [u64])
 pub fn crash_site_read(edition: u64, years: u64, part: &[u8], values: &mut [u64]) -> u64
     ensures { ReadsNumbers edition years part.now values.old values.new result }
 {
-    let answer = site_reader::read_site(edition, years, part);
-    match answer {
-        SiteAnswer::Refused(number) => number as u64,
-        SiteAnswer::Read(site, n) => {
+    match site_reader::read_site(edition, years, part) {
+        Err(refusal) => u64::from(refusal),
+        Ok((site, n)) => {
             if values.len() < ANSWER_NUMBERS {
                 return 10;
             }
@@ -79,11 +81,11 @@ fn slot_from(number: u64) -> Slot
     ensures { result ≡ slot_from number }
 {
     if number < ABSENT {
-        Slot::Number(number as u16)
+        Some(number as u16)
     } else if number == ABSENT {
-        Slot::Absent
+        None
     } else {
-        Slot::Number(65535)
+        Some(65535)
     }
 }
 
@@ -100,14 +102,7 @@ fn slots_from(numbers: &[u64]) -> [Slot; ALL_SLOTS]
     requires { length numbers.now ≡ all_count }
     ensures { result ≡ map slot_from numbers.now }
 {
-    let none = Slot::Absent;
-    let mut slots = [none; ALL_SLOTS];
-    let mut i = 0;
-    while i < ALL_SLOTS {
-        slots[i] = slot_from(numbers[i]);
-        i += 1;
-    }
-    slots
+    array::from_fn(|i| slot_from(numbers[i]))
 }
 
 // The site of the first 39 numbers; fewer are taken for a site of the kind 255.
@@ -115,8 +110,7 @@ pub fn site_from(values: &[u64]) -> Site
     ensures { result ≡ site_from values.now }
 {
     if values.len() < SITE_NUMBERS {
-        let none = Slot::Absent;
-        return site_of_all(NO_KIND, [none; ALL_SLOTS]);
+        return site_of_all(NO_KIND, [None; ALL_SLOTS]);
     }
     let kind = kind_from(values[0]);
     site_of_all(kind, slots_from(&values[1..SITE_NUMBERS]))
@@ -136,10 +130,9 @@ pub fn crash_site_write(
 ) -> u64
     ensures { WritesNumbers edition years values.now buffer.old buffer.new written.old written.new result }
 {
-    let answer = site_writer::write_site(edition, years, site_from(values), buffer);
-    match answer {
-        WriteAnswer::Unwritten(number) => number as u64,
-        WriteAnswer::Written(n) => {
+    match site_writer::write_site(edition, years, site_from(values), buffer) {
+        Err(refusal) => u64::from(refusal), // written as it was
+        Ok(n) => {
             *written = n as u64;
             0
         }

@@ -8,18 +8,14 @@ ghost use Rattle.unit.specs.FileNumbers.{site_count, sites_given, WritesFile};
 
 use crate::sites::{SITE_NUMBERS, site_from};
 use header::{HEADER_LENGTH, Header, does_admit};
-use project_writer::course::{Course, FileAnswer, answer_of, begin_writing, step};
+use project_writer::course::{Course, FileRefusal, answer_of, begin_writing, step};
 use site::rules::is_edition_known;
 
 // A site for each 39 numbers, and one for a rest of fewer.
 fn count_sites(numbers: usize) -> usize
     ensures { result ≡ site_count numbers }
 {
-    let whole = numbers / SITE_NUMBERS;
-    if whole * SITE_NUMBERS < numbers {
-        return whole + 1;
-    }
-    whole
+    numbers.div_ceil(SITE_NUMBERS)
 }
 
 // The one walk over the sites of a project of an edition and of so many years: each is taken out of the numbers, and the course goes
@@ -35,30 +31,25 @@ fn walk_numbers(
     ensures value { result ≡ walk_course edition years (sites_given numbers.now) start }
     ensures buffer_after { buffer.new ≡ walk_buffer edition years (sites_given numbers.now) start buffer.old }
 {
-    let sites = count_sites(numbers.len());
     let mut course = start;
-    let mut i = 0;
-    while i < sites {
-        let at = SITE_NUMBERS * i;
-        let site = site_from(&numbers[at..]);
-        course = step(edition, years, site, buffer, course);
-        i += 1;
+    for site in numbers.chunks(SITE_NUMBERS) {
+        course = step(edition, years, site_from(site), buffer, course);
     }
     course
 }
 
 // The edition, header limits, each site, then the space; then the file is written.
-fn write_numbers(header: Header, numbers: &[u64], buffer: &mut [u8]) -> FileAnswer
+fn write_numbers(header: Header, numbers: &[u64], buffer: &mut [u8]) -> Result<usize, FileRefusal>
     ensures { WritesProject header (sites_given numbers.now) buffer.old buffer.new result }
 {
     let edition = header.edition;
     let years = header.years;
     let sites = count_sites(numbers.len());
     if !is_edition_known(edition) {
-        return FileAnswer::EditionUnknown;
+        return Err(FileRefusal::EditionUnknown);
     }
     if !does_admit(header, sites) {
-        return FileAnswer::OutsideLimits;
+        return Err(FileRefusal::OutsideLimits);
     }
     let measured = walk_numbers(
         edition,
@@ -93,25 +84,24 @@ pub fn crash_project_write(
         segments,
         crossings,
     };
-    let answer = write_numbers(header, sites, buffer);
-    match answer {
-        FileAnswer::Written(n) => {
+    match write_numbers(header, sites, buffer) {
+        Ok(n) => {
             *value = n as u64;
             0
         }
-        FileAnswer::EditionUnknown => {
+        Err(FileRefusal::EditionUnknown) => {
             *value = 0;
             3
         }
-        FileAnswer::OutsideLimits => {
+        Err(FileRefusal::OutsideLimits) => {
             *value = 0;
             4
         }
-        FileAnswer::OutsideRange(index) => {
+        Err(FileRefusal::OutsideRange(index)) => {
             *value = index as u64;
             8
         }
-        FileAnswer::TooShort => {
+        Err(FileRefusal::TooShort) => {
             *value = 0;
             10
         }

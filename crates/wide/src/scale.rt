@@ -1,49 +1,42 @@
 // a * n / d, rounded down and rounded up, with the product exact.
 ghost use Rattle.std.specs.Prelude.{◌≡◌, ◌+◌, ◌*◌, ◌/◌, ◌%◌, ◌^◌, ◌<◌};
-ghost use Rattle.wide.specs.Scaling.{floor, ceiling, answered, scaled_down, scaled_up, value_of};
+ghost use Rattle.wide.specs.Scaling.{floor, ceiling, answered, scaled_down, scaled_up};
 
 use crate::division::quotient;
 use crate::word::{plus, product};
 
-// A quotient that fits 64 bits. A larger one, and a division by 0, is too large.
-#[derive(Clone, Copy)]
-pub enum Scaled {
-    Value(u64),
-    TooLarge,
-}
-
-// (a * n + more) / d, rounded down, for a `more` below d. A factor of 1 is as common as any other, and leaves a as it is.
-fn scale(a: u64, n: u64, d: u64, more: u64) -> Scaled
+// (a * n + more) / d, rounded down, or none where that does not fit 64 bits, for a `more` below d. A factor of 1 is as common as any other, and leaves a as it is.
+fn scale(a: u64, n: u64, d: u64, more: u64) -> Option<u64>
     requires { more < d }
     ensures { result ≡ answered d ((a * n + more) / d) }
 {
     if n == d {
-        return Scaled::Value(a);
+        return Some(a);
     }
     let w = plus(product(a, n), more);
     if w.high < d {
-        Scaled::Value(quotient(w, d))
+        Some(quotient(w, d))
     } else {
-        Scaled::TooLarge
+        None
     }
 }
 
-// a * n / d, rounded down.
-pub fn scale_down(a: u64, n: u64, d: u64) -> Scaled
+// a * n / d, rounded down. There is none where it does not fit 64 bits, and none where d is 0.
+pub fn scale_down(a: u64, n: u64, d: u64) -> Option<u64>
     ensures { result ≡ scaled_down a n d }
 {
     if d == 0 {
-        return Scaled::TooLarge;
+        return None;
     }
     scale(a, n, d, 0)
 }
 
-// a * n / d, rounded up.
-pub fn scale_up(a: u64, n: u64, d: u64) -> Scaled
+// a * n / d, rounded up. There is none where it does not fit 64 bits, and none where d is 0.
+pub fn scale_up(a: u64, n: u64, d: u64) -> Option<u64>
     ensures { result ≡ scaled_up a n d }
 {
     if d == 0 {
-        return Scaled::TooLarge;
+        return None;
     }
     scale(a, n, d, d - 1)
 }
@@ -57,22 +50,12 @@ pub fn scale_by_parts(a: u64, n: u64, more: u64, part: u64, other: u64) -> u64
     (a / part * n + (a % part * n + more) / part) / other
 }
 
-// The value of a scaling that fits.
-fn value(answer: Scaled) -> u64
-    ensures { result ≡ value_of answer }
-{
-    match answer {
-        Scaled::Value(v) => v,
-        Scaled::TooLarge => 0,
-    }
-}
-
 // a * n / d, rounded down, for a caller that has shown that it fits.
 pub fn times_down(a: u64, n: u64, d: u64) -> u64
     requires { (0 < d) × (floor a n d < 2 ^ 64) }
     ensures { result ≡ floor a n d }
 {
-    value(scale_down(a, n, d))
+    scale_down(a, n, d).unwrap_or(0)
 }
 
 // a * n / d, rounded up, for a caller that has shown that it fits.
@@ -80,5 +63,5 @@ pub fn times_up(a: u64, n: u64, d: u64) -> u64
     requires { (0 < d) × (ceiling a n d < 2 ^ 64) }
     ensures { result ≡ ceiling a n d }
 {
-    value(scale_up(a, n, d))
+    scale_up(a, n, d).unwrap_or(0)
 }

@@ -14,7 +14,7 @@ use std::{env, fs};
 const PROGRAM: &str = "written_project";
 
 /// What the program's line of `crates.txt` has.
-const CRATES: &str = "site site_reader header project_writer";
+const CRATES: &str = "site site_reader header project_writer input";
 
 /// The name of the program's one run.
 const RUN: &str = "lists";

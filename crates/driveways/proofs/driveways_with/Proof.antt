@@ -11,13 +11,13 @@ use Rattle.driveways.proofs.driveways_with.Tie as tie
 
 value_at_requires : tie.Need-value_at-at_low-requires
 value_at_requires c κs =
-    let f = low_fits c.args.traffic c.requires.4 c.requires.5 c.logarithm_with-ln.ensures in
-    (c.requires.2, c.requires.1, c.requires.3, f.0, f.1, f.2)
+    let f = low_fits c.args.traffic c.requires.3 c.requires.4 c.logarithm_with-ln.ensures in
+    (c.requires.1, c.requires.0, c.requires.2, f.0, f.1, f.2)
 
 value_at_requires_2 : tie.Need-value_at-at_high-requires
 value_at_requires_2 c κs =
-    let f = high_fits c.args.traffic c.requires.4 c.requires.5 c.logarithm_with-ln.ensures in
-    (c.requires.2, c.requires.1, c.requires.3, f.0, f.1, f.2)
+    let f = high_fits c.args.traffic c.requires.3 c.requires.4 c.logarithm_with-ln.ensures in
+    (c.requires.1, c.requires.0, c.requires.2, f.0, f.1, f.2)
 
 -- each answer by itself, so that no goal is cited by the test that it follows
 pub driveways_with_spec : {M : Type 1} → statement M

@@ -1,6 +1,6 @@
 -- What the loop over the terms holds after k of them, how a turn keeps it, and that every number on the way fits.
 use mathlib.Core.Path.{◌≡◌, refl, ap, ap₂, ◌∙◌}
-use Prim.Native.Nat.{ℕ, suc, ◌+◌, ◌*◌, ◌≤◌, ◌<◌}
+use Prim.Native.Nat.{ℕ, zero, suc, ◌+◌, ◌-◌, ◌*◌, ◌≤◌, ◌<◌}
 use native.Mathlib.Nat.{mul-le-mul}
 use native.Mathlib.Numerals.{add-one}
 use native.Mathlib.Omega.{arith}
@@ -26,13 +26,12 @@ unfolding term_high
 next_term f k = refl
 
 module _ {f k low_term high_term low high : ℕ} (h : Terms f k low_term high_term low high) where
-  pub next : k < 16 → let t = floor low_term f (10000 * (k + 1)) in let u = ceiling high_term f (10000 * (k + 1)) in Terms f (k + 1) t u (low + t) (high + u)
+  next : k < 16 → let t = floor low_term f (10000 * suc k) in let u = ceiling high_term f (10000 * suc k) in Terms f (suc k) t u (low + t) (high + u)
   unfolding term_low sum_low sum_high
   next l =
       let t = ap (λ (z : ℕ). floor z f (10000 * suc k)) h.low_term_is in
       let u = ap (λ (z : ℕ). ceiling z f (10000 * suc k)) h.high_term_is ∙ next_term f k in
-      rw add-one
-      (record { low_term_is = t; high_term_is = u; low_is = ap₂ ◌+◌ h.low_is t; high_is = ap₂ ◌+◌ h.high_is u; last = l; within = h.within })
+      record { low_term_is = t; high_term_is = u; low_is = ap₂ ◌+◌ h.low_is t; high_is = ap₂ ◌+◌ h.high_is u; last = l; within = h.within }
 
   pub record Fit : Type 0 where
     pub low_product : low_term * f ≤ scale * 10000
@@ -49,6 +48,15 @@ module _ {f k low_term high_term low high : ℕ} (h : Terms f k low_term high_te
         low_sum = omega arith;
         high_sum = omega arith;
       }
+
+less_one : (k : ℕ) → suc k - 1 ≡ k
+less_one k = omega arith
+
+-- a turn: before it the terms below n are in the sums, and after it the term n is
+pub turn : {f n low_term high_term low high : ℕ} → Terms f (n - 1) low_term high_term low high → 1 ≤ n → n < 17
+    → let t = floor low_term f (10000 * n) in let u = ceiling high_term f (10000 * n) in Terms f (n + 1 - 1) t u (low + t) (high + u)
+turn {n = zero} h from below = absurd (omega arith)
+turn {n = suc k} h from below = rw (add-one, less_one (suc k)) (next (rw (less_one k) at h) (omega arith))
 
 pub done : {f low_term high_term low high : ℕ} → Terms f 16 low_term high_term low high
     → (low ≡ taylor_low f) × (high + 2 * ceiling high_term f 170000 ≡ taylor_high f)

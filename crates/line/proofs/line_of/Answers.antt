@@ -29,9 +29,6 @@ returns-then-not-is_sound c =
 
 pub line_with-requires : goal.line_with-requires
 line_with-requires c = (
-  c.stored_powers-powers.ensures,
-  c.stored_logarithms-logarithms.ensures,
-  c.stored_exponentials-exponentials.ensures,
   limits_of _ (sym c.is_in_limits.ensures ∙ c.if-not-is_in_limits.false),
   record { is_sound = sym c.is_sound.ensures ∙ c.if-not-is_sound.false },
 )

@@ -1,5 +1,5 @@
 -- A history is weighed, a history of none too.
 use Rattle.line.proofs.expected.weigh.Goals as goal
 
-pub returns-in-Number : goal.returns-in-Number
-returns-in-Number c = simp (c.in-Number.is, ← c.weigh_low.ensures, ← c.weigh_high.ensures)
+pub returns-in-Some : goal.returns-in-Some
+returns-in-Some c = simp (c.in-Some.is, ← c.weigh_low.ensures, ← c.weigh_high.ensures)

@@ -5,7 +5,7 @@ use Rattle.prediction.proofs.segment.carry_segment.Statement.{statement}
 use Rattle.prediction.proofs.segment.carry_segment.Tie as tie
 
 carry_curve_requires : tie.Need-carry_curve-requires
-carry_curve_requires c κs = c.requires.3.bend c.if-v.true
+carry_curve_requires c κs = c.requires.2.bend c.if-v.true
 
 returns : tie.Need-returns-then-v
 returns c =

@@ -1,7 +1,7 @@
+use Rattle.std.specs.Prelude.{Some}
 use mathlib.Core.Path.{refl}
 use native.Mathlib.Omega.{arith}
 use Rattle.bracket.specs.CarryLaws.{further, further_exact}
-use Rattle.bracket.specs.declared.carry.CarryAnswer.TheVariants.{Carried}
 use Rattle.factors.specs.Edition.{lane_of, shoulder_of}
 use Rattle.model.specs.Coefficients.{coefficients_of}
 use Rattle.model.specs.Widths.{lane, shoulder}
@@ -36,16 +36,16 @@ shoulder_requires : tie.Need-shoulder-shoulder_factor-requires
 shoulder_requires c κs =
     let edition = edition_at_shoulder c in
     let most = (edition_rated edition.before.args.edition).bounded.share_most in
-    (omega (arith, edition.coefficients_of-k.ensures.share_is, most), edition.before.requires.1.type_most)
+    (omega (arith, edition.coefficients_of-k.ensures.share_is, most), edition.before.requires.type_most)
 
 two_way_lane_requires : tie.Need-two_way_lane-requires
-two_way_lane_requires c κs = (edition_at_two_way c).before.requires.1.driveways_most_lem
+two_way_lane_requires c κs = (edition_at_two_way c).before.requires.driveways_most_lem
 
 passing_requires : tie.Need-passing-requires
-passing_requires c κs = (edition_at_passing c).before.requires.1.passing_most
+passing_requires c κs = (edition_at_passing c).before.requires.passing_most
 
 hazard_factor_requires : tie.Need-hazard_factor-requires
-hazard_factor_requires c κs = let sizes = (edition_at_passing c.before.before).before.requires.1 in (sizes.rating_least, sizes.rating_most)
+hazard_factor_requires c κs = let sizes = (edition_at_passing c.before.before).before.requires in (sizes.rating_least, sizes.rating_most)
 
 driveways_with_requires : tie.Need-driveways_with-driveway_factor-requires
 driveways_with_requires c κs =
@@ -55,7 +55,7 @@ driveways_with_requires c κs =
     let rated = edition_rated edition.before.args.edition in
     let least = rated.constant_least in
     let most = rated.constant_most in
-    (pre.0, omega (arith, is, most), omega (arith, is, least), pre.1.driveways_most_lem, pre.1.traffic.least, pre.1.traffic.most)
+    (omega (arith, is, most), omega (arith, is, least), pre.driveways_most_lem, pre.traffic.least, pre.traffic.most)
 
 returns : tie.Need-returns
 unfolding straight_factors
@@ -64,7 +64,7 @@ returns c =
     let a = c.args in
     let k = coefficients_of a.edition in
     let start = a.start in
-    let to-base = further {a = Carried start start} refl c.base_factor.ensures c.through-after_base.ensures in
+    let to-base = further {a = Some (start, start)} refl c.base_factor.ensures c.through-after_base.ensures in
     let to-lane = further_exact (lane k _ _) to-base (lane_of held _ _ c.lane-lane_factor.ensures) c.through_exact-after_lane.ensures in
     let shoulder-is = shoulder_of held _ _ _ c.shoulder-shoulder_factor.ensures in
     let to-shoulder = further_exact (shoulder k _ _ _) to-lane shoulder-is c.through_exact-after_shoulder.ensures in
@@ -74,7 +74,7 @@ returns c =
     let to-passing = further_exact (passing _) to-two-way c.passing.ensures c.through_exact-after_passing.ensures in
     let to-hazard = further to-passing c.hazard_factor.ensures c.through-after_hazard.ensures in
     let bracket = rw (held.constant_is, held.fewest_is) at c.driveways_with-driveway_factor.ensures in
-    through_all k (Carried start start) (straight_factors a.v) (further to-hazard bracket c.through.ensures)
+    through_all k (Some (start, start)) (straight_factors a.v) (further to-hazard bracket c.through.ensures)
 
 pub carry_straight_spec : {M : Type 1} → statement M
 carry_straight_spec =

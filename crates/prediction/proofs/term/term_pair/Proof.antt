@@ -9,8 +9,8 @@ use Rattle.prediction.proofs.term.term_pair.Tie as tie
 carry_segment_requires : tie.Need-carry_segment-requires
 carry_segment_requires c κs =
     let p = c.requires in
-    let sizes = segment_sizes _ _ _ p.4 c.if-site-eq0.true _ p.5.traffic in
-    (p.1, p.5.years_most, p.3.segments_most, rw c.segment_of-road.ensures sizes)
+    let sizes = segment_sizes _ _ _ p.1 c.if-site-eq0.true _ p.2.traffic in
+    (p.2.years_most, p.0.segments_most, rw c.segment_of-road.ensures sizes)
 
 returns : tie.Need-returns-then-site-eq0
 returns c =
@@ -23,11 +23,9 @@ carry_crossing_requires : tie.Need-carry_crossing-requires
 carry_crossing_requires c κs =
     let p = c.requires in
     let from = pos_of_ne-zero c.if-site-eq0.false in (
-      p.0,
-      p.2,
-      p.5.years_most,
-      p.3.crossings_most,
-      rw c.crossing_of-crossing.ensures (crossing_sizes _ _ _ p.4 from _ _ p.5.traffic (p.5.minor from)),
+      p.2.years_most,
+      p.0.crossings_most,
+      rw c.crossing_of-crossing.ensures (crossing_sizes _ _ _ p.1 from _ _ p.2.traffic (p.2.minor from)),
     )
 
 returns_2 : tie.Need-returns

@@ -20,14 +20,14 @@ limits : (c : tie.After-measure_site-measure) → (c.in-Measured.sites + 1 ≤ m
 limits c = rw c.in-Measured.is at c.requires
 
 -- what a length that is measured tells of the site
-measured : (c : tie.In-Length) → Valid c.args.edition c.args.years c.args.site × (c.in-Length.more ≡ length (record_of c.args.edition c.args.site))
-measured c = measured_length _ _ _ _ (sym c.measure_site-measure.ensures.answer_is ∙ c.in-Length.is)
+measured : (c : tie.In-Some) → Valid c.args.edition c.args.years c.args.site × (c.in-Some.more ≡ length (record_of c.args.edition c.args.site))
+measured c = measured_length _ _ _ _ (sym c.measure_site-measure.ensures.answer_is ∙ c.in-Some.is)
 
 -- a site that is written is valid and its record fits
 placed : (c : tie.In-Placed) → Valid c.args.edition c.args.years c.args.site × (c.in-Placed.at + length (record_of c.args.edition c.args.site) ≤ length c.args.buffer.now)
 placed c = walks_valid _ _ _ [] _ _ (rw c.in-Placed.is at c.requires)
 
-add_t17 : tie.Need-overflow_add-result-in-Length
+add_t17 : tie.Need-overflow_add-result-in-Some
 add_t17 c =
     let m = measured c in
     omega (arith, limits c.before, (record_length _ _ _ m.0).at_most)
@@ -41,12 +41,12 @@ add_t19 : tie.Need-overflow_add-result-in-Placed
 add_t19 c =
     omega (arith, placed c.before.before.before.before, c.put_record-n.ensures)
 
-returns_2 : tie.Need-returns-in-OutsideRange
+returns_2 : tie.Need-returns-in-None
 returns_2 c =
-    let outside = measured_outside _ _ _ (sym c.measure_site-measure.ensures.answer_is ∙ c.in-OutsideRange.is) in
+    let outside = measured_outside _ _ _ (sym c.measure_site-measure.ensures.answer_is ∙ c.in-None.is) in
     rw (c.in-Measured.is, outside) (refl, refl)
 
-returns_3 : tie.Need-returns-in-Length
+returns_3 : tie.Need-returns-in-Some
 returns_3 c =
     let m = measured c in
     rw (c.in-Measured.is, m.0.is_sound, m.1) (refl, refl)

@@ -1,0 +1,43 @@
+-- The edition tells 3, the years 4, the measure 8, the space 10, and else the record is put.
+use Rattle.std.specs.Prelude.{None, Some}
+use Rattle.std.proofs.Common.{◌≡◌, arith, sym, ◌∙◌}
+use Rattle.std.proofs.lemmas.Result.{err_from_is_err_and}
+use Rattle.site.specs.declared.refusal.Refusal.TheVariants.{OutsideRange}
+use Rattle.site.proofs.Theorems.{measured_length}
+use Rattle.site.specs.Theorems.{measured_outside}
+use Rattle.site_writer.proofs.WriteWhole.{edition_refused, years_refused, outside, room_refused, all_written}
+use Rattle.site_writer.proofs.write_site.Goals as goal
+
+pub returns-then-not-is_edition_known : goal.returns-then-not-is_edition_known
+returns-then-not-is_edition_known c = edition_refused _ _ _ _ (sym c.is_edition_known.ensures ∙ c.if-not-is_edition_known.true)
+
+pub returns-then-not-are_years_known : goal.returns-then-not-are_years_known
+returns-then-not-are_years_known c =
+    years_refused _ _ _ _ (sym c.is_edition_known.ensures ∙ c.if-not-is_edition_known.false) (sym c.are_years_known.ensures ∙ c.if-not-are_years_known.true)
+
+pub returns-in_err-n : goal.returns-in_err-n
+returns-in_err-n c =
+    let none : c.measure_site.result ≡ None = grind arith in
+    let p = err_from_is_err_and c.from_residual.result c.from_residual.ensures.1 in
+    let refused : c.in_err-n.field-0.0 ≡ OutsideRange = grind arith in
+    rw (p.1, p.2, refused)
+    (outside _ _ _ _ (sym c.is_edition_known.ensures ∙ c.if-not-is_edition_known.false) (sym c.are_years_known.ensures ∙ c.if-not-are_years_known.false)
+    (measured_outside _ _ _ (sym c.measure_site.ensures.answer_is ∙ none)))
+
+pub returns-then-buffer-n : goal.returns-then-buffer-n
+returns-then-buffer-n c =
+    let some : c.measure_site.result ≡ Some c.in_ok-n.n = grind arith in
+    let m = measured_length _ _ _ _ (sym c.measure_site.ensures.answer_is ∙ some) in
+    room_refused _ _ _ _ m.0 (omega (arith, m.1))
+
+pub put_record-requires : goal.put_record-requires
+put_record-requires c =
+    let some : c.measure_site.result ≡ Some c.in_ok-n.n = grind arith in
+    let m = measured_length _ _ _ _ (sym c.measure_site.ensures.answer_is ∙ some) in
+    (m.0, omega (arith, m.1))
+
+pub returns : goal.returns
+returns c =
+    let some : c.measure_site.result ≡ Some c.in_ok-n.n = grind arith in
+    let m = measured_length _ _ _ _ (sym c.measure_site.ensures.answer_is ∙ some) in
+    rw (c.put_record.ensures.0, c.put_record.ensures.1) (all_written _ _ _ _ m.0 (omega (arith, m.1)))
