@@ -3,7 +3,7 @@
 
 ghost use Rattle.std.specs.Prelude.{◌≡◌, ◌≤◌, true, length};
 ghost use Rattle.std.proofs.lemmas.List.Edits.{sets};
-ghost use Rattle.site.specs.Rules.{inside, edition_known};
+ghost use Rattle.site.specs.Rules.{edition_known};
 ghost use Rattle.site.specs.Refusals.{checked};
 ghost use Rattle.header.specs.Header.{header_length, header_in, count_in, in_limits, admits, header_bytes, header_number};
 
@@ -47,21 +47,14 @@ pub fn count_in(file: &[u8]) -> usize
     usize::from(word_at(file, 6))
 }
 
-// Whether a value lies from 1 to a number.
-fn is_up_to(most: u64, value: u64) -> bool
-    ensures { result ≡ inside 1 most value }
-{
-    1 <= value && value <= most
-}
-
 // Whether years and calibrations are within their limits.
 #[tactic(auto, unfolding(crate::specs::Header::in_limits))]
 pub fn is_in_limits(header: Header) -> bool
     ensures { result ≡ in_limits header }
 {
     are_years_known(header.years)
-        && is_up_to(MOST_CALIBRATION, header.segments)
-        && is_up_to(MOST_CALIBRATION, header.crossings)
+        && (1..=MOST_CALIBRATION).contains(&header.segments)
+        && (1..=MOST_CALIBRATION).contains(&header.crossings)
 }
 
 // Whether years, calibrations and the count of sites are within their limits.

@@ -20,19 +20,13 @@ const ARGUMENTS: usize = 24;
 // What follows so many arguments is not read.
 const INPUT_ROOM: usize = 4096 * ARGUMENTS;
 
-fn wide(byte: u8) -> u64
-    ensures { result < 256 }
-{
-    byte as u64
-}
-
 // The four-byte number at a place, high byte first.
 fn half_at(input: &[u8], at: usize) -> u64
     requires { at + 4 ≤ length input.now }
     ensures { result < 4294967296 }
 {
-    let upper = wide(input[at]) * 256 + wide(input[at + 1]);
-    upper * 65536 + wide(input[at + 2]) * 256 + wide(input[at + 3])
+    let upper = u64::from(input[at]) * 256 + u64::from(input[at + 1]);
+    upper * 65536 + u64::from(input[at + 2]) * 256 + u64::from(input[at + 3])
 }
 
 // The eight-byte number at a place, high byte first.

@@ -22,36 +22,47 @@ use factors::crossings::{left_turn, right_turn, sight};
 use power::power_with;
 use site::numbers::Crossing;
 
-// By kind, the places of the exponents of major and minor traffic (0.79, 0.49, 0.60, 0.61, 0.20); a segment has none.
-const MAJOR_PLACES: [u64; 4] = [5, 0, 2, 2];
-
-const MINOR_PLACES: [u64; 4] = [5, 1, 3, 4];
-
-// By kind, what a degree of skew adds to the exponent, in ten-thousandths.
-const SKEW_EXPONENTS: [u64; 4] = [0, 40, 54, 0];
-
-// The place of the exponent of the major road's traffic.
-fn major_place(kind: u8) -> u64
-    requires { kind ≤ 3 }
-    ensures { result ≡ major_place kind }
-{
-    MAJOR_PLACES[kind as usize]
+// What a crossing's kind sets.
+#[derive(Clone, Copy)]
+struct KindNumbers {
+    // The places of the exponents of major and minor traffic among the powers' five.
+    major_place: u64,
+    minor_place: u64,
+    // What a degree of skew adds to the exponent of e, in ten-thousandths.
+    skew_exponent: u64,
 }
 
-// The place of the exponent of the minor road's traffic.
-fn minor_place(kind: u8) -> u64
-    requires { kind ≤ 3 }
-    ensures { result ≡ minor_place kind }
-{
-    MINOR_PLACES[kind as usize]
-}
+// By kind, the places of 0.79 and 0.49, of 0.60 and 0.61, and of 0.60 and 0.20; a segment has none.
+const KIND_NUMBERS: [KindNumbers; 4] = [
+    KindNumbers {
+        major_place: 5,
+        minor_place: 5,
+        skew_exponent: 0,
+    },
+    KindNumbers {
+        major_place: 0,
+        minor_place: 1,
+        skew_exponent: 40,
+    },
+    KindNumbers {
+        major_place: 2,
+        minor_place: 3,
+        skew_exponent: 54,
+    },
+    KindNumbers {
+        major_place: 2,
+        minor_place: 4,
+        skew_exponent: 0,
+    },
+];
 
-// What a degree of skew adds to the exponent of e.
-fn skew_exponent(kind: u8) -> u64
+fn kind_numbers(kind: u8) -> KindNumbers
     requires { kind ≤ 3 }
-    ensures { result ≡ skew_exponent kind }
+    ensures major { result.major_place ≡ major_place kind }
+    ensures minor { result.minor_place ≡ minor_place kind }
+    ensures skew { result.skew_exponent ≡ skew_exponent kind }
 {
-    SKEW_EXPONENTS[kind as usize]
+    KIND_NUMBERS[kind as usize]
 }
 
 // The skew's factor.
@@ -59,7 +70,7 @@ fn skew_factor(exponentials: &Exponentials, v: Crossing) -> Bracket
     requires { CrossingSizes v }
     ensures { result ≡ exp_bracket (skew_exponent v.kind * v.skew) }
 {
-    exponential_with(exponentials, skew_exponent(v.kind) * v.skew)
+    exponential_with(exponentials, kind_numbers(v.kind).skew_exponent * v.skew)
 }
 
 // The start through the factors.
@@ -75,9 +86,10 @@ pub fn carry_crossing(
 {
     let start = years * calibration * 200_000_000;
     let ends = Some((start, start));
-    let major = power_with(&tables.powers, v.traffic, major_place(v.kind));
+    let by_kind = kind_numbers(v.kind);
+    let major = power_with(&tables.powers, v.traffic, by_kind.major_place);
     let after_major = through(ends, major);
-    let minor = power_with(&tables.powers, v.minor, minor_place(v.kind));
+    let minor = power_with(&tables.powers, v.minor, by_kind.minor_place);
     let after_minor = through(after_major, minor);
     let after_left = through_exact(after_minor, left_turn(edition, v.kind, v.left_lanes));
     let after_right = through_exact(after_left, right_turn(edition, v.kind, v.right_lanes));

@@ -1,4 +1,4 @@
--- To be believed, since contracts of public calls cite it: Rules, Yearly, Answers, Record and Writing, document 01's bits by number (Fields), a
+-- To be believed, since contracts of public calls cite it: Rules, Kinds, Yearly, Answers, Record and Writing, document 01's bits by number (Fields), a
 -- site's numbers (`number`, `segment_of` and `crossing_of` of Numbers), and what the public calls promise (Promises, with `RecordCause` of
 -- RecordCauses and what stands before it there, `HeadPresent` of Accepted, `map_matched` of Curve, and `RecordLength` of Theorems). Contracts of
 -- inner steps cite `bit_count` of Tested, `Parts` of Accepted, `place_after` of LaterLaws, the sizes of Numbers and `longest` of Theorems too.
@@ -6,6 +6,7 @@
 pub mod Rules
 pub mod Yearly
 pub mod Refusals
+pub mod Kinds
 pub mod Answers
 pub mod Record
 pub mod Fields

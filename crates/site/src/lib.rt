@@ -2,6 +2,7 @@
 // are defined in specs/, with both round trips; the crates site_reader and site_writer have the calls.
 #![tactic(auto)]
 
+pub mod kind;
 pub mod numbers;
 pub mod refusal;
 pub mod rules;

@@ -1,11 +1,13 @@
 // The rules of each kind and field, in one table. Loops go by the rules of a kind and know no
 // field.
-ghost use Rattle.std.specs.Prelude.{◌≡◌, ◌≤◌, length, cond};
-ghost use Rattle.site.specs.Rules.{segment, crossing, entries_of, last_kind, slot_count, inside, allows, absent_of};
+ghost use Rattle.std.specs.Prelude.{◌≡◌, ◌≤◌, cond};
+ghost use Rattle.site.specs.Rules.{segment, crossing, entries_of, inside, allows, absent_of};
 ghost use Rattle.site.specs.Rules.{needed, lacking, bits, rule_of, on_curve, settled, settle, absent, holds, edition_known, years_known};
 ghost use Rattle.site.specs.Rules.{has_sight};
+ghost use Rattle.site.specs.Kinds.{number_of_kind};
 ghost use Rattle.site.specs.declared.rules.Rule.TheVariants as rule;
 
+use crate::kind::Kind;
 use crate::values::Slot;
 
 // What a kind says of a field. Ranges are from the first number to the second; the third is the
@@ -36,8 +38,6 @@ use Entry::{Always, OnCurve};
 use Rule::{Default, Lacking, Needed, Optional};
 
 pub const SLOTS: usize = 20;
-
-pub const LAST_KIND: u8 = 3;
 
 const LAST_EDITION: u64 = 2;
 
@@ -142,42 +142,47 @@ fn sight_rule(edition: u64, quadrants: Rule) -> Rule
     if edition <= 1 { quadrants } else { Lacking }
 }
 
-// The table of rules in an edition: 0 segment, 1 3ST, 2 4ST, 3 4SG.
-pub fn entries_of(edition: u64, kind: u8) -> [Entry; SLOTS]
-    requires { kind ≤ last_kind }
-    ensures { result ≡ entries_of edition kind }
+// The table of rules in an edition.
+#[tactic(auto, unfolding(crate::specs::Rules::entries_of))]
+pub fn entries_of(edition: u64, kind: Kind) -> [Entry; SLOTS]
+    ensures { result ≡ entries_of edition (number_of_kind kind) }
 {
     match kind {
-        0 => segment_entries(),
-        1 => crossing_entries(SKEW, ONE_LANE, ONE_LANE, sight_rule(edition, TWO_QUADRANTS)),
-        2 => crossing_entries(
+        Kind::Segment => segment_entries(),
+        Kind::ThreeLegStop => crossing_entries(
+            SKEW,
+            ONE_LANE,
+            ONE_LANE,
+            sight_rule(edition, TWO_QUADRANTS),
+        ),
+        Kind::FourLegStop => crossing_entries(
             SKEW,
             TWO_LANES,
             TWO_LANES,
             sight_rule(edition, FOUR_QUADRANTS),
         ),
-        _ => crossing_entries(Lacking, TWO_LANES, TWO_LANES, Lacking),
+        Kind::FourLegSignal => crossing_entries(Lacking, TWO_LANES, TWO_LANES, Lacking),
     }
 }
 
 fn is_inside(low: u16, high: u16, value: u16) -> bool
     ensures { result ≡ inside low high value }
 {
-    low <= value && value <= high
+    (low..=high).contains(&value)
 }
 
 // Whether there is such an edition.
 pub fn is_edition_known(edition: u64) -> bool
     ensures { result ≡ edition_known edition }
 {
-    1 <= edition && edition <= LAST_EDITION
+    (1..=LAST_EDITION).contains(&edition)
 }
 
 // Whether a project can have so many years.
 pub fn are_years_known(years: u64) -> bool
     ensures { result ≡ years_known years }
 {
-    1 <= years && years <= MOST_YEARS
+    (1..=MOST_YEARS).contains(&years)
 }
 
 // A number that the rule takes.
@@ -251,7 +256,6 @@ fn settled_rule(curved: bool, entry: Entry) -> Rule
 
 // The rules of a road with a curve, or of a straight one.
 pub fn settle_rules(curved: bool, entries: [Entry; SLOTS]) -> [Rule; SLOTS]
-    requires { length entries ≡ slot_count }
     ensures { result ≡ settle curved entries }
 {
     entries.map(|entry| settled_rule(curved, entry))

@@ -48,7 +48,6 @@ pub fn field_words(rule: Rule, map: u16) -> usize
 
 // How many two-byte numbers follow the map.
 pub fn count_words(rules: [Rule; SLOTS], map: u16) -> usize
-    requires { length rules ≡ slot_count }
     ensures { (result ≡ words rules map) × (result ≤ slot_count) }
 {
     let mut rest = map;

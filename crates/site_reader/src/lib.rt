@@ -2,7 +2,8 @@
 #![tactic(auto)]
 
 ghost use Rattle.std.specs.Prelude.{◌≡◌, ◌+◌, ◌-◌, ◌*◌, ◌≤◌, ◌<◌, true, cond, ◌&&◌, length, drop, eqb};
-ghost use Rattle.site.specs.Rules.{last_kind, slot_count, later_years, years_known};
+ghost use Rattle.site.specs.Rules.{slot_count, later_years, years_known};
+ghost use Rattle.site.specs.Kinds.{number_of_kind};
 ghost use Rattle.site.specs.Refusals.{answer_by, checked};
 ghost use Rattle.site.specs.Answers.{read_answer};
 ghost use Rattle.site.specs.Record.{stands, lacked_bit_stands, lacks, needed_bit_absent, misses, curve_bit_stands, curved, rules_read};
@@ -14,8 +15,9 @@ ghost use Rattle.site.specs.LaterLaws.{place_after};
 ghost use Rattle.site.specs.Accepted.{Parts};
 ghost use Rattle.site.specs.Promises.{ReadsSite};
 
+use site::kind::Kind;
 use site::refusal::Refusal;
-use site::rules::{Entry, LAST_KIND, LATER_YEARS, Rule, SLOTS};
+use site::rules::{Entry, LATER_YEARS, Rule, SLOTS};
 use site::values::{Later, Site, Slot};
 use site::words::{bit_of, count_words, field_words, rest_of, word_at};
 use site::{rules, values};
@@ -46,7 +48,6 @@ fn curve_bit_stands(entry: Entry, map: u16) -> bool
 
 // Whether a bit of the curve stands.
 fn is_curved(entries: [Entry; SLOTS], map: u16) -> bool
-    requires { length entries ≡ slot_count }
     ensures { result ≡ curved entries map }
 {
     let mut rest = map;
@@ -61,7 +62,6 @@ fn is_curved(entries: [Entry; SLOTS], map: u16) -> bool
 
 // Refuses a map with a bit that the kind lacks, else one that misses a needed bit.
 fn check_map(rules: [Rule; SLOTS], map: u16) -> Result<(), Refusal>
-    requires { length rules ≡ slot_count }
     ensures { result ≡ checked (cond (lacks rules map) 6 (cond (misses rules map) 7 0)) }
 {
     let mut rest = map;
@@ -167,7 +167,7 @@ fn read_values(
     traffic: Later,
     minor_traffic: Later,
 ) -> Result<(Site, usize), Refusal>
-    requires rules_len { (length rules ≡ slot_count) × (later ≤ later_years) × (minor ≤ later_years) }
+    requires later_few { (later ≤ later_years) × (minor ≤ later_years) }
     requires minor_in_bounds { (4 + 2 * later + 2 * minor ≤ length s.now) × (2 * (words rules map + (later + minor)) ≤ length s.now) }
     ensures { result ≡ read_answer (fields_number rules map (gathered later minor s.now))
         (site_of kind (fields_values rules map (gathered later minor s.now)) traffic minor_traffic)
@@ -196,7 +196,7 @@ fn read_present(
     part: &[u8],
     later: usize,
 ) -> Result<(Site, usize), Refusal>
-    requires rules_len { (length rules ≡ slot_count) × (later ≤ later_years) }
+    requires later_few { later ≤ later_years }
     requires later_in_bounds { (7 + 2 * later + 2 * later_minor kind later ≤ length part.now) × (3 + 2 * (words rules map + (later + later_minor kind later)) ≤ length part.now) }
     ensures { result ≡ read_answer
         (cond (later_allowed later (drop 5 part.now) && later_allowed (later_minor kind later) (drop (7 + 2 * later) part.now))
@@ -241,9 +241,8 @@ fn later_in(years: u64, yearly: usize) -> usize
 }
 
 // The rules by which a kind and a map are read in an edition.
-fn rules_read(edition: u64, kind: u8, map: u16) -> [Rule; SLOTS]
-    requires { kind ≤ last_kind }
-    ensures { result ≡ rules_read edition kind map }
+fn rules_read(edition: u64, kind: Kind, map: u16) -> [Rule; SLOTS]
+    ensures { result ≡ rules_read edition (number_of_kind kind) map }
 {
     let entries = rules::entries_of(edition, kind);
     rules::settle_rules(is_curved(entries, map), entries)
@@ -253,12 +252,12 @@ fn rules_read(edition: u64, kind: u8, map: u16) -> [Rule; SLOTS]
 fn read_record(
     edition: u64,
     years: u64,
-    kind: u8,
+    kind: Kind,
     map: u16,
     yearly: usize,
     part: &[u8],
 ) -> Result<(Site, usize), Refusal>
-    requires { (years_known years ≡ true) × (yearly ≤ 1) × (kind ≤ last_kind) × Parts part.now kind map yearly }
+    requires { (years_known years ≡ true) × (yearly ≤ 1) × Parts part.now (number_of_kind kind) map yearly }
     ensures { result ≡ read_answer (record_number edition years part.now) (site_in edition years part.now)
         (length_in edition years part.now) }
 {
@@ -268,11 +267,12 @@ fn read_record(
         return Err(Refusal::BitMissing);
     }
     let later = later_in(years, yearly);
-    let minor = values::minor_later(kind, later);
+    let byte = u8::from(kind);
+    let minor = values::minor_later(byte, later);
     if part.len() < 3 + 2 * (count_words(rules, map) + (later + minor)) {
         return Err(Refusal::TooShort);
     }
-    read_present(kind, rules, map, part, later)
+    read_present(byte, rules, map, part, later)
 }
 
 // The record that a part starts with, in a project of an edition and of so many years: its site and its length, or why it is
@@ -289,10 +289,7 @@ pub fn read_site(edition: u64, years: u64, part: &[u8]) -> Result<(Site, usize),
     if part.len() < 3 {
         return Err(Refusal::TooShort);
     }
-    let kind = part[0];
-    if LAST_KIND < kind {
-        return Err(Refusal::KindUnknown);
-    }
+    let kind = Kind::try_from(part[0])?;
     let whole = word_at(part, 1);
     read_record(
         edition,

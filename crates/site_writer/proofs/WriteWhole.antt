@@ -14,6 +14,8 @@ use Rattle.site.specs.declared.rules.Rule.{Rule}
 use Rattle.site.specs.declared.values.Site.{Site}
 use Rattle.site.specs.declared.refusal.Refusal.TheVariants as refused
 use Rattle.site.specs.declared.rules.Rule.TheVariants.{Foreign}
+use Rattle.site.specs.declared.kind.Kind.{Kind}
+use Rattle.site.specs.Kinds.{number_of_kind, kind_known}
 use Rattle.site.specs.Rules.{last_kind, edition_known, years_known, later_years, slot_count}
 use Rattle.site.specs.Yearly.{later_slots, yearly, later_given, later_minor}
 use Rattle.laws.specs.Truth.{and_left, and_right}
@@ -69,10 +71,11 @@ pub record Found (edition : ℕ) (site : Site) (slots : List (Option ℕ)) (rule
   pub slots_are : slots ≡ slots_of site
   pub rules_are : rules ≡ rules_held edition site.kind slots
 
-pub found : (edition : ℕ) (site : Site) (slots : List (Option ℕ)) (rules : List Rule) → site.kind ≤ last_kind → slots ≡ slots_of site
-    → rules ≡ rules_held edition site.kind slots
+pub found : (edition : ℕ) (site : Site) (slots : List (Option ℕ)) (rules : List Rule) (kind : Kind) → number_of_kind kind ≡ site.kind
+    → slots ≡ slots_of site
+    → rules ≡ rules_held edition (number_of_kind kind) slots
     → Found edition site slots rules
-found edition site slots rules k s r = record { kind_known = k; slots_are = s; rules_are = r }
+found edition site slots rules kind k s r = record { kind_known = rw k at (kind_known kind); slots_are = s; rules_are = rw k at r }
 
 module _ {edition : ℕ} {site : Site} {slots : List (Option ℕ)} {rules : List Rule} (f : Found edition site slots rules) where
   pub bits_few : bit_count rules ≤ 15

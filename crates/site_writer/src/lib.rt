@@ -3,7 +3,8 @@
 
 ghost use Rattle.std.specs.Prelude.{◌≡◌, ◌+◌, ◌*◌, ◌≤◌, ◌<◌, length, drop, true, cond, ◌&&◌, not, ◌∷◌, Some, None};
 ghost use Rattle.std.proofs.lemmas.List.Edits.{sets};
-ghost use Rattle.site.specs.Rules.{last_kind, slot_count, later_years, years_known, traffic, bits, on_curve, absent};
+ghost use Rattle.site.specs.Kinds.{number_of_kind};
+ghost use Rattle.site.specs.Rules.{later_years, years_known, traffic, bits, on_curve, absent};
 ghost use Rattle.site.specs.Yearly.{later_given};
 ghost use Rattle.laws.specs.Stores.{Puts};
 ghost use Rattle.site.specs.Writing.{curve_held, rules_held, fits, all_fit, slot_bit, map_of, two_bytes, slot_bytes, field_bytes, bytes_of};
@@ -11,8 +12,9 @@ ghost use Rattle.site.specs.Writing.{later_bytes, spread_bytes, record_of, later
 ghost use Rattle.site.specs.Tested.{bit_count};
 ghost use Rattle.site.specs.Promises.{MeasuresSite, WritesSite};
 
+use site::kind::Kind;
 use site::refusal::Refusal;
-use site::rules::{Entry, LAST_KIND, LATER_YEARS, Rule, SLOTS};
+use site::rules::{Entry, LATER_YEARS, Rule, SLOTS};
 use site::values::{Site, Slot};
 use site::words::put_word;
 use site::{rules, values};
@@ -25,7 +27,6 @@ fn is_held(entry: Entry, slot: Slot) -> bool
 
 // Whether a slot of the curve holds a number.
 fn holds_curve(entries: [Entry; SLOTS], slots: [Slot; SLOTS]) -> bool
-    requires { (length entries ≡ slot_count) × (length slots ≡ slot_count) }
     ensures { result ≡ curve_held entries slots }
 {
     entries
@@ -35,9 +36,8 @@ fn holds_curve(entries: [Entry; SLOTS], slots: [Slot; SLOTS]) -> bool
 }
 
 // The rules by which a site is written in an edition.
-fn rules_held(edition: u64, kind: u8, slots: [Slot; SLOTS]) -> [Rule; SLOTS]
-    requires { (kind ≤ last_kind) × (length slots ≡ slot_count) }
-    ensures { result ≡ rules_held edition kind slots }
+fn rules_held(edition: u64, kind: Kind, slots: [Slot; SLOTS]) -> [Rule; SLOTS]
+    ensures { result ≡ rules_held edition (number_of_kind kind) slots }
 {
     let entries = rules::entries_of(edition, kind);
     rules::settle_rules(holds_curve(entries, slots), entries)
@@ -72,7 +72,7 @@ fn map_with(rule: Rule, slot: Slot, later: u16) -> u16
 }
 
 fn map_of(rules: [Rule; SLOTS], slots: [Slot; SLOTS]) -> u16
-    requires { (length rules ≡ slot_count) × (length slots ≡ slot_count) × (bit_count rules ≤ 15) }
+    requires { bit_count rules ≤ 15 }
     ensures { result ≡ map_of rules slots }
 {
     let mut map = 0;
@@ -122,7 +122,7 @@ fn put_later(slots: &[Slot], buffer: &mut [u8], at: usize) -> usize
 
 // Writes the fields of the slots after the minor traffic at a place, in rising order, and answers the place after them.
 fn put_fields(rules: [Rule; SLOTS], slots: [Slot; SLOTS], buffer: &mut [u8], at: usize) -> usize
-    requires { (length rules ≡ slot_count) × (length slots ≡ slot_count) × (at + length (bytes_of (drop 3 rules) (drop 3 slots)) ≤ length buffer.old) }
+    requires { at + length (bytes_of (drop 3 rules) (drop 3 slots)) ≤ length buffer.old }
     ensures { Puts buffer.old at (bytes_of (drop 3 rules) (drop 3 slots)) result buffer.new }
 {
     let mut place = at;
@@ -140,7 +140,7 @@ fn put_spread(
     minor: [Slot; LATER_YEARS],
     buffer: &mut [u8],
 ) -> usize
-    requires { (length rules ≡ slot_count) × (length slots ≡ slot_count) × (3 + length (spread_bytes rules slots (later_bytes traffic) (later_bytes minor)) ≤ length buffer.old) }
+    requires { 3 + length (spread_bytes rules slots (later_bytes traffic) (later_bytes minor)) ≤ length buffer.old }
     ensures { Puts buffer.old 3 (spread_bytes rules slots (later_bytes traffic) (later_bytes minor)) result buffer.new }
 {
     let after_traffic = put_field(rules[0], slots[0], buffer, 3);
@@ -155,12 +155,12 @@ fn put_spread(
 fn field_length(rule: Rule, slot: Slot) -> usize
     ensures { (result ≡ length (field_bytes rule slot)) × (result ≤ 2) }
 {
-    2 * slot_bit(rule, slot) as usize
+    2 * usize::from(slot_bit(rule, slot))
 }
 
 // The length of the record with so many bytes more for later values, where every slot is within its rule.
 fn measure_slots(rules: [Rule; SLOTS], slots: [Slot; SLOTS], more: usize) -> Option<usize>
-    requires { (length rules ≡ slot_count) × (length slots ≡ slot_count) × (more ≤ 4 * later_years) }
+    requires { more ≤ 4 * later_years }
     ensures { result ≡ cond (all_fit rules slots) (Some (3 + more + length (bytes_of rules slots))) None }
 {
     let mut n = 3 + more;
@@ -186,7 +186,7 @@ fn is_later_right(given: bool, slot: Slot) -> bool
 
 // Whether just so many later years are given.
 fn does_later_fit(later: usize, slots: [Slot; LATER_YEARS]) -> bool
-    requires { (later ≤ later_years) × (length slots ≡ later_years) }
+    requires { later ≤ later_years }
     ensures { result ≡ later_fits later slots }
 {
     slots
@@ -230,16 +230,15 @@ pub fn measure_site(edition: u64, years: u64, site: Site) -> Option<usize>
     if !rules::are_years_known(years) {
         return None;
     }
-    let kind = site.kind;
-    if LAST_KIND < kind {
+    let Ok(kind) = Kind::try_from(site.kind) else {
         return None;
-    }
+    };
     if !is_later_sound(years, site) {
         return None;
     }
     let slots = values::slots_of(site);
     let later = later_given(years, site);
-    let more = 2 * (later + values::minor_later(kind, later));
+    let more = 2 * (later + values::minor_later(site.kind, later));
     measure_slots(rules_held(edition, kind, slots), slots, more)
 }
 
@@ -271,11 +270,13 @@ pub fn put_record(edition: u64, years: u64, site: Site, buffer: &mut [u8]) -> us
     requires { Valid edition years site × (length (record_of edition site) ≤ length buffer.old) }
     ensures { (result ≡ length (record_of edition site)) × (buffer.new ≡ sets buffer.old 0 (record_of edition site)) }
 {
-    let kind = site.kind;
+    let Ok(kind) = Kind::try_from(site.kind) else {
+        unreachable!()
+    };
     let slots = values::slots_of(site);
     let rules = rules_held(edition, kind, slots);
     put_head(
-        kind,
+        site.kind,
         map_of(rules, slots) + bit_of_years(values::is_yearly(site)),
         buffer,
     );

@@ -22,7 +22,7 @@ const ANSWER_NUMBERS: usize = ALL_SLOTS + 2;
 fn code_of(slot: Slot) -> u64
     ensures { result ≡ code slot }
 {
-    slot.map_or(ABSENT, |value| value as u64)
+    slot.map_or(ABSENT, u64::from)
 }
 
 // Stores the codes of a run of slots from a place on.
@@ -53,7 +53,7 @@ fn put_site(site: Site, n: usize, values: &mut [u64])
     requires { answer_numbers ≤ length values.old }
     ensures { values.new ≡ sets values.old 0 (read_values (Ok (site, n))) }
 {
-    values[0] = site.kind as u64;
+    values[0] = u64::from(site.kind);
     put_slots(site, values);
     values[SITE_NUMBERS] = n as u64;
 }
@@ -95,7 +95,7 @@ const NO_KIND: u8 = 255;
 fn kind_from(number: u64) -> u8
     ensures { result ≡ kind_from number }
 {
-    if number < 256 { number as u8 } else { NO_KIND }
+    u8::try_from(number).unwrap_or(NO_KIND)
 }
 
 fn slots_from(numbers: &[u64]) -> [Slot; ALL_SLOTS]

@@ -4,14 +4,11 @@ ghost use Rattle.std.proofs.Math.Dec.{ltb};
 
 use crate::word::{Wide, product};
 
-// Whether v < w: the high words decide, and the low ones where those are equal.
+// Whether v < w.
 fn is_below(v: Wide, w: Wide) -> bool
     ensures { result ≡ ltb (v.high * 2 ^ 64 + v.low) (w.high * 2 ^ 64 + w.low) }
 {
-    if v.high == w.high {
-        return v.low < w.low;
-    }
-    v.high < w.high
+    v < w
 }
 
 // Whether a * b < c * d. With b and d not 0 it is whether a / d < c / b.

@@ -1,6 +1,8 @@
 -- Edition and years are within their limits, kind and map are there, then the fields are read by their rules.
 use borrow.Author.Tests.{lt-ltb, le-ltb}
-use mathlib.Core.Path.{refl, ap, sym, ◌∙◌}
+use mathlib.Core.Path.{ap, sym, ◌∙◌}
+use Rattle.std.proofs.lemmas.Result.{err_from_is_err_and}
+use Rattle.site.specs.Kinds.{kind_known}
 use Rattle.site.specs.Record.{yearly_bit, field_map, refusal_of, read_site}
 use Rattle.site.proofs.Promises.{reads_site}
 use Rattle.site_reader.proofs.read_site.Goals as goal
@@ -19,24 +21,25 @@ returns-then-part-lt3 c =
     reads_site _ _ _ _
     (simp (sym c.is_edition_known.ensures ∙ c.if-not-is_edition_known.false, sym c.are_years_known.ensures ∙ c.if-not-are_years_known.false, lt-ltb _ _ c.if-part-lt3.true))
 
-pub returns-then-kind-gt-LAST_KIND : goal.returns-then-kind-gt-LAST_KIND
+pub returns-in_err-kind : goal.returns-in_err-kind
 unfolding read_site refusal_of
-returns-then-kind-gt-LAST_KIND c =
+returns-in_err-kind c =
+    let p = err_from_is_err_and c.from_residual.result c.from_residual.ensures.1 in
+    let unknown = c.in_err-kind.ensures in
     reads_site _ _ _ _
-    (simp (
+    (rw (p.1, p.2, unknown.0) (simp (
       (sym c.is_edition_known.ensures ∙ c.if-not-is_edition_known.false),
       sym c.are_years_known.ensures ∙ c.if-not-are_years_known.false,
       le-ltb _ _ c.if-part-lt3.false,
-      lt-ltb _ _ c.if-kind-gt-LAST_KIND.true,
-    ))
+      lt-ltb _ _ unknown.1,
+    )))
 
 pub read_record-requires : goal.read_record-requires
 read_record-requires c = (
   sym c.are_years_known.ensures ∙ c.if-not-are_years_known.false,
   c.yearly_bit.ensures.1,
-  c.if-kind-gt-LAST_KIND.false,
   record {
-    kind_is = refl;
+    kind_is = sym (c.in_ok-kind.ensures);
     map_is = sym (c.field_map.ensures ∙ ap field_map c.word_at-whole.ensures);
     bit_is = sym (c.yearly_bit.ensures.0 ∙ ap yearly_bit c.word_at-whole.ensures);
   },
@@ -50,6 +53,6 @@ returns c =
       (sym c.is_edition_known.ensures ∙ c.if-not-is_edition_known.false),
       sym c.are_years_known.ensures ∙ c.if-not-are_years_known.false,
       le-ltb _ _ c.if-part-lt3.false,
-      le-ltb _ _ c.if-kind-gt-LAST_KIND.false,
+      le-ltb _ _ (rw c.in_ok-kind.ensures at (kind_known c.in_ok-kind.kind)),
     )
     c.read_record.ensures)

@@ -7,7 +7,7 @@ use Rattle.std.proofs.lemmas.Iterator.{YieldsList-from_slice}
 use Rattle.std.proofs.lemmas.Iterator.Consumers.{YieldsList-from_enumerate}
 use Rattle.std.proofs.lemmas.Iterator.Search.{all_from_yields_List}
 use Rattle.std.specs.List.{list_all, enumerate_from}
-use Rattle.site.specs.Rules.{traffic, absent}
+use Rattle.site.specs.Rules.{later_years, traffic, absent}
 use Rattle.site.specs.Writing.{fits, later_fits}
 use Rattle.site_writer.proofs.does_later_fit.Goals as goal
 
@@ -30,7 +30,8 @@ all_right later i (slot ∷ slots) h = rw (all_right later (i + 1) slots (omega 
 
 pub returns : goal.returns
 returns c =
+    let long : length c.args.slots ≡ later_years = search rules in
     let start : c.args.later - 0 ≡ c.args.later = omega arith in
     all_from_yields_List (right c.args.later) _ _ _ c.all.ensures.ran
     (YieldsList-from_enumerate (YieldsList-from_slice c.args.slots cc) cc) (λ x b q k. search (rules, tests))
-    ∙ rw start at (all_right c.args.later 0 c.args.slots (omega (arith, c.requires.0, c.requires.1)))
+    ∙ rw start at (all_right c.args.later 0 c.args.slots (omega (arith, c.requires, long)))

@@ -10,8 +10,8 @@ returns-then-not-is_edition_known c = edition_outside _ _ _ (sym c.is_edition_kn
 pub returns-then-not-are_years_known : goal.returns-then-not-are_years_known
 returns-then-not-are_years_known c = years_outside _ _ _ (sym c.are_years_known.ensures ∙ c.if-not-are_years_known.true)
 
-pub returns-then-kind-gt-LAST_KIND : goal.returns-then-kind-gt-LAST_KIND
-returns-then-kind-gt-LAST_KIND c = kind_outside _ _ _ c.if-kind-gt-LAST_KIND.true
+pub returns-in_default : goal.returns-in_default
+returns-in_default c = kind_outside _ _ _ c.in_default.ensures.1
 
 pub returns-then-not-is_later_sound : goal.returns-then-not-is_later_sound
 returns-then-not-is_later_sound c = later_outside _ _ _ (sym c.is_later_sound.ensures ∙ c.if-not-is_later_sound.true)
@@ -19,7 +19,7 @@ returns-then-not-is_later_sound c = later_outside _ _ _ (sym c.is_later_sound.en
 pub returns : goal.returns
 returns c =
     let a = c.args in
-    let f = found a.edition a.site _ _ c.if-kind-gt-LAST_KIND.false c.slots_of-slots.ensures c.rules_held.ensures in
+    let f = found a.edition a.site _ _ _ c.in-Ok.ensures c.slots_of-slots.ensures c.rules_held.ensures in
     let whole = measured_by f a.years (sym c.is_later_sound.ensures ∙ c.if-not-is_later_sound.false)
     (sym c.is_edition_known.ensures ∙ c.if-not-is_edition_known.false) (sym c.are_years_known.ensures ∙ c.if-not-are_years_known.false) in
     measures_site _ _ _ _ (rw (whole, ← c.later_given-later.ensures.0, ← c.minor_later.ensures.0) c.measure_slots.ensures)

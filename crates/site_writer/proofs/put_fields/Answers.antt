@@ -1,4 +1,4 @@
-use Rattle.std.proofs.Common.{◌≡◌, ap, List, length, take, drop, arith, length-drop, take_all}
+use Rattle.std.proofs.Common.{◌≡◌, ap, List, length, take, drop, arith, rules, length-drop, take_all}
 use Rattle.std.proofs.lemmas.Iterator.{empty_from_Zip}
 use Rattle.std.specs.Iterator.Adapters.{zip_first, zip_second}
 use Rattle.std.specs.Slice.Iter.{iter_rest}
@@ -13,14 +13,16 @@ from_third xs h = take_all 17 (drop 3 xs) (omega (arith, length-drop 3 xs))
 
 pub loop-rule-init : goal.loop-rule-init
 loop-rule-init c =
-    let rules : iter_rest (zip_first c.into_iter-rule-iterator.result) ≡ drop 3 c.args.rules = cc (from_third c.args.rules c.requires.0) in
-    let slots : iter_rest (zip_second c.into_iter-rule-iterator.result) ≡ drop 3 c.args.slots = cc (from_third c.args.slots c.requires.1) in
-    rw (rules, slots) (omega (arith, length-drop 3 c.args.rules, length-drop 3 c.args.slots, c.requires.0, c.requires.1), putting_start _ _ _)
+    let rules_long : length c.args.rules ≡ slot_count = search rules in
+    let slots_long : length c.args.slots ≡ slot_count = search rules in
+    let rules : iter_rest (zip_first c.into_iter-rule-iterator.result) ≡ drop 3 c.args.rules = cc (from_third c.args.rules rules_long) in
+    let slots : iter_rest (zip_second c.into_iter-rule-iterator.result) ≡ drop 3 c.args.slots = cc (from_third c.args.slots slots_long) in
+    rw (rules, slots) (omega (arith, length-drop 3 c.args.rules, length-drop 3 c.args.slots, rules_long, slots_long), putting_start _ _ _)
 
 pub put_field-place-requires : goal.put_field-place-requires
 put_field-place-requires c =
     let now = c.in-Some.ensures.steps in
-    putting_room _ _ c.loop-rule.invariant.1 (bytes_next now.0 now.1) (omega (arith, c.requires.2))
+    putting_room _ _ c.loop-rule.invariant.1 (bytes_next now.0 now.1) (omega (arith, c.requires))
 
 pub loop-rule-preserved : goal.loop-rule-preserved
 loop-rule-preserved c =

@@ -18,22 +18,22 @@ unfolding spread_bytes
 room rules slots traffic minor all h = omega (arith, simp length-append at h)
 
 pub put_field-after_traffic-requires : goal.put_field-after_traffic-requires
-put_field-after_traffic-requires c = omega (arith, room _ _ _ _ _ c.requires.2)
+put_field-after_traffic-requires c = omega (arith, room _ _ _ _ _ c.requires)
 
 pub put_later-after_later-requires : goal.put_later-after_later-requires
-put_later-after_later-requires c = let r = room _ _ _ _ _ c.requires.2 in search rules
+put_later-after_later-requires c = let r = room _ _ _ _ _ c.requires in search rules
 
 pub put_field-after_length-requires : goal.put_field-after_length-requires
-put_field-after_length-requires c = omega (arith, room _ _ _ _ _ c.requires.2)
+put_field-after_length-requires c = omega (arith, room _ _ _ _ _ c.requires)
 
 pub put_field-after_minor-requires : goal.put_field-after_minor-requires
-put_field-after_minor-requires c = omega (arith, room _ _ _ _ _ c.requires.2)
+put_field-after_minor-requires c = omega (arith, room _ _ _ _ _ c.requires)
 
 pub put_later-after_later_minor-requires : goal.put_later-after_later_minor-requires
-put_later-after_later_minor-requires c = let r = room _ _ _ _ _ c.requires.2 in search rules
+put_later-after_later_minor-requires c = let r = room _ _ _ _ _ c.requires in search rules
 
 pub put_fields-requires : goal.put_fields-requires
-put_fields-requires c = let r = room _ _ _ _ _ c.requires.2 in search rules
+put_fields-requires c = let r = room _ _ _ _ _ c.requires in search rules
 
 pub returns : goal.returns
 unfolding spread_bytes

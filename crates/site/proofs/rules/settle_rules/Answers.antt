@@ -9,4 +9,4 @@ use Rattle.site.proofs.rules.settle_rules.Goals as goal
 
 pub returns : goal.returns
 returns c =
-    map_is (settled c.args.curved) (λ p. p.0.now ≡ c.args.curved) (λ p x y q keeps called. (search rules, grind rules)) _ _ _ _ (Always Foreign) Foreign refl c.requires c.map.ensures.items
+    map_is (settled c.args.curved) (λ p. p.0.now ≡ c.args.curved) (λ p x y q keeps called. (search rules, grind rules)) _ _ _ _ (Always Foreign) Foreign refl (search rules) c.map.ensures.items
