@@ -7,25 +7,30 @@ ghost use Rattle.bracket.specs.Ratio.{coded};
 
 use bracket::Ratio;
 
-// 127 and 125 to the powers 0 to 6: 1.016 is 127 / 125.
-const POWERS_OF_127: [u64; 7] = [
-    1,
-    127,
-    16129,
-    2048383,
-    260144641,
-    33038369407,
-    4195872914689,
-];
-
-const POWERS_OF_125: [u64; 7] = [
-    1,
-    125,
-    15625,
-    1953125,
-    244140625,
-    30517578125,
-    3814697265625,
+// 1.016, which is 127 / 125, to the powers 0 to 6.
+const GRADE_POWERS: [Ratio; 7] = [
+    Ratio { num: 1, den: 1 },
+    Ratio { num: 127, den: 125 },
+    Ratio {
+        num: 16129,
+        den: 15625,
+    },
+    Ratio {
+        num: 2048383,
+        den: 1953125,
+    },
+    Ratio {
+        num: 260144641,
+        den: 244140625,
+    },
+    Ratio {
+        num: 33038369407,
+        den: 30517578125,
+    },
+    Ratio {
+        num: 4195872914689,
+        den: 3814697265625,
+    },
 ];
 
 // The factor of a curve, which is never below 1.
@@ -69,21 +74,14 @@ fn grade_power(exponent: u64) -> Ratio
     requires { exponent ≤ 6 }
     ensures { result ≡ coded ((127 ÷ 125) ^ᶠ exponent) }
 {
-    let place = exponent as usize;
-    Ratio {
-        num: POWERS_OF_127[place],
-        den: POWERS_OF_125[place],
-    }
+    GRADE_POWERS[exponent as usize]
 }
 
 // Edition 1's factor of a grade, for up to 6 percent: the whole would not fit 64 bits.
 fn power_to_six(percent: u64) -> Ratio
     ensures { result ≡ coded (edition_one.grade percent) }
 {
-    if percent < 6 {
-        return grade_power(percent);
-    }
-    grade_power(6)
+    grade_power(percent.min(6))
 }
 
 // And for what is above 6.
@@ -91,10 +89,7 @@ fn power_above_six(percent: u64) -> Ratio
     requires { percent ≤ 12 }
     ensures { result ≡ coded (edition_one.steep_grade percent) }
 {
-    if percent < 6 {
-        return grade_power(0);
-    }
-    grade_power(percent - 6)
+    grade_power(percent.saturating_sub(6))
 }
 
 // Edition 2's factor of a grade: level, moderate or steep.

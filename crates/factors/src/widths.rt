@@ -114,13 +114,7 @@ fn at_traffic(column: Column, traffic: u64) -> u64
 fn lane_place(feet: u64) -> u64
     ensures { result ≡ lane_column feet }
 {
-    if feet <= 9 {
-        return 0;
-    }
-    if feet <= 12 {
-        return feet - 9;
-    }
-    3
+    feet.saturating_sub(9).min(3)
 }
 
 // The factor 1 + share (r - 1), of r / unit and a share in thousandths.

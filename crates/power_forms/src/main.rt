@@ -9,10 +9,7 @@ use bracket::Bracket;
 use input::fill_buffer;
 use power::power;
 use power_by_ends::power_by_ends;
-use std::io;
-
-// The upper four bytes of a number count so many times their value.
-const HALF: u64 = 4294967296;
+use std::{array, io};
 
 // The bytes of three numbers.
 const ARGUMENTS: usize = 24;
@@ -20,20 +17,11 @@ const ARGUMENTS: usize = 24;
 // What follows so many arguments is not read.
 const INPUT_ROOM: usize = 4096 * ARGUMENTS;
 
-// The four-byte number at a place, high byte first.
-fn half_at(input: &[u8], at: usize) -> u64
-    requires { at + 4 ≤ length input.now }
-    ensures { result < 4294967296 }
-{
-    let upper = u64::from(input[at]) * 256 + u64::from(input[at + 1]);
-    upper * 65536 + u64::from(input[at + 2]) * 256 + u64::from(input[at + 3])
-}
-
 // The eight-byte number at a place, high byte first.
 fn number_at(input: &[u8], at: usize) -> u64
     requires { at + 8 ≤ length input.now }
 {
-    half_at(input, at) * HALF + half_at(input, at + 4)
+    u64::from_be_bytes(array::from_fn(|i| input[at + i]))
 }
 
 fn print_answer(rt: &impl Print, answer: Option<Bracket>) -> io::Result<()> {

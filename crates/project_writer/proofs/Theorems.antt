@@ -1,7 +1,6 @@
 -- Laws of Theorems in specs/.
 use Rattle.std.specs.Prelude.{Result, Ok, Err}
 use Rattle.site.specs.declared.refusal.Refusal.{Refusal}
-use Rattle.project.specs.declared.Refused.{Refused}
 use Rattle.std.proofs.Math.Path.{◌≡◌, refl, ap, sym}
 use Rattle.std.proofs.Common.{◌∙◌, arith, length-append, drop_of_length-le, take_at, ltb-false, le-ltb}
 use Rattle.std.specs.Prelude.{Bool}

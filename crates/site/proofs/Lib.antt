@@ -5,6 +5,7 @@ pub mod Curve
 pub mod FieldsRead
 pub mod Known
 pub mod PlaceLaws
+pub mod Project
 pub mod Promises
 pub mod ReadWrite
 pub mod RecordCauses

@@ -5,9 +5,11 @@ ghost use Rattle.site.specs.Rules.{segment, crossing, entries_of, inside, allows
 ghost use Rattle.site.specs.Rules.{needed, lacking, bits, rule_of, on_curve, settled, settle, absent, holds, edition_known, years_known};
 ghost use Rattle.site.specs.Rules.{has_sight};
 ghost use Rattle.site.specs.Kinds.{number_of_kind};
+ghost use Rattle.site.specs.Refusals.{checked};
 ghost use Rattle.site.specs.declared.rules.Rule.TheVariants as rule;
 
 use crate::kind::Kind;
+use crate::refusal::Refusal;
 use crate::values::Slot;
 
 // What a kind says of a field. Ranges are from the first number to the second; the third is the
@@ -183,6 +185,19 @@ pub fn are_years_known(years: u64) -> bool
     ensures { result ≡ years_known years }
 {
     (1..=MOST_YEARS).contains(&years)
+}
+
+// Tries the edition, then the years of a project.
+pub fn check_project(edition: u64, years: u64) -> Result<(), Refusal>
+    ensures { result ≡ checked (cond (edition_known edition) (cond (years_known years) 0 4) 3) }
+{
+    if !is_edition_known(edition) {
+        return Err(Refusal::EditionUnknown);
+    }
+    if !are_years_known(years) {
+        return Err(Refusal::OutsideLimits);
+    }
+    Ok(())
 }
 
 // A number that the rule takes.

@@ -158,7 +158,7 @@ fn place_of(count: usize, later: usize, minor: usize) -> usize
 // The fields one by one: the first refusal, or the site of those that stand and of those that do not, with these later years and
 // its record's length. s is what follows the map, with the later values behind the traffics.
 fn read_values(
-    kind: u8,
+    kind: Kind,
     rules: [Rule; SLOTS],
     map: u16,
     s: &[u8],
@@ -170,7 +170,7 @@ fn read_values(
     requires later_few { (later ≤ later_years) × (minor ≤ later_years) }
     requires minor_in_bounds { (4 + 2 * later + 2 * minor ≤ length s.now) × (2 * (words rules map + (later + minor)) ≤ length s.now) }
     ensures { result ≡ read_answer (fields_number rules map (gathered later minor s.now))
-        (site_of kind (fields_values rules map (gathered later minor s.now)) traffic minor_traffic)
+        (site_of (number_of_kind kind) (fields_values rules map (gathered later minor s.now)) traffic minor_traffic)
         (3 + 2 * (words rules map + (later + minor))) }
 {
     let mut slots = [None; SLOTS];
@@ -183,30 +183,30 @@ fn read_values(
         rest = rest_of(rule, rest);
     }
     Ok((
-        values::site_of(kind, slots, traffic, minor_traffic),
+        values::site_of(u8::from(kind), slots, traffic, minor_traffic),
         3 + 2 * (count + (later + minor)),
     ))
 }
 
 // A record whose map is right and whose fields are all there: the later values are tried, then the fields one by one.
 fn read_present(
-    kind: u8,
+    kind: Kind,
     rules: [Rule; SLOTS],
     map: u16,
     part: &[u8],
     later: usize,
 ) -> Result<(Site, usize), Refusal>
     requires later_few { later ≤ later_years }
-    requires later_in_bounds { (7 + 2 * later + 2 * later_minor kind later ≤ length part.now) × (3 + 2 * (words rules map + (later + later_minor kind later)) ≤ length part.now) }
+    requires later_in_bounds { (7 + 2 * later + 2 * later_minor (number_of_kind kind) later ≤ length part.now) × (3 + 2 * (words rules map + (later + later_minor (number_of_kind kind) later)) ≤ length part.now) }
     ensures { result ≡ read_answer
-        (cond (later_allowed later (drop 5 part.now) && later_allowed (later_minor kind later) (drop (7 + 2 * later) part.now))
-        (fields_number rules map (gathered later (later_minor kind later) (drop 3 part.now))) 8)
-        (site_of kind (fields_values rules map (gathered later (later_minor kind later) (drop 3 part.now)))
+        (cond (later_allowed later (drop 5 part.now) && later_allowed (later_minor (number_of_kind kind) later) (drop (7 + 2 * later) part.now))
+        (fields_number rules map (gathered later (later_minor (number_of_kind kind) later) (drop 3 part.now))) 8)
+        (site_of (number_of_kind kind) (fields_values rules map (gathered later (later_minor (number_of_kind kind) later) (drop 3 part.now)))
         (later_from_slots (later_read later_years later (drop 5 part.now)))
-        (later_from_slots (later_read later_years (later_minor kind later) (drop (7 + 2 * later) part.now))))
-        (3 + 2 * (words rules map + (later + later_minor kind later))) }
+        (later_from_slots (later_read later_years (later_minor (number_of_kind kind) later) (drop (7 + 2 * later) part.now))))
+        (3 + 2 * (words rules map + (later + later_minor (number_of_kind kind) later))) }
 {
-    let minor = values::minor_later(kind, later);
+    let minor = values::minor_later(u8::from(kind), later);
     let behind = 7 + 2 * later;
     if !are_later_allowed(later, part, 5) || !are_later_allowed(minor, part, behind) {
         return Err(Refusal::OutsideRange);
@@ -267,12 +267,11 @@ fn read_record(
         return Err(Refusal::BitMissing);
     }
     let later = later_in(years, yearly);
-    let byte = u8::from(kind);
-    let minor = values::minor_later(byte, later);
+    let minor = values::minor_later(u8::from(kind), later);
     if part.len() < 3 + 2 * (count_words(rules, map) + (later + minor)) {
         return Err(Refusal::TooShort);
     }
-    read_present(byte, rules, map, part, later)
+    read_present(kind, rules, map, part, later)
 }
 
 // The record that a part starts with, in a project of an edition and of so many years: its site and its length, or why it is
@@ -280,12 +279,7 @@ fn read_record(
 pub fn read_site(edition: u64, years: u64, part: &[u8]) -> Result<(Site, usize), Refusal>
     ensures { ReadsSite edition years part.now result }
 {
-    if !rules::is_edition_known(edition) {
-        return Err(Refusal::EditionUnknown);
-    }
-    if !rules::are_years_known(years) {
-        return Err(Refusal::OutsideLimits);
-    }
+    rules::check_project(edition, years)?;
     if part.len() < 3 {
         return Err(Refusal::TooShort);
     }

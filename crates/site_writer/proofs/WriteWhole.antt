@@ -1,7 +1,7 @@
 -- What the writer's steps say of a site, of its record's length, and of the answer and the buffer afterwards.
 use Rattle.std.specs.Prelude.{Option, None, Some, Ok, Err}
 use mathlib.Core.Path.{◌≡◌, refl, ap, sym, ◌∙◌}
-use mathlib.Core.Bool.{Bool, true, false, cond, ◌&&◌, and-false, and-true}
+use mathlib.Core.Bool.{Bool, true, false, cond, ◌&&◌, and-true}
 use mathlib.Core.List.{List, [], ◌∷◌, ◌++◌}
 use Prim.Native.Nat.{ℕ, ◌+◌, ◌*◌, ◌<◌, ◌≤◌}
 use native.Mathlib.Omega.{arith}
@@ -12,7 +12,9 @@ use lib.Seq.{sets}
 use Rattle.laws.specs.Stores.{Puts, sets_more}
 use Rattle.site.specs.declared.rules.Rule.{Rule}
 use Rattle.site.specs.declared.values.Site.{Site}
+use Rattle.site.specs.declared.refusal.Refusal.{Refusal}
 use Rattle.site.specs.declared.refusal.Refusal.TheVariants as refused
+use Rattle.site.specs.Refusals.{checked}
 use Rattle.site.specs.declared.rules.Rule.TheVariants.{Foreign}
 use Rattle.site.specs.declared.kind.Kind.{Kind}
 use Rattle.site.specs.Kinds.{number_of_kind, kind_known}
@@ -25,6 +27,7 @@ use Rattle.site.specs.Writing.{write_refusal, write_answer, write_into}
 use Rattle.site.specs.Tested.{bit_count, tested_rules}
 use Rattle.site.proofs.WriteRead.{first_field, second_field, other_fields, bytes_parts}
 use Rattle.site.specs.LaterLaws.{later_read_back}
+use Rattle.site.proofs.Project.{project_refused, project_unsound}
 use Rattle.site.proofs.Theorems.{ten_exactly}
 use Rattle.site.proofs.Written.{length_answered, record_written}
 use Rattle.site.specs.Promises.{MeasuresSite, measures_site, WritesSite, writes_site}
@@ -35,13 +38,9 @@ module _ (edition years : ℕ) (site : Site) where
   unfolding measure_of
   not_measured e = measures_site edition years site None (rw e)
 
-  pub edition_outside : edition_known edition ≡ false → MeasuresSite edition years site None
+  pub project_outside : {refused : Refusal} → checked (cond (edition_known edition) (cond (years_known years) 0 4) 3) ≡ Err refused → MeasuresSite edition years site None
   unfolding sound
-  edition_outside e = not_measured (rw e)
-
-  pub years_outside : years_known years ≡ false → MeasuresSite edition years site None
-  unfolding sound
-  years_outside e = not_measured (rw e (and-false (edition_known edition)))
+  project_outside e = not_measured (project_unsound _ _ _ e)
 
   pub kind_outside : last_kind < site.kind → MeasuresSite edition years site None
   unfolding sound sound_site
@@ -163,13 +162,12 @@ module _ {edition : ℕ} {site : Site} {slots : List (Option ℕ)} {rules : List
 
 -- the writer's answers
 module _ (edition years : ℕ) (site : Site) (before : List ℕ) where
-  pub edition_refused : edition_known edition ≡ false → WritesSite edition years site before before (Err refused.EditionUnknown)
+  pub project_told : {refused : Refusal} → checked (cond (edition_known edition) (cond (years_known years) 0 4) 3) ≡ Err refused
+      → WritesSite edition years site before before (Err refused)
   unfolding write_refusal write_answer write_into sound
-  edition_refused e = writes_site edition years site before before (Err refused.EditionUnknown) (rw e) (rw e)
-
-  pub years_refused : edition_known edition ≡ true → years_known years ≡ false → WritesSite edition years site before before (Err refused.OutsideLimits)
-  unfolding write_refusal write_answer write_into sound
-  years_refused x e = writes_site edition years site before before (Err refused.OutsideLimits) (rw (x, e)) (rw (x, e))
+  project_told e =
+      let unsound = project_unsound (edition_known edition) (years_known years) (sound_site edition years site) e in
+      writes_site edition years site before before _ (project_refused _ _ _ _ e) (rw unsound)
 
   pub outside : edition_known edition ≡ true → years_known years ≡ true → sound edition years site ≡ false
       → WritesSite edition years site before before (Err refused.OutsideRange)

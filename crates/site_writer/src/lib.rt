@@ -224,12 +224,7 @@ fn is_later_sound(years: u64, site: Site) -> bool
 pub fn measure_site(edition: u64, years: u64, site: Site) -> Option<usize>
     ensures { MeasuresSite edition years site result }
 {
-    if !rules::is_edition_known(edition) {
-        return None;
-    }
-    if !rules::are_years_known(years) {
-        return None;
-    }
+    rules::check_project(edition, years).ok()?;
     let Ok(kind) = Kind::try_from(site.kind) else {
         return None;
     };
@@ -257,11 +252,11 @@ fn bit_of_years(yearly: bool) -> u16
 }
 
 // Writes the kind and the map of a record.
-fn put_head(kind: u8, map: u16, buffer: &mut [u8])
+fn put_head(kind: Kind, map: u16, buffer: &mut [u8])
     requires { 3 ≤ length buffer.old }
-    ensures { buffer.new ≡ sets buffer.old 0 (kind ∷ two_bytes map) }
+    ensures { buffer.new ≡ sets buffer.old 0 (number_of_kind kind ∷ two_bytes map) }
 {
-    buffer[0] = kind;
+    buffer[0] = u8::from(kind);
     put_word(map, buffer, 1);
 }
 
@@ -276,7 +271,7 @@ pub fn put_record(edition: u64, years: u64, site: Site, buffer: &mut [u8]) -> us
     let slots = values::slots_of(site);
     let rules = rules_held(edition, kind, slots);
     put_head(
-        site.kind,
+        kind,
         map_of(rules, slots) + bit_of_years(values::is_yearly(site)),
         buffer,
     );
@@ -294,12 +289,7 @@ pub fn put_record(edition: u64, years: u64, site: Site, buffer: &mut [u8]) -> us
 pub fn write_site(edition: u64, years: u64, site: Site, buffer: &mut [u8]) -> Result<usize, Refusal>
     ensures { WritesSite edition years site buffer.old buffer.new result }
 {
-    if !rules::is_edition_known(edition) {
-        return Err(Refusal::EditionUnknown);
-    }
-    if !rules::are_years_known(years) {
-        return Err(Refusal::OutsideLimits);
-    }
+    rules::check_project(edition, years)?;
     let n = measure_site(edition, years, site).ok_or(Refusal::OutsideRange)?;
     if buffer.len() < n {
         return Err(Refusal::NoSpace);

@@ -5,7 +5,7 @@ use Rattle.site_reader.proofs.read_present.Goals as goal
 
 pub returns : goal.returns
 returns c =
-    let same = c.minor_later-minor.ensures.0 in
+    let same = rw c.from.ensures at c.minor_later-minor.ensures.0 in
     let traffic = sym c.are_later_allowed.ensures ∙ c.if-not-are_later_allowed.false in
     let told = rw same at (sym c.are_later_allowed-else-not-are_later_allowed.ensures ∙ c.if-not-are_later_allowed-2.false) in
     let laters = rw same at c.later_at-minor_traffic.ensures in

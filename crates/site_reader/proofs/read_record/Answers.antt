@@ -34,7 +34,7 @@ returns-then-part-count_words c =
     let several = sym c.is_yearly_in_one.ensures ∙ c.if-is_yearly_in_one.false in
     let told = space_tells a.edition a.years a.part.now _ _ _ _ parts are _ refl right.0 several in
     let long = length_told a.edition a.years a.part.now _ _ _ _ parts are in
-    let short = rw (c.count_words.ensures.0, c.minor_later-minor.ensures.0, c.later_in-later.ensures.0, c.from-byte.ensures, ← long) at c.if-part-count_words.true in
+    let short = rw (c.count_words.ensures.0, c.minor_later-minor.ensures.0, c.later_in-later.ensures.0, c.from.ensures, ← long) at c.if-part-count_words.true in
     simp (told, lt-ltb _ _ short)
 
 pub read_present-requires-clause-later_in_bounds : goal.read_present-requires-clause-later_in_bounds
@@ -43,8 +43,9 @@ read_present-requires-clause-later_in_bounds c =
     let parts = c.requires.2 in
     let right = told_value _ _ (sym c.check_map.ensures ∙ c.in_ok-check_map.was) in
     let two = two_words a.edition a.years a.part.now _ _ _ _ parts (rules_are a.edition parts c.rules_read-rules.ensures) _ refl (kind_known a.kind) right.0 in
+    let minor = rw c.from.ensures at c.minor_later-minor.ensures.0 in
     let left = c.if-part-count_words.false in
-    (omega (arith, c.minor_later-minor.ensures.0, c.count_words.ensures.0, two, left), omega (arith, c.minor_later-minor.ensures.0, c.count_words.ensures.0, left))
+    (omega (arith, minor, c.count_words.ensures.0, two, left), omega (arith, minor, c.count_words.ensures.0, left))
 
 pub returns : goal.returns
 returns c =
@@ -55,7 +56,7 @@ returns c =
     let several = sym c.is_yearly_in_one.ensures ∙ c.if-is_yearly_in_one.false in
     let told = space_tells a.edition a.years a.part.now _ _ _ _ parts are _ refl right.0 several in
     let long = length_told a.edition a.years a.part.now _ _ _ _ parts are in
-    let enough = rw (c.count_words.ensures.0, c.minor_later-minor.ensures.0, c.later_in-later.ensures.0, c.from-byte.ensures, ← long) at c.if-part-count_words.false in
+    let enough = rw (c.count_words.ensures.0, c.minor_later-minor.ensures.0, c.later_in-later.ensures.0, c.from.ensures, ← long) at c.if-part-count_words.false in
     let present = present_told a.edition a.years a.part.now _ _ _ _ parts are in
     simp (told, le-ltb _ _ enough)
-    (c.read_present.ensures ∙ rw (c.later_in-later.ensures.0, c.from-byte.ensures) present)
+    (c.read_present.ensures ∙ rw c.later_in-later.ensures.0 present)

@@ -58,5 +58,6 @@ returns c =
       ← words_done _ _ _ long loop.count _ done loop.invariant.1,
       ← number_end _ _ _ long _ (2 * loop.count) _ loop.invariant.2 done,
       ← values_end _ _ _ long _ (2 * loop.count) _ _ loop.invariant.4 done,
+      ← c.from.ensures,
       ← c.site_of.ensures,
     )

@@ -38,4 +38,4 @@ returns c =
     let f = found c.args.edition c.args.site _ _ _ c.in-Ok.ensures c.slots_of-slots.ensures c.rules_held-rules.ensures in
     let yearly = rw c.is_yearly.ensures at c.bit_of_years.ensures in
     all_put f c.args.buffer.now (c.map_of.result + c.bit_of_years.result)
-    (rw (c.map_of.ensures, yearly)) c.put_head.ensures (rw (c.later_slots.ensures, c.later_slots-2.ensures) at c.put_spread.ensures)
+    (rw (c.map_of.ensures, yearly)) (rw c.in-Ok.ensures at c.put_head.ensures) (rw (c.later_slots.ensures, c.later_slots-2.ensures) at c.put_spread.ensures)

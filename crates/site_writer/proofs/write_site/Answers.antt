@@ -3,26 +3,25 @@ use Rattle.std.specs.Prelude.{None, Some}
 use Rattle.std.proofs.Common.{◌≡◌, arith, sym, ◌∙◌}
 use Rattle.std.proofs.lemmas.Result.{err_from_is_err_and}
 use Rattle.site.specs.declared.refusal.Refusal.TheVariants.{OutsideRange}
+use Rattle.site.proofs.Project.{project_known}
 use Rattle.site.proofs.Theorems.{measured_length}
 use Rattle.site.specs.Theorems.{measured_outside}
-use Rattle.site_writer.proofs.WriteWhole.{edition_refused, years_refused, outside, room_refused, all_written}
+use Rattle.site_writer.proofs.WriteWhole.{project_told, outside, room_refused, all_written}
 use Rattle.site_writer.proofs.write_site.Goals as goal
 
-pub returns-then-not-is_edition_known : goal.returns-then-not-is_edition_known
-returns-then-not-is_edition_known c = edition_refused _ _ _ _ (sym c.is_edition_known.ensures ∙ c.if-not-is_edition_known.true)
-
-pub returns-then-not-are_years_known : goal.returns-then-not-are_years_known
-returns-then-not-are_years_known c =
-    years_refused _ _ _ _ (sym c.is_edition_known.ensures ∙ c.if-not-is_edition_known.false) (sym c.are_years_known.ensures ∙ c.if-not-are_years_known.true)
+pub returns-in_err-check_project : goal.returns-in_err-check_project
+returns-in_err-check_project c =
+    let p = err_from_is_err_and c.from_residual.result c.from_residual.ensures.1 in
+    rw (p.1, p.2) (project_told _ _ _ _ (sym c.check_project.ensures ∙ c.in_err-check_project.was))
 
 pub returns-in_err-n : goal.returns-in_err-n
 returns-in_err-n c =
     let none : c.measure_site.result ≡ None = grind arith in
-    let p = err_from_is_err_and c.from_residual.result c.from_residual.ensures.1 in
+    let p = err_from_is_err_and c.from_residual-in_err-n.result c.from_residual-in_err-n.ensures.1 in
     let refused : c.in_err-n.field-0.0 ≡ OutsideRange = grind arith in
+    let known = project_known _ _ (sym c.check_project.ensures ∙ c.in_ok-check_project.was) in
     rw (p.1, p.2, refused)
-    (outside _ _ _ _ (sym c.is_edition_known.ensures ∙ c.if-not-is_edition_known.false) (sym c.are_years_known.ensures ∙ c.if-not-are_years_known.false)
-    (measured_outside _ _ _ (sym c.measure_site.ensures.answer_is ∙ none)))
+    (outside _ _ _ _ known.0 known.1 (measured_outside _ _ _ (sym c.measure_site.ensures.answer_is ∙ none)))
 
 pub returns-then-buffer-n : goal.returns-then-buffer-n
 returns-then-buffer-n c =

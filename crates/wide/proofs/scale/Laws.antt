@@ -1,16 +1,11 @@
 -- Whether a quotient fits, from the high word of the number that is divided.
 use Rattle.std.specs.Prelude.{None, Some}
 use mathlib.Core.Path.{◌≡◌, sym, ap, ◌∙◌}
-use Prim.Native.Nat.{ℕ, zero, ◌+◌, ◌*◌, ◌/◌, ◌^◌, ◌≤◌, ◌<◌}
-use native.Mathlib.Nat.{mul-le-mul, lt_of_mul-lt-mul_right, div-mul-le_self, lt-div-mul-add, add-mul-div_right, div-eq_of_lt}
+use Prim.Native.Nat.{ℕ, ◌+◌, ◌*◌, ◌/◌, ◌^◌, ◌≤◌, ◌<◌}
+use native.Mathlib.Nat.{lt_of_mul-lt-mul_right, lt-div-mul-add, add-mul-div_right, div-eq_of_lt}
 use native.Mathlib.Decide.{dec_lt}
 use native.Mathlib.Omega.{arith}
 use Rattle.wide.specs.Scaling.{answered, answered_value, answered_large, answered_zero}
-
-pub fits : (high low v d q : ℕ) → high * 2 ^ 64 + low ≡ v → high < d → low < 2 ^ 64 → q ≡ (high * 2 ^ 64 + low) / d → Some q ≡ answered d (v / d)
-fits high low v d q e h l eq =
-    let small : v / d < 2 ^ 64 = lt_of_mul-lt-mul_right d {m = v / d} {n = 2 ^ 64} (omega (arith, div-mul-le_self v d)) in
-    ap Some (eq ∙ ap (λ (x : ℕ). x / d) e) ∙ sym (answered_value d (v / d) (omega arith) small)
 
 pub large : (high low v d : ℕ) → high * 2 ^ 64 + low ≡ v → d ≤ high → None ≡ answered d (v / d)
 large high low v d e h = either (dec_lt 0 d)
@@ -21,10 +16,6 @@ large high low v d e h = either (dec_lt 0 d)
     either : Dec (0 < d) → None ≡ answered d (v / d)
     either (yes p) = sym (answered_large d (v / d) (at_least (v / d) (omega (arith, lt-div-mul-add {a = v} {b = d} p))))
     either (no f) = sym (answered_zero d (v / d) (omega arith))
-
--- the high word of a product of two words has room for a carry. m is 2 ^ 64 - 1
-pub room : (m high low a n : ℕ) → zero < m → a ≤ m → n ≤ m → high * (m + 1) + low ≡ a * n → high < m
-room m high low a n p ha hn e = lt_of_mul-lt-mul_right (m + 1) {m = high} {n = m} (omega (arith, mul-le-mul ha hn))
 
 -- a factor of 1 changes nothing
 pub one : (a n d more : ℕ) → n ≡ d → more < d → a < 2 ^ 64 → Some a ≡ answered d ((a * n + more) / d)

@@ -3,12 +3,8 @@ use Prim.Native.Nat.{suc}
 use Rattle.exponential.specs.StoredBrackets.{holds_stored}
 use Rattle.exponential.specs.StoredBracketLaws.{stored_by_test}
 use Rattle.model.specs.Parts.{hazard_exponent}
-use Rattle.prediction.proofs.stored.stored_hazards.Statement.{statement}
-use Rattle.prediction.proofs.stored.stored_hazards.Tie as tie
+use Rattle.prediction.proofs.stored.stored_hazards.Goals as goal
 
-returns : tie.Need-returns
+pub returns : goal.returns
 unfolding holds_stored
 returns c = stored_by_test 7 (λ i. hazard_exponent (suc i)) _ tt
-
-pub stored_hazards_spec : {M : Type 1} → statement M
-stored_hazards_spec = tie.close (tie.spec returns)

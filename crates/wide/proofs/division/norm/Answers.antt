@@ -5,8 +5,7 @@ use native.Mathlib.Nat.{mul-le-mul_right, mul-lt-mul_of_pos_right, one-mul, mod-
 use native.Mathlib.Omega.{arith}
 use lib.Count.{count_leading_zeros, leading_top}
 use lib.Pow.{pow_pos, pow-add, pow-lt}
-use Rattle.wide.proofs.division.norm.Statement.{statement}
-use Rattle.wide.proofs.division.norm.Tie as tie
+use Rattle.wide.proofs.division.norm.Goals as goal
 
 -- `1 << s` is 2 ^ s
 shifted : (s : ℕ) → s < 64 → (1 * 2 ^ s) % 2 ^ 64 ≡ 2 ^ s
@@ -20,13 +19,8 @@ normal d k s lo hi e =
     let high : 2 ^ 64 ≡ 2 ^ suc k * 2 ^ s = ap (λ (n : ℕ). 2 ^ n) e64 ∙ pow-add 2 (suc k) s in
     (rw low (mul-le-mul_right (2 ^ s) lo), rw high (mul-lt-mul_of_pos_right hi (pow_pos s)))
 
-zeros : (c : tie.Start) → count_leading_zeros 64 c.args.d < 64
-zeros c = let t = leading_top 64 c.args.d c.requires c.ranges.d.fits in omega (arith, t.1)
-
-returns : tie.Need-returns
+pub returns : goal.returns
 returns c =
     let t = leading_top 64 c.args.d c.requires c.ranges.d.fits in
-    rw (shifted (count_leading_zeros 64 c.args.d) (zeros c)) (normal c.args.d t.0 (count_leading_zeros 64 c.args.d) t.2 t.3 t.1)
-
-pub norm_spec : {M : Type 1} → statement M
-norm_spec = tie.close (tie.spec (λ c. omega (arith, zeros c)) (λ c. zeros c) returns)
+    let s = count_leading_zeros 64 c.args.d in
+    rw (shifted s (omega (arith, t.1))) (normal c.args.d t.0 s t.2 t.3 t.1)
