@@ -3,7 +3,7 @@ ghost use Rattle.std.specs.Prelude.{◌≡◌, ◌<◌};
 ghost use Rattle.exponential.specs.Stored.{stored_exp, StoredExponentials};
 
 // e^i for i from 0 to 14, each rounded down at the scale.
-#[derive(Drop)]
+#[derive(Clone, Copy)]
 pub struct Exponentials {
     pub numbers: [u64; 15],
     ghost stored: { StoredExponentials numbers },

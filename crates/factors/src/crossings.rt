@@ -1,5 +1,5 @@
 // Turn lanes and limited sight at a crossing: 1 3ST, 2 4ST, 3 4SG.
-ghost use Rattle.std.specs.Prelude.{◌≡◌, ◌≤◌, cond, leb};
+ghost use Rattle.std.specs.Prelude.{◌≡◌, ◌≤◌};
 ghost use Rattle.model.specs.Coefficients.{coefficients_of};
 ghost use Rattle.model.specs.Crossings as crossings;
 ghost use Rattle.bracket.specs.Ratio.{coded};
@@ -36,24 +36,26 @@ const RIGHT_TURN_TWO: [[u64; 3]; 4] = [
     [1000, 960, 920],
 ];
 
-// The factor of so many lanes at a kind, by edition 1's table or by edition 2's.
-fn turn_lanes(edition: u64, one: &[[u64; 3]; 4], two: &[[u64; 3]; 4], kind: u8, lanes: u64) -> Ratio
+// The factor of so many lanes at a kind, by an edition's table.
+fn turn_lanes(table: &[[u64; 3]; 4], kind: u8, lanes: u64) -> Ratio
     requires { (kind ≤ 3) × (lanes ≤ 2) }
-    ensures { result ≡ ratio_in (cond (leb edition 1) one.now two.now) kind lanes }
+    ensures { result ≡ ratio_in table.now kind lanes }
 {
-    let table = if edition <= 1 { one } else { two };
     Ratio {
         num: table[kind as usize][lanes as usize],
         den: 1000,
     }
 }
 
-// The factor of the major road's left-turn lanes.
+// The factor of the major road's left-turn lanes. A table is written out where it is read, so the edition's own alone is.
 pub fn left_turn(edition: u64, kind: u8, lanes: u64) -> Ratio
     requires { (kind ≤ 3) × (lanes ≤ 2) }
     ensures { result ≡ coded (crossings.left_turn (coefficients_of edition) kind lanes) }
 {
-    turn_lanes(edition, &LEFT_TURN_ONE, &LEFT_TURN_TWO, kind, lanes)
+    if edition <= 1 {
+        return turn_lanes(&LEFT_TURN_ONE, kind, lanes);
+    }
+    turn_lanes(&LEFT_TURN_TWO, kind, lanes)
 }
 
 // The factor of its right-turn lanes.
@@ -61,7 +63,10 @@ pub fn right_turn(edition: u64, kind: u8, lanes: u64) -> Ratio
     requires { (kind ≤ 3) × (lanes ≤ 2) }
     ensures { result ≡ coded (crossings.right_turn (coefficients_of edition) kind lanes) }
 {
-    turn_lanes(edition, &RIGHT_TURN_ONE, &RIGHT_TURN_TWO, kind, lanes)
+    if edition <= 1 {
+        return turn_lanes(&RIGHT_TURN_ONE, kind, lanes);
+    }
+    turn_lanes(&RIGHT_TURN_TWO, kind, lanes)
 }
 
 // The factor of quadrants with limited sight.

@@ -6,7 +6,7 @@ ghost use Rattle.remainder.specs.Remainder.{scale};
 use bracket::Bounds;
 
 // The lower bounds of the logarithms: the estimates at depth 12. But for ln 1, which is 0, the upper bound is the next number.
-#[derive(Drop)]
+#[derive(Clone, Copy)]
 pub struct Logarithms {
     pub numbers: [u64; 256],
     ghost stored: { StoredLogarithms numbers },

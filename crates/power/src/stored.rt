@@ -10,7 +10,7 @@ use bracket::Bounds;
 const HUNDREDTHS: [u64; 5] = [79, 49, 60, 61, 20];
 
 // For each exponent and each number k from 1 to 256, the lower and the upper bound of k's power, side by side: the estimates at depth 9.
-#[derive(Drop)]
+#[derive(Clone, Copy)]
 pub struct Powers {
     pub numbers: [u64; 2560],
     ghost stored: { StoredPowers numbers },

@@ -13,13 +13,13 @@ ghost use Rattle.prediction.specs.Pair.{crossing_units};
 ghost use Rattle.prediction.specs.Carrying.{major_place, minor_place};
 
 use crate::stored::base_factor;
-use crate::tables::Tables;
 use bracket::Bracket;
 use bracket::carry::{through, through_exact};
 use exponential::exponential_with;
 use exponential::stored::Exponentials;
 use factors::crossings::{left_turn, right_turn, sight};
 use power::power_with;
+use power::stored::Powers;
 use site::numbers::Crossing;
 
 // What a crossing's kind sets.
@@ -75,7 +75,8 @@ fn skew_factor(exponentials: &Exponentials, v: Crossing) -> Bracket
 
 // The start through the factors.
 pub fn carry_crossing(
-    tables: &Tables,
+    powers: &Powers,
+    exponentials: &Exponentials,
     edition: u64,
     years: u64,
     calibration: u64,
@@ -87,13 +88,13 @@ pub fn carry_crossing(
     let start = years * calibration * 200_000_000;
     let ends = Some((start, start));
     let by_kind = kind_numbers(v.kind);
-    let major = power_with(&tables.powers, v.traffic, by_kind.major_place);
+    let major = power_with(powers, v.traffic, by_kind.major_place);
     let after_major = through(ends, major);
-    let minor = power_with(&tables.powers, v.minor, by_kind.minor_place);
+    let minor = power_with(powers, v.minor, by_kind.minor_place);
     let after_minor = through(after_major, minor);
     let after_left = through_exact(after_minor, left_turn(edition, v.kind, v.left_lanes));
     let after_right = through_exact(after_left, right_turn(edition, v.kind, v.right_lanes));
     let after_sight = through_exact(after_right, sight(v.limited_sight));
-    let after_skew = through(after_sight, skew_factor(&tables.exponentials, v));
+    let after_skew = through(after_sight, skew_factor(exponentials, v));
     through(after_skew, base_factor(edition, v.kind))
 }

@@ -39,5 +39,12 @@ pub fn term_pair(
         ));
     }
     let crossing = crossing_of(site, traffic, minor);
-    round_outward(carry_crossing(tables, header.edition, years, header.crossings, crossing))
+    round_outward(carry_crossing(
+        &tables.powers,
+        &tables.exponentials,
+        header.edition,
+        years,
+        header.crossings,
+        crossing,
+    ))
 }

@@ -70,6 +70,11 @@ module _ (s : List ℕ) (room : ℕ) where
     λ f. first_refused f ∙ ap (λ (x : Refusal). refused_at x r.place) (refusal_again r.refusal),
   )
 
+  -- whatever the first cause's number is: it is the number of a refusal, and that refusal is the answer, with its place
+  pub first_cause_answered : {number p : ℕ} → FirstCause s room number p
+      → (number_of (refusal number) ≡ number) × (project_answer s room ≡ refused_at (refusal number) p)
+  first_cause_answered f = (refusal_lem _ (first_most f) (first_not_zero f), first_refused f)
+
 -- the space test, by the count of a report's numbers
 pub room_short : (n room count : ℕ) → room < count → count ≡ report_length n → refused_at refused.NoSpace 0 ≡ spaced (Ok n) room
 room_short n room count h e = rw (lt-leb (report_length n) room (omega arith)) refl

@@ -4,7 +4,7 @@ use Rattle.std.proofs.Common.{sym, ap, arith, div-add-mod', div-lt_iff_lt-mul, p
 use Rattle.std.proofs.Math.Nat.{div-lt_self, le-div_iff_mul-le, one-le-pow}
 use Rattle.report_text.specs.Text.{digit, decimal_within, decimal_text}
 
-tenth_less : (n : ℕ) → 10 ≤ n → n / 10 < n
+pub tenth_less : (n : ℕ) → 10 ≤ n → n / 10 < n
 tenth_less n h = div-lt_self (omega arith) (lit< tt)
 
 -- any room that is more than the number is enough

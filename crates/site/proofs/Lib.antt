@@ -1,4 +1,5 @@
 -- What the proofs share, here and in the reader and the writer.
+pub mod Made
 pub mod ReadSteps
 pub mod Bytes
 pub mod Curve

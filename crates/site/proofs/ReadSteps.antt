@@ -1,17 +1,13 @@
 -- One field after the other: what each definition of `specs/Record` says of the rules from place i on.
 use Rattle.std.specs.Prelude.{Option}
-use Rattle.std.specs.Array.{MapsFrom, IsMapOf}
-use denote.Param.Members.{Mut, Called}
 use mathlib.Core.Path.{◌≡◌, refl, ap, sym, ◌∙◌}
 use mathlib.Core.Bool.{Bool, true, false, cond, ◌||◌, or_assoc, or-false}
 use mathlib.Core.List.{List, [], ◌∷◌, map}
-use Prim.Native.Nat.{ℕ, zero, suc, ◌+◌, ◌*◌, ◌<◌, ◌≤◌}
+use Prim.Native.Nat.{ℕ, suc, ◌+◌, ◌*◌, ◌<◌, ◌≤◌}
 use native.Mathlib.Omega.{arith}
-use lib.ListN.{length, get_or, drop, set, length-map}
+use lib.ListN.{length, get_or, drop, set}
 use lib.Dec.{eqb}
-use borrow.Author.Tests.{ne_eqb, eqb-true}
-use Rattle.std.proofs.lemmas.Bool.{eqb-false}
-use Rattle.std.proofs.lemmas.List.{get_or-map, ext_get_or}
+use borrow.Author.Tests.{ne_eqb}
 use lib.Seq.{drop-drop, sets}
 use Rattle.site.specs.declared.rules.Rule.{Rule}
 use Rattle.site.specs.Rules.{slot_count}
@@ -121,23 +117,3 @@ length_values (rule ∷ rules) map s = ap suc (length_values rules (rest_of rule
 pub values_start : (rules : List Rule) (map : ℕ) (s : List ℕ) (v : List (Option ℕ)) → length rules ≡ slot_count
     → length v ≡ slot_count → sets v 0 (fields_values rules map s) ≡ fields_values rules map s
 values_start rules map s v count lv = fill_start v (fields_values rules map s) (lv ∙ sym (length_values rules map s ∙ count))
-
--- an array's `map`, by calls that give f and keep what they need of the closure
-module _ {F A B : Type 0} {g : Mut F (A × Unit {0}) B} (f : A → B) (Keeps : F → Type 0)
-    (gives : (p : F) (x : A) (y : B) (q : F) → Keeps p → Called g p (x, tt) y q → Keeps q × (y ≡ f x)) where
-  mapped : (p : F) (xs : List A) (ys : List B) (i n : ℕ) → Keeps p → MapsFrom g p xs ys i n
-      → (k : ℕ) (d : A) (e : B) → i ≤ k → k < i + n → get_or ys k e ≡ f (get_or xs k d)
-  mapped p xs ys i zero keeps m k d e h l = absurd (omega arith)
-  mapped p xs ys i (suc n) keeps (q, x, y, at_x, at_y, called, m) k d e h l =
-      let one = gives p x y q keeps called in
-      by (eqb i k) refl one.1 (mapped q xs ys (i + 1) n one.0 m k d e)
-    where
-      by : (b : Bool) → eqb i k ≡ b → y ≡ f x → (i + 1 ≤ k → k < i + 1 + n → get_or ys k e ≡ f (get_or xs k d)) → get_or ys k e ≡ f (get_or xs k d)
-      by true t given more = rw (← eqb-true i k t, at_x.1 d, at_y.1 e) given
-      by false t given more = let ne = eqb-false i k t in more (omega arith) (omega arith)
-
-  pub map_is : (p : F) (xs : List A) (ys : List B) (n : ℕ) (d : A) (e : B) → Keeps p → length xs ≡ n → IsMapOf g p xs ys n → ys ≡ map f xs
-  map_is p xs ys n d e keeps count m =
-      ext_get_or e ys (map f xs) (m.long ∙ sym (length-map xs f ∙ count))
-      (λ k h. let l : k < n = omega (arith, m.long) in mapped p xs ys 0 n keeps m.each k d e (omega arith) (omega arith)
-      ∙ sym (get_or-map f xs k d e (omega arith)))

@@ -11,6 +11,7 @@ ghost use Rattle.site.specs.declared.rules.Rule.TheVariants as rule;
 use crate::kind::Kind;
 use crate::refusal::Refusal;
 use crate::values::Slot;
+use std::array;
 
 // What a kind says of a field. Ranges are from the first number to the second; the third is the
 // default.
@@ -273,5 +274,5 @@ fn settled_rule(curved: bool, entry: Entry) -> Rule
 pub fn settle_rules(curved: bool, entries: [Entry; SLOTS]) -> [Rule; SLOTS]
     ensures { result ≡ settle curved entries }
 {
-    entries.map(|entry| settled_rule(curved, entry))
+    array::from_fn(|i| settled_rule(curved, entries[i]))
 }

@@ -1,6 +1,5 @@
 -- What the proofs share.
 pub mod Lending
-pub mod Made
 pub mod NumberSteps
 pub mod LineSteps
 pub mod Coding

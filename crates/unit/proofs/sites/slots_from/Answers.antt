@@ -3,7 +3,7 @@ use Rattle.std.specs.Prelude.{None}
 use Rattle.std.proofs.Common.{◌∙◌, sym, get_or, arith, rules, tests}
 use Rattle.std.proofs.lemmas.List.{ext_get_or, length-map, get_or-map}
 use Rattle.unit.specs.SiteNumbers.{slot_from}
-use Rattle.unit.proofs.Made.{made_at}
+use Rattle.site.proofs.Made.{made_at}
 use Rattle.unit.proofs.sites.slots_from.Goals as goal
 
 pub returns : goal.returns

@@ -1,7 +1,7 @@
 -- The first twenty slots, and the later years behind them.
 use Rattle.std.specs.Prelude.{None}
 use Rattle.std.proofs.Common.{◌∙◌, get_or, rules, tests}
-use Rattle.unit.proofs.Made.{made_at}
+use Rattle.site.proofs.Made.{made_at}
 use Rattle.unit.proofs.NumberSteps.{made_of_all}
 use Rattle.unit.proofs.slots.site_of_all.Goals as goal
 
