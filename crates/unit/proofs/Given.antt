@@ -37,14 +37,18 @@ module _ (run rest : List ℕ) (h : length run ≡ site_numbers) where
       rw (count, count_more (length rest), behind (site_count (length rest)) 0)
 
 -- A PART OF THE NUMBERS AND THOSE BEHIND IT: those of a site, or all that are left where they are fewer
-starts : (run rest : List ℕ) → length run ≡ site_numbers → site_from (run ++ rest) ≡ site_from run
+
+-- the site that numbers start with is that of their first part
+pub part_site : (run rest : List ℕ) → length run ≡ min site_numbers (length (run ++ rest)) → site_from (run ++ rest) ≡ site_from run
 unfolding site_from
-starts [] rest h = absurd (omega arith)
-starts (x ∷ run) rest h =
-    let enough : site_numbers ≤ length (x ∷ (run ++ rest)) = omega (arith, length-append run rest) in
-    let alone : site_numbers ≤ length (x ∷ run) = omega arith in
+part_site run [] e = rw (append-nil run) refl
+part_site [] (y ∷ rest) e = absurd (omega arith)
+part_site (x ∷ run) (y ∷ rest) e =
+    let long = length-append run (y ∷ rest) in
+    let enough : site_numbers ≤ length (x ∷ (run ++ (y ∷ rest))) = omega (arith, long) in
+    let alone : site_numbers ≤ length (x ∷ run) = omega (arith, long) in
     let room : all_count ≤ length run = omega arith in
-    rw (le-leb site_numbers (length (x ∷ (run ++ rest))) enough, le-leb site_numbers (length (x ∷ run)) alone, take-append-le all_count run rest)
+    rw (le-leb site_numbers (length (x ∷ (run ++ (y ∷ rest)))) enough, le-leb site_numbers (length (x ∷ run)) alone, take-append-le all_count run (y ∷ rest) room)
 
 none_given : sites_given [] ≡ []
 unfolding sites_given given_from
@@ -73,7 +77,7 @@ part_given run rest e some = by (ltb (length run) site_numbers) refl
         rw (none, append-nil, none_given) (few_given run (omega (arith, long, ap length none)) few)
     by false q =
         let full : length run ≡ site_numbers = omega (arith, long, ltb-false (length run) site_numbers q) in
-        given_more run rest full ∙ rw (starts run rest full) refl
+        given_more run rest full ∙ rw (part_site run rest e) refl
 
 pub given_part : {numbers : List ℕ} (run rest : List ℕ) {size : ℕ} {site : Site} → size ≡ site_numbers → numbers ≡ run ++ rest
     → length run ≡ min size (length numbers) → 0 < length numbers → site ≡ site_from run → sites_given numbers ≡ site ∷ sites_given rest

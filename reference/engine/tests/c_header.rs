@@ -286,9 +286,24 @@ fn stack_suffices_for_every_call() {
     let needed = numbers(&printed(&mut command));
     let suffices = names_in_c("names_stack")["CRASH_STACK"];
     assert_eq!(needed.len(), CALLS, "{needed:?}");
+    let header = fs::read_to_string(root().join("include/crash_unit.h")).expect("the header");
     for (call, bytes) in &needed {
         assert!((100..=suffices).contains(bytes), "{call}: {needed:?}");
+        let said = stack_said(&header, call);
+        assert!(*bytes as f64 <= said, "{call}: {said} of {needed:?}");
     }
+}
+
+/// The bytes of stack that the header's words give a call.
+fn stack_said(header: &str, call: &str) -> f64 {
+    let words = match call {
+        "crash_project" | "crash_line" => "crash_project and crash_line ",
+        "crash_power" => "crash_power ",
+        _ => "the others at most ",
+    };
+    let (_, rest) = header.split_once(words).expect("what the header says");
+    let (number, _) = rest.split_once(" KB").expect("kilobytes");
+    number.parse::<f64>().expect("a number") * 1000.0
 }
 
 /// The archive's symbols: none is of writable data, and only memcpy and
