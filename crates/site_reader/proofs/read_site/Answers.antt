@@ -8,6 +8,9 @@ use Rattle.site.proofs.Project.{project_known, project_refused}
 use Rattle.site.proofs.Promises.{reads_site}
 use Rattle.site_reader.proofs.read_site.Goals as goal
 
+-- edition and years are tried in one call;
+-- what it refuses is what the record is refused for,
+-- and below it both are known
 pub returns-in_err-check_project : goal.returns-in_err-check_project
 unfolding read_site refusal_of
 returns-in_err-check_project c =

@@ -9,6 +9,8 @@ use Rattle.site.specs.Theorems.{measured_outside}
 use Rattle.site_writer.proofs.WriteWhole.{project_told, outside, room_refused, all_written}
 use Rattle.site_writer.proofs.write_site.Goals as goal
 
+-- edition and years are tried in one call,
+-- which tells the first of the two that is wrong
 pub returns-in_err-check_project : goal.returns-in_err-check_project
 returns-in_err-check_project c =
     let p = err_from_is_err_and c.from_residual.result c.from_residual.ensures.1 in
