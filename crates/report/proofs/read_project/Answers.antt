@@ -12,16 +12,17 @@ passed_on : (s before : List ℕ) (r : Refused) (answer : Result ℕ Refused) �
 passed_on s before r (Ok n) h p = absurd h
 passed_on s before r (Err x) h p = rw h p
 
+-- the scan's refusal leaves the run as it was
 pub returns-in_err-sites : goal.returns-in_err-sites
 returns-in_err-sites c =
     passed_on _ _ _ _ c.from_residual.ensures.1 (refused_by_bytes _ _ _ (sym c.scan.ensures.answer_is ∙ c.in_err-sites.was))
 
 pub returns-in_err-count : goal.returns-in_err-count
 returns-in_err-count c =
-    let scanned = sym c.scan.ensures.answer_is ∙ c.in_ok-sites.was in
-    passed_on _ _ _ _ c.from_residual-in_err-count.ensures.1 (refused_by_room _ _ _ scanned _ (sym c.in_err-count.was ∙ c.space.ensures))
+    passed_on _ _ _ _ c.from_residual-in_err-count.ensures.1
+    (refused_by_room _ _ _ (sym c.scan.ensures.answer_is ∙ c.in_ok-sites.was) _ (sym c.in_err-count.was ∙ c.space.ensures))
 
 pub returns : goal.returns
 returns c =
-    let scanned = sym c.scan.ensures.answer_is ∙ c.in_ok-sites.was in
-    reported _ _ _ scanned _ _ (sym c.in_ok-count.was ∙ c.space.ensures) c.fill.ensures.report_after c.fill.ensures.demand
+    reported _ _ _ (sym c.scan.ensures.answer_is ∙ c.in_ok-sites.was) _ _ (sym c.in_ok-count.was ∙ c.space.ensures)
+    c.fill.ensures.report_after c.fill.ensures.demand
